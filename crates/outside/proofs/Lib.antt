@@ -1,0 +1,5 @@
+pub mod Counts
+pub mod Appended
+pub mod Found
+pub mod Gathered
+pub mod Waiting

@@ -1,0 +1,7 @@
+-- What a clock tells.
+use Rattle.std.specs.Prelude.{ℕ, List, [], ◌∷◌}
+
+-- the next of the moments to come; past the end of the list it is 0
+abbrev pub next_moment : List ℕ → ℕ
+next_moment [] = 0
+next_moment (moment ∷ later) = moment

@@ -1,0 +1,9 @@
+pub mod Count
+pub mod Shelf
+pub mod Sink
+pub mod NamedFile
+pub mod Stream
+pub mod StdSink
+pub mod Links
+pub mod MemLinks
+pub mod Clock

@@ -1,0 +1,16 @@
+-- Streams: a read of one to its end, up to a number of bytes, and the one that a sink writes to.
+use Rattle.std.specs.Prelude.{◌≡◌, ℕ, ◌<◌, List, length, Result, Ok, Err, ⊤}
+use Rattle.outside.specs.declared.shelf.Got.{Got}
+use Rattle.outside.specs.declared.shelf.Got.TheVariants.{Whole, TooLong}
+use Rattle.std.specs.declared.io.traits.Write.{Ghosts}
+use Rattle.outside.specs.declared.std_sink.StdSink.{StdSink}
+
+-- which answer a read gives of a stream with these bytes: all of them, or that there are more than so many
+abbrev pub ReadsStream : {E : Type 0} → ℕ → List ℕ → List ℕ → Result Got E → Type 0
+ReadsStream most bytes into (Ok Whole) = into ≡ bytes
+ReadsStream most bytes into (Ok TooLong) = most < length bytes
+ReadsStream most bytes into (Err e) = ⊤
+
+-- the stream that a sink hands its bytes on to
+abbrev pub stream_of : {W : Type 0} {g : Ghosts W} → StdSink W g → W
+stream_of sink = sink.stream

@@ -1,0 +1,39 @@
+// The time since the start of a run.
+ghost use Rattle.std.specs.Prelude.{None};
+
+use crate::Clock;
+use std::rt::Clock as SystemClock;
+use std::time::Instant;
+
+/// Milliseconds since its making, modulo 2^32. Where the system's clock can't be read it stands at its last moment.
+#[derive(Drop)]
+pub struct RunClock<R: SystemClock + Drop> {
+    system: R,
+    start: Option<Instant>,
+    last: u32,
+}
+
+impl<R: SystemClock + Drop> RunClock<R> {
+    /// A clock over the runtime, as `RunClock::of(&rt)`.
+    pub fn of(system: R) -> Self {
+        let start = Instant::now(&system).ok();
+        RunClock {
+            system,
+            start,
+            last: 0,
+        }
+    }
+}
+
+impl<R: SystemClock + Drop> Clock for RunClock<R> {
+    ghost told = { λ _. None };
+
+    fn now(&mut self) -> u32 {
+        if let Some(start) = self.start
+            && let Ok(elapsed) = start.elapsed(&self.system)
+        {
+            self.last = (elapsed.as_millis() % (1 << 32)) as u32;
+        }
+        self.last
+    }
+}
