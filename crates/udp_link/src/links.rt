@@ -1,0 +1,143 @@
+// Links over the system's sockets.
+ghost use Rattle.std.specs.Prelude.{◌≡◌, ◌≢◌, ◌<◌, ◌≤◌, ℕ, None, Some, Err, IsSome, IsSomeAnd, IfOk, IfSome, OnOk, OnErr, length, replicate, slice_get};
+ghost use Rattle.outside.specs.declared.links.LinkError.TheVariants.{Memory};
+ghost use Rattle.outside.specs.Links.{Listens, Sends, Receives, faults_after_call};
+ghost use Rattle.udp_link.specs.Listening.{listening_in};
+
+use crate::member::Member;
+use outside::{LinkError, Links, MOST_BYTES, Peer};
+use std::alloc::{AllocError, Global};
+use std::net::Net;
+
+/// One UDP socket for each member that listens. A datagram that the system has no room for, now or ever, is a failed
+/// send; that nothing waits is no failure. After it was made it takes no memory.
+#[derive(Drop)]
+pub struct UdpLinks<R: Net + Drop> {
+    net: R,
+    // Each member at its place.
+    members: Vec<Option<Member>>,
+    faults: u64,
+    send_faults: u64,
+    ghost places: { length members.items ≡ 32 },
+}
+
+impl<R: Net + Drop> UdpLinks<R> {
+    /// Links at which nobody listens yet, over the runtime, as `UdpLinks::of(alloc, &rt)`.
+    pub fn of(alloc: Global, net: R) -> Result<Self, AllocError>
+        ensures nobody { IfOk result (λ links. (m : ℕ) → ⟦<UdpLinks<R> as Links>⟧.listening links m ≡ None) }
+        ensures faults { IfOk result (λ links. ⟦<UdpLinks<R> as Links>⟧.faults links ≡ 0) }
+        ensures send_faults { IfOk result (λ links. ⟦<UdpLinks<R> as Links>⟧.send_faults links ≡ 0) }
+    {
+        let members = nobody(alloc)?;
+        Ok(UdpLinks {
+            net,
+            members,
+            faults: 0,
+            send_faults: 0,
+        })
+    }
+
+    /// How many calls of `listen` and of `recv` have failed.
+    pub fn faults(&self) -> u64
+        ensures { result ≡ ⟦<UdpLinks<R> as Links>⟧.faults self.now }
+    {
+        self.faults
+    }
+
+    /// How many calls of `send` have failed.
+    pub fn send_faults(&self) -> u64
+        ensures { result ≡ ⟦<UdpLinks<R> as Links>⟧.send_faults self.now }
+    {
+        self.send_faults
+    }
+}
+
+fn nobody(alloc: Global) -> Result<Vec<Option<Member>>, AllocError>
+    ensures { IfOk result (λ members. members.items ≡ replicate 32 None) }
+{
+    let mut members = Vec::with_capacity(alloc, 32)?;
+    while members.len() < 32 {
+        members.push(None)?;
+    }
+    Ok(members)
+}
+
+#[tactic(auto, unfolding(crate::specs::Listening::listening_in))]
+fn listener(members: &[Option<Member>], member: u8) -> &Member
+    requires { IsSome (listening_in members.now member) }
+    ensures { listening_in members.now member ≡ Some result.now.count }
+{
+    match members.get(member as usize) {
+        Some(Some(listener)) => listener,
+        _ => unreachable!(),
+    }
+}
+
+impl<R: Net + Drop> Links for UdpLinks<R> {
+    ghost faults = { λ links. links.faults };
+
+    ghost send_faults = { λ links. links.send_faults };
+
+    ghost listening = { λ links m. listening_in links.members.items m };
+
+    ghost told = { λ _. None };
+
+    #[tactic(auto, unfolding(crate::specs::Listening::listening_in))]
+    fn listen(&mut self, member: u8, peers: &[Peer]) -> Result<(), LinkError>
+        requires member { member < length peers.now }
+        requires few { length peers.now ≤ 32 }
+        ensures counted { self.new.faults ≡ faults_after_call self.old.faults result }
+        ensures sends { self.new.send_faults ≡ self.old.send_faults }
+        ensures listening { OnOk result (listening_in self.new.members.items member ≡ Some (length peers.now)) }
+        ensures others { (m : ℕ) → m ≢ member → listening_in self.new.members.items m ≡ listening_in self.old.members.items m }
+        ensures as_before { OnErr result (listening_in self.new.members.items member ≡ listening_in self.old.members.items member) }
+        ensures told { Listens None None result }
+        ensures memory { result ≢ Err Memory }
+    {
+        match Member::open(&self.net, peers[member as usize], peers) {
+            Ok(listener) => {
+                self.members[member as usize] = Some(listener);
+                Ok(())
+            }
+            Err(_) => {
+                self.faults = self.faults.saturating_add(1);
+                Err(LinkError::Failed)
+            }
+        }
+    }
+
+    fn send(&mut self, from: u8, to: u8, bytes: &[u8]) -> Result<(), LinkError>
+        requires peer { IsSomeAnd (listening_in self.old.members.items from) (λ peers. to < peers) }
+        requires size { length bytes.now ≤ MOST_BYTES }
+        ensures counted { self.new.send_faults ≡ faults_after_call self.old.send_faults result }
+        ensures faults { self.new.faults ≡ self.old.faults }
+        ensures listening { (m : ℕ) → listening_in self.new.members.items m ≡ listening_in self.old.members.items m }
+        ensures told { Sends (record { from = from; to = to; bytes = bytes.now }) None None result }
+        ensures memory { result ≢ Err Memory }
+    {
+        if listener(&self.members, from).send(to, bytes) {
+            return Ok(());
+        }
+        self.send_faults = self.send_faults.saturating_add(1);
+        Err(LinkError::Failed)
+    }
+
+    fn recv(&mut self, member: u8, into: &mut [u8]) -> Result<Option<usize>, LinkError>
+        requires listens { IsSome (listening_in self.old.members.items member) }
+        requires room { length into.old ≡ MOST_BYTES }
+        ensures bound { IfOk result (λ got. IfSome got (λ count. count ≤ MOST_BYTES)) }
+        ensures counted { self.new.faults ≡ faults_after_call self.old.faults result }
+        ensures sends { self.new.send_faults ≡ self.old.send_faults }
+        ensures listening { (m : ℕ) → listening_in self.new.members.items m ≡ listening_in self.old.members.items m }
+        ensures told { Receives member into.new None None result }
+        ensures memory { result ≢ Err Memory }
+    {
+        match listener(&self.members, member).recv(into) {
+            Ok(got) => Ok(got),
+            Err(_) => {
+                self.faults = self.faults.saturating_add(1);
+                Err(LinkError::Failed)
+            }
+        }
+    }
+}
