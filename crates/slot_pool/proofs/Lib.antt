@@ -1,0 +1,6 @@
+pub mod Calls
+pub mod Held
+pub mod Map
+pub mod Places
+pub mod References
+pub mod Times

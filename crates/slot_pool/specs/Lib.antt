@@ -1,0 +1,5 @@
+pub mod Held
+pub mod Map
+pub mod Places
+pub mod References
+pub mod Times

@@ -1,0 +1,17 @@
+//! A pool of message bodies: a fixed number of slots in one block of memory, each with a count of the references to it.
+#![tactic(auto)]
+
+mod laws;
+mod place;
+mod pool;
+#[cfg(test)]
+mod tests;
+
+// A crate can name a pool in a contract only if the types of its fields are exported.
+pub use laws::{
+    a_map_is_of_one_pool, a_pool_is_a_finite_map, calls_move_references, counts_stay_exact,
+    moves_compose, slots_suffice,
+};
+#[doc(hidden)]
+pub use place::Place;
+pub use pool::{Memory, Pool, Slot};

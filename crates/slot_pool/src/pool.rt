@@ -1,0 +1,169 @@
+//! The pool and its references.
+ghost use Rattle.std.specs.Prelude.{◌≡◌, ℕ, ◌+◌, ◌<◌, ◌≤◌, ◌↔◌, List, ◌++◌, length, take, slice_set, replicate, IfOk, IfSome, IfNone, IsNone, IsTrue};
+ghost use Rattle.slot_pool.specs.Held.{held, unused, held_at, count_at, bytes_at, one_less, range, IsFull, Puts};
+
+use crate::place::Place;
+use raw_block::Block;
+use std::alloc::Global;
+use std::marker::Model;
+
+/// The one refusal of a call that takes memory: there is no more.
+pub use std::alloc::AllocError as Memory;
+
+/// A reference to a body of a pool, by the number of its slot. It can't be copied or let go: it goes back to its pool.
+pub struct Slot {
+    index: u32,
+}
+
+impl Model for Slot {
+    ghost Value = { ℕ };
+
+    ghost view = { λ s. s.index };
+}
+
+/// A number of slots, each unused or with a body of at most 8,192 bytes and the number of references to it.
+/// Memory is taken for all slots at once, and a slot's memory is first touched when the slot is first used.
+/// The unused places are linked through their own memory, as in a slab allocator.
+#[derive(Drop)]
+pub struct Pool {
+    block: Block<Place, Global>,
+    first: u32,
+}
+
+impl Model for Pool {
+    ghost use Rattle.std.specs.Prelude.{List};
+    ghost use Rattle.slot_pool.specs.Held.{Held, held_code};
+
+    ghost Value = { List Held };
+
+    ghost coded = { held_code };
+
+    ghost use Rattle.slot_pool.specs.Places.{shown, IsPool};
+
+    ghost view = { λ p. shown p.block.values p.block.capacity };
+
+    ghost invariant = { λ p. IsPool p.block.values p.block.capacity p.first };
+}
+
+impl Pool {
+    /// A pool of `slots` slots, all unused.
+    pub fn with_slots(alloc: Global, slots: u32) -> Result<Pool, Memory>
+        ensures { IfOk result (λ p. p ≡ replicate slots unused) }
+    {
+        let block = Block::with_capacity(alloc, slots as usize)?;
+        Ok(Pool {
+            block,
+            first: slots,
+        })
+    }
+
+    /// A first reference to a copy of `bytes`, in a slot that was unused.
+    pub fn put(&mut self, bytes: &[u8]) -> Option<Slot>
+        requires { length bytes.now ≤ 8192 }
+        ensures full { IsNone result ↔ IsFull self.old }
+        ensures none { IfNone result (self.new ≡ self.old) }
+        ensures some { IfSome result (Puts self.old self.new bytes.now) }
+    {
+        let used = self.block.len();
+        let index = self.first;
+        if (index as usize) < used {
+            let place = self.block.at_mut(index as usize);
+            self.first = place.next;
+            place.hold(bytes);
+            return Some(Slot { index });
+        }
+        if has_new_place(&self.block) {
+            self.block.push(Place::holding(bytes));
+            return Some(Slot { index: used as u32 });
+        }
+        None
+    }
+
+    /// One more reference to the body that `s` refers to.
+    pub fn keep(&mut self, s: &Slot) -> Slot
+        requires used { 0 < count_at self.old s.now }
+        requires room { count_at self.old s.now < 4294967295 }
+        ensures slot { result ≡ s.now }
+        ensures pool { self.new ≡ slice_set self.old s.now (held (count_at self.old s.now + 1) (bytes_at self.old s.now)) }
+    {
+        let index = s.index;
+        let place = self.block.at_mut(index as usize);
+        place.add_reference();
+        Slot { index }
+    }
+
+    /// Ends a reference. With the last one its slot is unused again, and the next `put` takes it first.
+    pub fn give_back(&mut self, s: Slot)
+        requires { 0 < count_at self.old s }
+        ensures { self.new ≡ slice_set self.old s (one_less (held_at self.old s)) }
+    {
+        let Slot { index } = s;
+        let first = self.first;
+        let place = self.block.at_mut(index as usize);
+        if place.end_reference() {
+            place.next = first;
+            self.first = index;
+        }
+    }
+
+    /// The body that `s` refers to.
+    pub fn bytes(&self, s: &Slot) -> &[u8]
+        requires { 0 < count_at self.now s.now }
+        ensures bytes { result.now ≡ bytes_at self.now s.now }
+        ensures fits { length result.now ≤ 8192 }
+    {
+        self.block.as_slice()[s.index as usize].body()
+    }
+
+    /// A first reference to `a_len` bytes of `a` from `a_from` on and, behind them, `b_len` bytes of `b` from `b_from` on.
+    pub fn join(
+        &mut self,
+        a: &Slot,
+        a_from: u32,
+        a_len: u32,
+        b: &Slot,
+        b_from: u32,
+        b_len: u32,
+    ) -> Option<Slot>
+        requires a_used { 0 < count_at self.old a.now }
+        requires b_used { 0 < count_at self.old b.now }
+        requires a_range { a_from + a_len ≤ length (bytes_at self.old a.now) }
+        requires b_range { b_from + b_len ≤ length (bytes_at self.old b.now) }
+        requires fits { a_len + b_len ≤ 8192 }
+        ensures full { IsNone result ↔ IsFull self.old }
+        ensures none { IfNone result (self.new ≡ self.old) }
+        ensures some { IfSome result (Puts self.old self.new (range a_from a_len (bytes_at self.old a.now) ++ range b_from b_len (bytes_at self.old b.now))) }
+    {
+        let whole = a_len as usize + b_len as usize;
+        let mut body = [0; 8192];
+        let front = part(self.bytes(a), a_from, a_len);
+        let back = part(self.bytes(b), b_from, b_len);
+        write_both(&mut body, front, back);
+        self.put(&body[..whole])
+    }
+}
+
+/// Whether a place is left that was never used.
+fn has_new_place(block: &Block<Place, Global>) -> bool
+    ensures { IsTrue result ↔ (length block.now.values < block.now.capacity) }
+{
+    block.len() < block.capacity()
+}
+
+fn part(bytes: &[u8], from: u32, len: u32) -> &[u8]
+    requires { from + len ≤ length bytes.now }
+    ensures { result.now ≡ range from len bytes.now }
+{
+    let from = from as usize;
+    &bytes[from..from + len as usize]
+}
+
+/// Writes `front` and, behind it, `back` to the start of `body`.
+fn write_both(body: &mut [u8], front: &[u8], back: &[u8])
+    requires { length front.now + length back.now ≤ length body.old }
+    ensures { take (length front.now + length back.now) body.new ≡ front.now ++ back.now }
+{
+    let whole = front.len() + back.len();
+    body[..front.len()].copy_from_slice(front);
+    body[front.len()..whole].copy_from_slice(back);
+}
