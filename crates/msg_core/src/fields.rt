@@ -1,0 +1,81 @@
+//! The numbers of a header.
+
+ghost use Rattle.std.specs.Prelude.{◌≡◌, ℕ, ◌≤◌, ◌<◌, List, [], ◌∷◌, ◌++◌, length, slice_index, take};
+
+use std::marker::Model;
+
+/// The most numbers that a header carries.
+pub const MOST_FIELDS: usize = 4;
+
+/// Up to four numbers, kept in place; contracts see their list.
+#[derive(Drop)]
+pub struct Fields {
+    numbers: [u32; 4],
+    len: u8,
+}
+
+impl Model for Fields {
+    ghost Value = { List ℕ };
+
+    ghost view = { λ f. take f.len f.numbers };
+
+    ghost invariant = { λ f. f.len ≤ 4 };
+}
+
+impl Fields {
+    pub fn none() -> Fields
+        ensures { result ≡ [] }
+    {
+        Fields {
+            numbers: [0; 4],
+            len: 0,
+        }
+    }
+
+    pub fn of(numbers: &[u32]) -> Fields
+        requires { length numbers.now ≤ 4 }
+        ensures { result ≡ numbers.now }
+    {
+        let mut fields = Fields::none();
+        for number in numbers {
+            fields.push(*number);
+        }
+        fields
+    }
+
+    pub fn push(&mut self, number: u32)
+        requires { length self.old < 4 }
+        ensures { self.new ≡ self.old ++ number ∷ [] }
+    {
+        self.numbers[self.len as usize] = number;
+        self.len += 1;
+    }
+
+    pub fn len(&self) -> u32
+        ensures count { result ≡ length self.now }
+        ensures few { result ≤ 4 }
+    {
+        u32::from(self.len)
+    }
+
+    /// The number at place `k`, and 0 where there is none.
+    pub fn at(&self, k: u32) -> u32
+        ensures { result ≡ slice_index self.now k }
+    {
+        if k < u32::from(self.len) {
+            self.numbers[k as usize]
+        } else {
+            0
+        }
+    }
+
+    /// The same numbers once more.
+    pub fn copy(&self) -> Fields
+        ensures { result ≡ self.now }
+    {
+        Fields {
+            numbers: self.numbers,
+            len: self.len,
+        }
+    }
+}
