@@ -1,0 +1,8 @@
+use Rattle.std.proofs.Common.{refl}
+use Rattle.layer_ast.specs.Cut.{piece}
+use Rattle.layer_ast.specs.Spelling.{reserved, kinds, word_token, symbols, symbol_at}
+use Rattle.layer_ast.proofs.samples.cuts_numbers.Goals as goal
+
+pub returns : goal.returns
+unfolding piece reserved kinds word_token symbols symbol_at
+returns c = (refl, refl, refl)

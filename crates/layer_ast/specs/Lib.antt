@@ -1,0 +1,9 @@
+pub mod Cut
+pub mod Depth
+pub mod Print
+pub mod Samples
+pub mod Spelling
+pub mod Spells
+pub mod Tree
+pub mod View
+pub mod WordBytes

@@ -1,0 +1,132 @@
+-- How words, symbols and numbers are spelled in bytes.
+use Rattle.std.specs.Prelude.{ℕ, ◌+◌, ◌-◌, ◌*◌, Bool, ◌||◌, nat_eq, List, [], ◌∷◌, find, fold, codes, Option}
+use Rattle.std.specs.Char.{is_ascii_alphanumeric}
+use Rattle.std.specs.List.{starts_with}
+use Rattle.std.specs.Option.{option_map, option_map_or}
+use Rattle.std.specs.Str.{bytes_eq}
+use Rattle.layer_ast.specs.declared.tokens.Kind.{Kind}
+use Rattle.layer_ast.specs.declared.tokens.Kind.TheVariants as kind
+use Rattle.layer_ast.specs.declared.tokens.Sign.{Sign}
+use Rattle.layer_ast.specs.declared.tokens.Sign.TheVariants as sign
+use Rattle.layer_ast.specs.declared.tokens.Token.{Token}
+use Rattle.layer_ast.specs.declared.tokens.Token.TheVariants as token
+
+-- the bytes that separate tokens: space, tab, carriage return and line feed
+abbrev pub is_blank : ℕ → Bool
+is_blank b = nat_eq b 32 || (nat_eq b 9 || (nat_eq b 13 || nat_eq b 10))
+
+-- the bytes that go on a word: letters, digits and the underscore
+abbrev pub is_word_byte : ℕ → Bool
+is_word_byte b = is_ascii_alphanumeric b || nat_eq b 95
+
+-- the reserved words that aren't kinds
+unfoldable pub reserved : List (List ℕ × Sign)
+reserved =
+    (codes "layer", sign.Layer)
+    ∷ (codes "stack", sign.Stack)
+    ∷ (codes "param", sign.Param)
+    ∷ (codes "state", sign.State)
+    ∷ (codes "int", sign.Int)
+    ∷ (codes "queue", sign.Queue)
+    ∷ (codes "of", sign.Of)
+    ∷ (codes "msg", sign.Msg)
+    ∷ (codes "part", sign.Part)
+    ∷ (codes "header", sign.Header)
+    ∷ (codes "passes", sign.Passes)
+    ∷ (codes "ends", sign.Ends)
+    ∷ (codes "up", sign.Up)
+    ∷ (codes "down", sign.Down)
+    ∷ (codes "with", sign.With)
+    ∷ (codes "common", sign.Common)
+    ∷ (codes "rare", sign.Rare)
+    ∷ (codes "two", sign.Two)
+    ∷ (codes "let", sign.Let)
+    ∷ (codes "set", sign.Set)
+    ∷ (codes "push", sign.Push)
+    ∷ (codes "take", sign.Take)
+    ∷ (codes "else", sign.Else)
+    ∷ (codes "if", sign.If)
+    ∷ (codes "each", sign.Each)
+    ∷ (codes "below", sign.Below)
+    ∷ (codes "max", sign.Max)
+    ∷ (codes "me", sign.Me)
+    ∷ (codes "n", sign.N)
+    ∷ (codes "ltime", sign.Ltime)
+    ∷ (codes "len", sign.Len)
+    ∷ (codes "at", sign.AtRow)
+    ∷ (codes "held", sign.Held)
+    ∷ (codes "size", sign.Size)
+    ∷ (codes "cut", sign.Cut)
+    ∷ (codes "tail", sign.Tail)
+    ∷ (codes "join", sign.Join)
+    ∷ (codes "nothing", sign.Nothing)
+    ∷ (codes "pick", sign.Pick)
+    ∷ (codes "not", sign.Not)
+    ∷ (codes "and", sign.And)
+    ∷ (codes "or", sign.Or)
+    ∷ (codes "bit", sign.Bit)
+    ∷ (codes "count", sign.Count)
+    ∷ (codes "lowest", sign.Lowest)
+    ∷ (codes "none", sign.NoHeader)
+    ∷ []
+
+-- the words of the kinds, which are reserved too
+unfoldable pub kinds : List (List ℕ × Kind)
+kinds =
+    (codes "Cast", kind.Cast)
+    ∷ (codes "Send", kind.Send)
+    ∷ (codes "Timer", kind.Timer)
+    ∷ (codes "Suspect", kind.Suspect)
+    ∷ (codes "Stable", kind.Stable)
+    ∷ (codes "Ack", kind.Ack)
+    ∷ (codes "Elect", kind.Elect)
+    ∷ (codes "Block", kind.Block)
+    ∷ (codes "BlockOk", kind.BlockOk)
+    ∷ (codes "Flushed", kind.Flushed)
+    ∷ (codes "View", kind.View)
+    ∷ (codes "Leave", kind.Leave)
+    ∷ []
+
+-- what stands beside a spelling in a table
+abbrev pub beside : {X : Type 0} → List (List ℕ × X) → List ℕ → Option X
+beside table spelling = option_map (λ entry. entry.1) (find (λ entry. bytes_eq entry.0 spelling) table)
+
+-- the token of a word: that of a reserved one, or else a name
+unfoldable pub word_token : List ℕ → Token
+word_token word = option_map_or token.Sign (beside reserved word) (option_map_or token.Kind (beside kinds word) (token.Name word))
+
+-- the symbols, those of two bytes in front of those that they begin with
+unfoldable pub symbols : List (List ℕ × Sign)
+symbols =
+    (codes "==", sign.Equal)
+    ∷ (codes "!=", sign.NotEqual)
+    ∷ (codes "<=", sign.LessEqual)
+    ∷ (codes ">=", sign.GreaterEqual)
+    ∷ (codes "{", sign.LeftBrace)
+    ∷ (codes "}", sign.RightBrace)
+    ∷ (codes "(", sign.LeftParen)
+    ∷ (codes ")", sign.RightParen)
+    ∷ (codes "[", sign.LeftBracket)
+    ∷ (codes "]", sign.RightBracket)
+    ∷ (codes ",", sign.Comma)
+    ∷ (codes ";", sign.Semicolon)
+    ∷ (codes ":", sign.Colon)
+    ∷ (codes ".", sign.Dot)
+    ∷ (codes "=", sign.Assign)
+    ∷ (codes "<", sign.Less)
+    ∷ (codes ">", sign.Greater)
+    ∷ (codes "+", sign.Plus)
+    ∷ (codes "-", sign.Minus)
+    ∷ (codes "*", sign.Star)
+    ∷ (codes "&", sign.Ampersand)
+    ∷ (codes "|", sign.Bar)
+    ∷ (codes "^", sign.Caret)
+    ∷ []
+
+-- the longest symbol that a text begins with, and its bytes
+unfoldable pub symbol_at : List ℕ → Option (List ℕ × Sign)
+symbol_at text = find (λ entry. starts_with nat_eq text entry.0) symbols
+
+-- the number that decimal digits spell
+abbrev pub number_of : List ℕ → ℕ
+number_of digits = fold (λ n digit. 10 * n + (digit - 48)) 0 digits

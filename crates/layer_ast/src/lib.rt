@@ -1,0 +1,15 @@
+//! The syntax of layer files: its words and signs, its trees with their places in the text, and
+//! what it is that a text spells a file.
+#![tactic(auto)]
+
+mod names;
+pub mod samples;
+mod syntax;
+mod tokens;
+
+pub use names::{At, Name, Word};
+pub use syntax::{
+    Arguments, Block, Declaration, Expression, File, Handler, Layer, Names, Operator, Place,
+    Popped, Pushed, Shape, Statement,
+};
+pub use tokens::{Dir, Kind, Lexed, Sign, Token};

@@ -1,0 +1,67 @@
+//! Words of a layer file, and where they stand.
+ghost use Rattle.std.specs.Prelude.{◌≡◌, ◌≤◌, length};
+
+use std::marker::Model;
+
+/// A place in a text: its line and its column, each counted from 1. Columns count bytes.
+#[derive(Clone, Copy, PartialEq, Eq, Debug)]
+pub struct At {
+    pub line: u32,
+    pub col: u32,
+}
+
+/// A word of 1 to 32 bytes, kept in place, so that a copy takes no memory.
+#[derive(Clone, Copy, PartialEq, Eq)]
+pub struct Word {
+    bytes: [u8; 32],
+    len: u8,
+}
+
+impl Model for Word {
+    ghost use Rattle.std.specs.Prelude.{◌≡◌, ◌≤◌, ◌-◌, List, ℕ, length, take, drop, replicate};
+    ghost use Rattle.std.proofs.Common.{arith, length-take-le};
+    ghost use Rattle.layer_ast.specs.WordBytes.{padded, padded-take};
+
+    ghost Value = { List ℕ };
+
+    ghost view = { λ w. take w.len w.bytes };
+
+    ghost invariant = { λ w. (1 ≤ w.len) × (w.len ≤ 32) × (length w.bytes ≡ 32) × (drop w.len w.bytes ≡ replicate (32 - w.len) 0) };
+
+    ghost inverse = { λ bytes. record { bytes = padded bytes; len = length bytes } };
+
+    ghost inverse_ok = { λ w h i. record {
+      bytes = padded-take w.len w.bytes (omega (arith, h.1, h.2)) h.3 i;
+      len = length-take-le w.len w.bytes (omega (arith, h.1, h.2)) i;
+    } };
+}
+
+impl Word {
+    pub const LONGEST: usize = 32;
+
+    pub fn of(text: &[u8]) -> Word
+        requires { 1 ≤ length text.now × length text.now ≤ 32 }
+        ensures { result ≡ text.now }
+    {
+        let mut bytes = [0u8; 32];
+        let front = &mut bytes[..text.len()];
+        front.copy_from_slice(text);
+        Word {
+            bytes,
+            len: text.len() as u8,
+        }
+    }
+
+    pub fn bytes(&self) -> &[u8]
+        ensures { result.now ≡ self.now }
+    {
+        &self.bytes[..self.len as usize]
+    }
+}
+
+/// A name, and the place of its first byte.
+#[derive(Clone, Copy, PartialEq, Eq)]
+pub struct Name {
+    pub at: At,
+    pub word: Word,
+}

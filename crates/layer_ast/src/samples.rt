@@ -1,0 +1,22 @@
+//! Small texts, worked out by evaluation: the definitions compute. Nothing runs here.
+ghost use Rattle.layer_ast.specs.Samples.{CutsText, CutsLetter, CutsNumbers, SpellsPlace};
+
+/// A text with a comment, a name that begins like a reserved word, long symbols and a bad byte.
+pub fn cuts_text()
+    ensures { CutsText }
+{}
+
+/// A number with a letter directly behind it.
+pub fn cuts_letter()
+    ensures { CutsLetter }
+{}
+
+/// Numbers at their limits.
+pub fn cuts_numbers()
+    ensures { CutsNumbers }
+{}
+
+/// A file with one place.
+pub fn spells_place()
+    ensures { SpellsPlace }
+{}
