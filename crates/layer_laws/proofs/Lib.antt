@@ -1,0 +1,4 @@
+pub mod Expressions
+pub mod Once
+pub mod Together
+pub mod Trees

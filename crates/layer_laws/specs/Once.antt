@@ -1,0 +1,13 @@
+-- The syntax has one reading.
+use Rattle.std.specs.Prelude.{◌≡◌, ℕ, List}
+use Rattle.layer_ast.specs.Print.{file}
+use Rattle.layer_ast.specs.Spells.{Spells}
+use Rattle.layer_ast.specs.Tree.{FileTree}
+
+-- a text spells at most one file
+abbrev pub SpelledOnce : Type 0
+SpelledOnce = (text : List ℕ) (s t : FileTree) → Spells text s → Spells text t → s ≡ t
+
+-- two files that are printed alike, with the same places, are one file
+abbrev pub PrintedOnce : Type 0
+PrintedOnce = (s t : FileTree) → file s ≡ file t → s ≡ t

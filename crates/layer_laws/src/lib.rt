@@ -1,0 +1,15 @@
+//! Laws of the syntax of layer files that no code rests on. Each is the contract of a function
+//! that does nothing.
+#![tactic(auto)]
+
+ghost use Rattle.layer_laws.specs.Once.{PrintedOnce, SpelledOnce};
+
+/// A text spells at most one file.
+pub fn spelled_once()
+    ensures { SpelledOnce }
+{}
+
+/// Two files that are printed alike, with the same places, are one file.
+pub fn printed_once()
+    ensures { PrintedOnce }
+{}
