@@ -1,0 +1,89 @@
+-- Piece after piece, a text is cut.
+use Rattle.std.proofs.Common.{◌≡◌, ℕ, nat_eq, cond, true, false, zero, suc, ◌+◌, ◌≤◌, Bool, List, [], ◌∷◌, ◌++◌, length, take, drop, Option, Some, refl, sym, ap, ◌∙◌, subst, arith, append_assoc, length-drop, length-take-le}
+use Rattle.layer_ast.specs.declared.names.At.{At}
+use Rattle.layer_ast.specs.declared.tokens.Lexed.{Lexed}
+use Rattle.layer_ast.specs.Cut.{Piece, gap, one, bad, Tokens, piece, with_piece, cut_from, cut, place_behind}
+use Rattle.layer_lex.specs.Pieces.{GoesOn, more_of, is_number, past}
+
+-- these tokens and then others
+abbrev pub in_front : List Lexed → Tokens → Tokens
+in_front front t = record { tokens = front ++ t.tokens; bad_at = t.bad_at }
+
+-- what the loop keeps: the text is cut into the tokens so far and then as its rest is, and the place has not run ahead
+pub record Cutting (text rest : List ℕ) (behind_number : Bool) (at : At) (front : List Lexed) : Type 0 where
+  pub same : in_front front (cut_from behind_number 0 rest at) ≡ cut text
+  pub line : at.line + length rest ≤ length text + 1
+  pub col : at.col + length rest ≤ length text + 1
+
+-- the bytes of a piece are passed over
+passed : (number : Bool) (n : ℕ) (bytes : List ℕ) (at : At) → n ≤ length bytes →
+    cut_from number n bytes at ≡ cut_from number 0 (drop n bytes) (past (take n bytes) at)
+passed number zero bytes at le = refl
+passed number (suc n) [] at le = absurd (omega arith)
+passed number (suc n) (b ∷ bytes) at le = passed number n bytes (place_behind b at) (omega arith)
+
+-- a piece that is taken stands in front of the tokens behind it
+taken : (p : Piece) (at : At) (old new : List Lexed) (n : ℕ) (rest : Bool → ℕ → Tokens) → GoesOn p at old new (Some n) →
+    in_front old (with_piece p at rest) ≡ in_front new (rest (is_number p) n)
+taken (gap behind) at old new n rest h = let e : n ≡ behind = cc in rw (h.0, e) refl
+taken (one token behind) at old new n rest h = let e : n ≡ behind = cc in rw (h.0, e, append_assoc) refl
+taken bad at old new n rest h = cc
+
+-- a byte moves the place by at most one line and one column
+place_line : (b : ℕ) (at : At) → (place_behind b at).line ≤ at.line + 1
+place_line b at =
+    elim (nat_eq b 10) as (λ t. (cond t (record { line = at.line + 1; col = 1 }) (record at { col = at.col + 1 })).line ≤ at.line + 1)
+    [ true ↦ omega arith | false ↦ omega arith ]
+
+place_col : (b : ℕ) (at : At) → (place_behind b at).col ≤ at.col + 1
+place_col b at =
+    elim (nat_eq b 10) as (λ t. (cond t (record { line = at.line + 1; col = 1 }) (record at { col = at.col + 1 })).col ≤ at.col + 1)
+    [ true ↦ omega arith | false ↦ omega arith ]
+
+-- bytes move it by at most as many
+past_line : (bytes : List ℕ) (at : At) → (past bytes at).line ≤ at.line + length bytes
+past_line [] at = omega arith
+past_line (b ∷ bytes) at = omega (arith, past_line bytes (place_behind b at), place_line b at)
+
+past_col : (bytes : List ℕ) (at : At) → (past bytes at).col ≤ at.col + length bytes
+past_col [] at = omega arith
+past_col (b ∷ bytes) at = omega (arith, past_col bytes (place_behind b at), place_col b at)
+
+module _ (text : List ℕ) (first : ℕ) (behind : List ℕ) (behind_number : Bool) (at : At) (old new : List Lexed) (p : Piece)
+    (is : p ≡ piece behind_number first behind) (c : Cutting text (first ∷ behind) behind_number at old) where
+  -- a piece that is taken goes on
+  pub goes_on : (n : ℕ) → n ≤ length behind → GoesOn p at old new (Some n) →
+      Cutting text (drop n behind) (is_number p) (past (take n behind) (place_behind first at)) new
+  goes_on n le h =
+      let next = place_behind first at in
+      let bytes = take n behind in
+      let rest : Bool → ℕ → Tokens = λ number more. cut_from number more behind next in
+      record {
+        same =
+            ap (in_front new) (sym (passed (is_number p) n behind next le))
+            ∙ (sym (taken p at old new n rest h) ∙ (ap (λ q. in_front old (with_piece q at rest)) is ∙ c.same));
+        line = omega (arith, c.line, past_line bytes next, place_line first at, length-take-le n behind le, length-drop n behind);
+        col = omega (arith, c.col, past_col bytes next, place_col first at, length-take-le n behind le, length-drop n behind);
+      }
+
+-- a piece that is taken has its own length
+more_is : (p : Piece) (at : At) (old new : List Lexed) (n : ℕ) → GoesOn p at old new (Some n) → n ≡ more_of p
+more_is (gap behind) at old new n h = cc
+more_is (one token behind) at old new n h = cc
+more_is bad at old new n h = cc
+
+-- a turn of the loop
+pub turn : (text rest : List ℕ) (first : ℕ) (behind inside after : List ℕ) (behind_number number : Bool) (at next past_it : At)
+    (old new : List Lexed) (p : Piece) (more : Option ℕ) (n : ℕ) →
+    Cutting text rest behind_number at old → rest ≡ first ∷ behind → p ≡ piece behind_number first behind →
+    more_of p ≤ length behind → number ≡ is_number p → GoesOn p at old new more → more ≡ Some n →
+    next ≡ place_behind first at → inside ≡ take n behind → past_it ≡ past inside next → after ≡ drop n behind →
+    Cutting text after number past_it new
+turn text rest first behind inside after behind_number number at next past_it old new p more n c split is within number_is goes
+    some next_is inside_is past_is after_is =
+    let c' : Cutting text (first ∷ behind) behind_number at old = rw split at c in
+    let h : GoesOn p at old new (Some n) = rw some at goes in
+    let le : n ≤ length behind = subst (λ m. m ≤ length behind) (sym (more_is p at old new n h)) within in
+    rw (after_is, number_is, past_is, inside_is, next_is) (
+    goes_on text first behind behind_number at old new p is c' n le h
+    )

@@ -1,0 +1,39 @@
+-- What the lexer's values say.
+use Rattle.std.specs.Prelude.{◌≡◌, ℕ, Bool, false, List, [], ◌∷◌, ◌++◌, fold, Option, Some, None}
+use Rattle.layer_ast.specs.declared.names.At.{At}
+use Rattle.layer_ast.specs.declared.tokens.Lexed.{Lexed}
+use Rattle.layer_ast.specs.Cut.{Piece as Found, gap, one, bad, Tokens as Parts, is_numeral, place_behind}
+use Rattle.layer_lex.specs.declared.Tokens.{Tokens}
+use Rattle.layer_lex.specs.declared.pieces.Piece.{Piece}
+use Rattle.layer_lex.specs.declared.pieces.Piece.TheVariants.{Gap, One, Bad}
+
+-- the piece that the lexer found
+abbrev pub found : Piece → Found
+found (Gap behind) = gap behind
+found (One token behind) = one token behind
+found Bad = bad
+
+-- the tokens that the lexer cut
+abbrev pub tokens_of : Tokens → Parts
+tokens_of c = record { tokens = c.tokens.items; bad_at = c.bad_at }
+
+-- how many bytes of a piece stand behind its first
+abbrev pub more_of : Found → ℕ
+more_of (gap behind) = behind
+more_of (one _ behind) = behind
+more_of bad = 0
+
+-- whether a piece is a number
+abbrev pub is_number : Found → Bool
+is_number (one token _) = is_numeral token
+is_number _ = false
+
+-- the place behind bytes
+abbrev pub past : List ℕ → At → At
+past bytes at = fold (λ at b. place_behind b at) at bytes
+
+-- what taking a piece at a place makes of the tokens: it adds the piece's own, and says how long the piece is
+abbrev pub GoesOn : Found → At → List Lexed → List Lexed → Option ℕ → Type 0
+GoesOn (gap behind) at old new more = (new ≡ old) × (more ≡ Some behind)
+GoesOn (one token behind) at old new more = (new ≡ old ++ record { token = token; at = at } ∷ []) × (more ≡ Some behind)
+GoesOn bad at old new more = (new ≡ old) × (more ≡ None)

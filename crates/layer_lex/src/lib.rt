@@ -1,0 +1,123 @@
+//! The lexer of layer files: a text is cut into its tokens, each with its place.
+#![tactic(auto)]
+
+ghost use Rattle.std.specs.Prelude.{◌≡◌, ◌+◌, ◌<◌, ◌≤◌, length, IfOk};
+ghost use Rattle.layer_ast.specs.Cut.{cut as cut_of, place_behind as next_place};
+ghost use Rattle.layer_lex.specs.Pieces.{found, tokens_of, is_number as is_number_piece, past, GoesOn};
+
+mod pieces;
+mod words;
+
+use layer_ast::{At, Lexed, Token};
+use pieces::{Piece, piece_at};
+use std::alloc::{AllocError, Global};
+
+/// The tokens of a text in front of its first bad one, and the place of that one.
+#[derive(Drop)]
+pub struct Tokens {
+    pub tokens: Vec<Lexed>,
+    pub bad_at: Option<At>,
+}
+
+/// Cuts a text into tokens.
+pub fn cut(alloc: Global, text: &[u8]) -> Result<Tokens, AllocError>
+    requires { length text.now < 4294967295 }
+    ensures { IfOk result (λ c. tokens_of c ≡ cut_of text.now) }
+{
+    let mut tokens = Vec::new(alloc);
+    let mut at = At { line: 1, col: 1 };
+    let mut behind_number = false;
+    let mut rest = text;
+    while let Some((first, behind)) = rest.split_first() {
+        let piece = piece_at(behind_number, *first, behind, rest);
+        behind_number = is_number(&piece);
+        let Some(more) = take_piece(&mut tokens, piece, at)? else {
+            return Ok(Tokens {
+                tokens,
+                bad_at: Some(at),
+            });
+        };
+        let (inside, after) = behind.split_at(more);
+        at = place_past(inside, place_behind(*first, at));
+        rest = after;
+    }
+    Ok(Tokens {
+        tokens,
+        bad_at: None,
+    })
+}
+
+/// Adds the token of a piece to the tokens. The result is how many bytes of the piece stand behind its first, or
+/// none where the piece is bad.
+fn take_piece(tokens: &mut Vec<Lexed>, piece: Piece, at: At) -> Result<Option<usize>, AllocError>
+    ensures { IfOk result (λ more. GoesOn (found piece) at tokens.old.items tokens.new.items more) }
+{
+    match piece {
+        Piece::Gap { behind } => Ok(Some(behind)),
+        Piece::One { token, behind } => {
+            tokens.push(Lexed { token, at })?;
+            Ok(Some(behind))
+        }
+        Piece::Bad => Ok(None),
+    }
+}
+
+/// Whether a piece is a number.
+fn is_number(piece: &Piece) -> bool
+    ensures { result ≡ is_number_piece (found piece.now) }
+{
+    matches!(
+        piece,
+        Piece::One {
+            token: Token::Number(_),
+            ..
+        }
+    )
+}
+
+/// The place behind bytes.
+fn place_past(bytes: &[u8], at: At) -> At
+    requires line { at.line + length bytes.now < 4294967296 }
+    requires col { at.col + length bytes.now < 4294967296 }
+    ensures { result ≡ past bytes.now at }
+{
+    let mut at = at;
+    for byte in bytes {
+        at = place_behind(*byte, at);
+    }
+    at
+}
+
+fn place_behind(byte: u8, at: At) -> At
+    requires line { at.line < 4294967295 }
+    requires col { at.col < 4294967295 }
+    ensures place { result ≡ next_place byte at }
+    ensures line { result.line ≤ at.line + 1 }
+    ensures col { result.col ≤ at.col + 1 }
+{
+    if byte == b'\n' {
+        At {
+            line: at.line + 1,
+            col: 1,
+        }
+    } else {
+        At {
+            line: at.line,
+            col: at.col + 1,
+        }
+    }
+}
+
+#[cfg(test)]
+mod tests {
+    use super::*;
+    use std::test::Fail;
+
+    #[test]
+    fn cuts(rt: HostRuntime) -> Result<(), Fail> {
+        let c = cut(rt.alloc(), b"set k # x\n <= 12a")?;
+        assert_eq!(rt; c.tokens.len(), 4);
+        assert_eq!(rt; c.bad_at, Some(At { line: 2, col: 7 }));
+        Ok(())
+    }
+}
