@@ -1,0 +1,4 @@
+pub mod Lists
+pub mod Declarations
+pub mod Exits
+pub mod Each
