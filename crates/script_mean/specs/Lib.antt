@@ -1,0 +1,5 @@
+pub mod Lines
+pub mod Words
+pub mod Form
+pub mod Event
+pub mod Script

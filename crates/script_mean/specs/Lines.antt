@@ -1,0 +1,28 @@
+-- The lines of a text: each ends with a line feed (10), which the last may lack.
+use Rattle.std.specs.Prelude.{ℕ, ◌+◌, ◌==◌, not, Bool, true, List, [], ◌∷◌, length, count_by, filter, if◌then◌else◌}
+use Rattle.std.specs.List.{after_last, enumerate_from, slice_split}
+
+-- a line feed
+abbrev pub is_line_feed : ℕ → Bool
+is_line_feed byte = byte == 10
+
+-- what stands before, between and behind the line feeds
+abbrev pub lines_of : List ℕ → List (List ℕ)
+lines_of text = slice_split is_line_feed text
+
+-- how many lines a text has: its line feeds, and one more where text follows the last of them
+abbrev pub line_count : List ℕ → ℕ
+line_count text = count_by is_line_feed text + (if length (after_last is_line_feed text) == 0 then 0 else 1)
+
+-- an empty line, or one that begins with `#` (35), says nothing
+abbrev pub says_nothing : List ℕ → Bool
+says_nothing [] = true
+says_nothing (byte ∷ rest) = byte == 35
+
+-- the lines that say something, of lines with their numbers
+abbrev pub said : List (ℕ × List ℕ) → List (ℕ × List ℕ)
+said lines = filter (λ line. not (says_nothing line.1)) lines
+
+-- the lines of a text that say something, each with its number; all lines are counted, from 1
+abbrev pub said_lines : List ℕ → List (ℕ × List ℕ)
+said_lines text = said (enumerate_from 1 (lines_of text))

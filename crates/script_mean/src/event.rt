@@ -1,0 +1,21 @@
+//! The events of a script.
+use crate::bytes::Bytes;
+
+/// One event of a script. A member is named by its number, from 0.
+#[derive(Debug, Drop)]
+pub enum ScriptEvent {
+    /// The member's application casts a body to all.
+    Cast(u8, Bytes),
+    /// The member's application sends a body to the member of that rank, from 0.
+    Send(u8, u32, Bytes),
+    /// The member's application asks to leave.
+    Leave(u8),
+    /// The member's clock shows this time.
+    Tick(u8, u32),
+    /// The packet of that number, counted from 1 in the order of sending, reaches the member.
+    Give(u32, u8),
+    /// These bytes reach the member as a datagram.
+    Raw(u8, Bytes),
+    /// The member's state is shown.
+    Show(u8),
+}

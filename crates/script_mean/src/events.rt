@@ -1,0 +1,34 @@
+//! The events of a script, in order.
+ghost use Rattle.std.specs.Prelude.{◌≡◌};
+
+use crate::event::ScriptEvent;
+use std::marker::Model;
+
+/// Events in order, which contracts see as a list.
+#[derive(Debug, Drop)]
+pub struct Events {
+    events: Vec<ScriptEvent>,
+}
+
+impl Model for Events {
+    ghost use Rattle.std.specs.Prelude.{List};
+    ghost use Rattle.script_mean.specs.declared.event.ScriptEvent.{ScriptEvent};
+
+    ghost Value = { List ScriptEvent };
+
+    ghost view = { λ e. e.events.items };
+}
+
+impl Events {
+    pub fn of(events: Vec<ScriptEvent>) -> Events
+        ensures { result ≡ events.items }
+    {
+        Events { events }
+    }
+
+    pub fn slice(&self) -> &[ScriptEvent]
+        ensures { result.now ≡ self.now }
+    {
+        self.events.as_slice()
+    }
+}
