@@ -1,0 +1,78 @@
+-- What the readers of lines and words answer.
+use Rattle.std.specs.Prelude.{◌≡◌, ◌≤◌, ◌<◌, ℕ, List, Option, Some, None, option_map, Result, Ok, Err, IsSomeAnd}
+use Rattle.std.specs.List.{enumerate_from}
+use Rattle.hex.specs.declared.error.FromHexError.{FromHexError}
+use Rattle.hex.specs.declared.error.FromHexError.TheVariants.{InvalidHexCharacter, OddLength, InvalidStringLength, OutOfMemory}
+use Rattle.script_mean.specs.Lines.{said}
+use Rattle.script_mean.specs.Words.{Word}
+use Rattle.script_mean.specs.Event.{member_of}
+use Rattle.script_mean.specs.declared.event.ScriptEvent.{ScriptEvent}
+use Rattle.script_text.specs.Parts.{parts_behind}
+use Rattle.script_text.specs.declared.error.LineError.{LineError}
+use Rattle.script_text.specs.declared.error.LineError.TheVariants.{Form, NoMember, Memory}
+use Rattle.script_text.specs.declared.error.ScriptError.{ScriptError}
+use Rattle.script_text.specs.declared.error.ScriptError.TheVariants as script
+use Rattle.script_text.specs.declared.lines.Line.{Line}
+use Rattle.script_text.specs.declared.lines.Lines.{Lines}
+use Rattle.script_text.specs.declared.words.Words.{Words}
+
+-- a line as the definitions see it
+abbrev pub numbered : Line → ℕ × List ℕ
+numbered line = (line.number, line.text.now)
+
+-- the lines that are left
+abbrev pub all_left : Lines → List (ℕ × List ℕ)
+all_left lines = enumerate_from lines.number (parts_behind 10 lines.rest)
+
+-- those of them that say something
+abbrev pub lines_left : Lines → List (ℕ × List ℕ)
+lines_left lines = said (all_left lines)
+
+-- the words that are left of a line
+abbrev pub words_left : Words → List Word
+words_left words = parts_behind 32 words.rest
+
+-- a line's error as an error of the script
+abbrev pub error_at : ℕ → LineError → ScriptError
+error_at line Form = script.BadLine line
+error_at line NoMember = script.NoMember line
+error_at line Memory = script.Memory
+
+-- what a refusal of the crate `hex` says of the line
+abbrev pub hex_error : FromHexError → LineError
+hex_error OutOfMemory = Memory
+hex_error (InvalidHexCharacter byte index) = Form
+hex_error OddLength = Form
+hex_error InvalidStringLength = Form
+
+-- what was spelled, or memory was wanted
+abbrev pub Spells : {A : Type 0} → Option A → Result A LineError → Type 0
+Spells spelled (Ok value) = spelled ≡ Some value
+Spells spelled (Err Form) = spelled ≡ None
+Spells spelled (Err NoMember) = ⊥
+Spells spelled (Err Memory) = Unit {0}
+
+-- what a form took from the words and the words behind it, or memory was wanted
+abbrev pub Takes : {A : Type 0} → Option (A × List Word) → Result A LineError → List Word → Type 0
+Takes taken (Ok value) behind = taken ≡ Some (value, behind)
+Takes taken (Err Form) behind = taken ≡ None
+Takes taken (Err NoMember) behind = ⊥
+Takes taken (Err Memory) behind = Unit {0}
+
+-- what a form said of a whole line, or memory was wanted
+abbrev pub Says : {A : Type 0} → Option (A × List Word) → Result A LineError → Type 0
+Says taken result = Spells (option_map (λ t. t.0) taken) result
+
+-- the same of an event, whose member is then judged
+abbrev pub IsEvent : ℕ → Option (ScriptEvent × List Word) → Result ScriptEvent LineError → Type 0
+IsEvent members taken (Ok event) = (option_map (λ t. t.0) taken ≡ Some event) × (member_of event < members)
+IsEvent members taken (Err Form) = taken ≡ None
+IsEvent members taken (Err NoMember) = IsSomeAnd taken (λ t. members ≤ member_of t.0)
+IsEvent members taken (Err Memory) = Unit {0}
+
+-- a member's number, if it is below the number of members
+abbrev pub IsBelow : ℕ → ℕ → Result ℕ LineError → Type 0
+IsBelow members number (Ok member) = (member ≡ number) × (number < members)
+IsBelow members number (Err Form) = ⊥
+IsBelow members number (Err NoMember) = members ≤ number
+IsBelow members number (Err Memory) = ⊥

@@ -1,0 +1,98 @@
+//! The lines of a text that say something.
+ghost use Rattle.std.specs.Prelude.{◌≡◌, ◌+◌, ◌<◌, ◌≤◌, ◌^◌, ◌==◌, not, length};
+ghost use Rattle.std.specs.List.{after_last};
+ghost use Rattle.script_mean.specs.Lines as spec;
+ghost use Rattle.script_text.specs.Parts.{parts_behind};
+
+use crate::cut::cut;
+
+/// A line, and its number, from 1.
+#[derive(Clone, Copy)]
+pub(crate) struct Line<'a> {
+    pub number: u32,
+    pub text: &'a [u8],
+}
+
+/// The lines that are left of a text, the first of them with this number. No rest is no line; an
+/// empty rest, as behind a last line feed, is taken for a line, which says nothing.
+#[derive(Drop)]
+pub(crate) struct Lines<'a> {
+    rest: Option<&'a [u8]>,
+    number: u32,
+    ghost counted: { number + length (parts_behind 10 rest) < 2 ^ 32 },
+}
+
+impl<'a> Lines<'a> {
+    ghost use Rattle.std.specs.Iterator.{YieldsFirstBy};
+    ghost use Rattle.script_text.specs.Reading.{all_left, lines_left, numbered};
+
+    pub(crate) fn of(text: &'a [u8]) -> Lines<'a>
+        requires { spec.line_count text.now ≤ 100000 }
+        ensures { lines_left result ≡ spec.said_lines text.now }
+    {
+        Lines {
+            rest: Some(text),
+            number: 1,
+        }
+    }
+
+    fn next_line(&mut self) -> Option<Line<'a>>
+        ensures { YieldsFirstBy numbered all_left self.old result self.new }
+    {
+        let (text, behind) = cut(b'\n', self.rest?);
+        let number = self.number;
+        *self = Lines {
+            rest: behind,
+            number: number + 1,
+        };
+        Some(Line { number, text })
+    }
+}
+
+impl<'a> Iterator for Lines<'a> {
+    ghost use Rattle.std.specs.Iterator.{YieldsFirstBy, item_count};
+    ghost use Rattle.script_text.specs.Reading.{lines_left, numbered};
+
+    type Item = Line<'a>;
+
+    ghost next_gives = { YieldsFirstBy numbered lines_left };
+
+    ghost remaining = { item_count lines_left };
+
+    /// The next line that says something.
+    fn next(&mut self) -> Option<Line<'a>> {
+        while let Some(line) = self.next_line() {
+            if !says_nothing(line.text) {
+                return Some(line);
+            }
+        }
+        None
+    }
+}
+
+fn says_nothing(line: &[u8]) -> bool
+    ensures { result ≡ spec.says_nothing line.now }
+{
+    match line {
+        [] => true,
+        [first, ..] => *first == b'#',
+    }
+}
+
+/// How many lines a text has, which may be more than say something.
+pub(crate) fn line_count(text: &[u8]) -> usize
+    ensures { result ≡ spec.line_count text.now }
+{
+    let ended = text.iter().filter(|byte| **byte == b'\n').count();
+    ended + usize::from(is_open(text))
+}
+
+/// Whether text follows the last line feed.
+fn is_open(text: &[u8]) -> bool
+    ensures { result ≡ not (length (after_last spec.is_line_feed text.now) == 0) }
+{
+    match text {
+        [] => false,
+        [.., last] => *last != b'\n',
+    }
+}

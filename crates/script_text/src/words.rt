@@ -1,0 +1,78 @@
+//! The words of a line, taken from the front.
+ghost use Rattle.std.specs.Prelude.{◌≡◌};
+ghost use Rattle.std.specs.Iterator.{YieldsFirstRef, item_count};
+ghost use Rattle.script_mean.specs.Words.{words_of};
+ghost use Rattle.script_mean.specs.Form as form;
+ghost use Rattle.script_text.specs.Reading.{Takes, words_left};
+
+use crate::cut::cut;
+use crate::error::LineError;
+use crate::values;
+use script_mean::Bytes;
+use std::alloc::Global;
+
+/// The words that are left of a line. An empty rest is an empty word, and no rest is none.
+#[derive(Clone, Copy)]
+pub(crate) struct Words<'a> {
+    rest: Option<&'a [u8]>,
+}
+
+impl<'a> Words<'a> {
+    pub(crate) fn on(line: &'a [u8]) -> Words<'a>
+        ensures { words_left result ≡ words_of line.now }
+    {
+        Words { rest: Some(line) }
+    }
+
+    pub(crate) fn the_word(&mut self, wanted: &[u8]) -> Result<(), LineError>
+        ensures { Takes (form.the_word wanted.now (words_left self.old)) result (words_left self.new) }
+    {
+        match self.next() {
+            Some(word) if word == wanted => Ok(()),
+            _ => Err(LineError::Form),
+        }
+    }
+
+    pub(crate) fn number_within(&mut self, low: u32, high: u32) -> Result<u32, LineError>
+        ensures { Takes (form.a_number_within low high (words_left self.old)) result (words_left self.new) }
+    {
+        let word = self.next().ok_or(LineError::Form)?;
+        values::number_within(low, high, word).ok_or(LineError::Form)
+    }
+
+    pub(crate) fn number(&mut self) -> Result<u32, LineError>
+        ensures { Takes (form.a_number (words_left self.old)) result (words_left self.new) }
+    {
+        self.number_within(0, u32::MAX)
+    }
+
+    pub(crate) fn body(&mut self, alloc: Global) -> Result<Bytes, LineError>
+        ensures { Takes (form.a_body (words_left self.old)) result (words_left self.new) }
+    {
+        let word = self.next().ok_or(LineError::Form)?;
+        values::body(alloc, word)
+    }
+
+    pub(crate) fn end(&mut self) -> Result<(), LineError>
+        ensures { Takes (form.ends tt (words_left self.old)) result (words_left self.new) }
+    {
+        match self.next() {
+            Some(_) => Err(LineError::Form),
+            None => Ok(()),
+        }
+    }
+}
+
+impl<'a> Iterator for Words<'a> {
+    type Item = &'a [u8];
+
+    ghost next_gives = { YieldsFirstRef words_left };
+
+    ghost remaining = { item_count words_left };
+
+    fn next(&mut self) -> Option<&'a [u8]> {
+        let (word, behind) = cut(b' ', self.rest?);
+        self.rest = behind;
+        Some(word)
+    }
+}
