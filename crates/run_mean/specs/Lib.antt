@@ -1,0 +1,4 @@
+pub mod World
+pub mod Text
+pub mod Report
+pub mod View
