@@ -1,0 +1,2 @@
+pub mod CounterFile
+pub mod Faults
