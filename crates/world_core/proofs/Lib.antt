@@ -1,0 +1,2 @@
+pub mod OneLayer
+pub mod Steps

@@ -1,0 +1,3 @@
+pub mod OneLayer
+pub mod Play
+pub mod Members
