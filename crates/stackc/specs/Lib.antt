@@ -1,0 +1,9 @@
+pub mod Wrote
+pub mod Played
+pub mod Job
+pub mod Meaning
+pub mod Fetched
+pub mod File
+pub mod Ended
+pub mod Run
+pub mod Words

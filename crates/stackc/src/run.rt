@@ -1,0 +1,76 @@
+//! The program over any shelf and sinks.
+
+ghost use Rattle.std.specs.Prelude.{◌≡◌, map};
+ghost use Rattle.std.specs.String.{string_bytes};
+ghost use Rattle.stackc.specs.Job.{job};
+ghost use Rattle.stackc.specs.Ended as ended;
+ghost use Rattle.stackc.specs.Run.{around, errors};
+
+use crate::fault::Fault;
+use crate::replay::replay;
+use outside::{Shelf, Sink, SinkError};
+use std::alloc::Global;
+
+/// Does the job that the words name, the program's own name left out, and answers the program's
+/// status. The report goes to `out`; where the job ends early, one line on `err` says why.
+///
+/// With status 0 `out` gained the report of the definitions, byte for byte; 1, 2 and 3 come exactly
+/// where the file, the words or the script are refused, 4 and 5 only where the shelf or `out` counted a
+/// fault in this call, and 7 where memory ran out.
+pub fn run<S: Shelf, O: Sink, E: Sink>(
+    alloc: Global,
+    words: &[String],
+    shelf: &mut S,
+    out: &mut O,
+    err: &mut E,
+) -> u8
+    ensures { ended.Replayed (job (map string_bytes words.now))
+        (around (S.told shelf.old) (S.faults shelf.old) (S.faults shelf.new)
+        (O.contents out.old) (O.contents out.new) (O.faults out.old) (O.faults out.new))
+        (errors (E.contents err.old) (E.contents err.new) (E.faults err.old) (E.faults err.new) result) }
+{
+    match replay(alloc, words, shelf, out) {
+        Ok(()) => 0,
+        Err(fault) => say(fault, err),
+    }
+}
+
+/// Says why a job ended early, and answers the program's status.
+pub fn say<E: Sink>(fault: Fault, err: &mut E) -> u8
+    ensures { ended.Says fault
+        (errors (E.contents err.old) (E.contents err.new) (E.faults err.old) (E.faults err.new) result) }
+{
+    match err.put(fault_line(fault)) {
+        Ok(()) => status(fault),
+        Err(SinkError::Failed) => status(fault),
+        Err(SinkError::Memory) => 7,
+    }
+}
+
+fn status(fault: Fault) -> u8
+    ensures { result ≡ ended.status fault }
+{
+    match fault {
+        Fault::FileTooLarge | Fault::FileLater => 1,
+        Fault::Words => 2,
+        Fault::ScriptTooLong | Fault::ScriptLater => 3,
+        Fault::Read => 4,
+        Fault::Write => 5,
+        Fault::Memory => 7,
+    }
+}
+
+fn fault_line(fault: Fault) -> &'static [u8]
+    ensures { result.now ≡ ended.fault_line fault }
+{
+    match fault {
+        Fault::FileTooLarge => b"file: too large\n",
+        Fault::FileLater => b"file: later\n",
+        Fault::Words => b"words: refused\n",
+        Fault::ScriptTooLong => b"script: too long\n",
+        Fault::ScriptLater => b"script: later\n",
+        Fault::Read => b"read fault\n",
+        Fault::Write => b"write fault\n",
+        Fault::Memory => b"no memory\n",
+    }
+}
