@@ -100,12 +100,23 @@ pub record ScriptRefused (words : Option Replay) (a : Around) : Type 0 where
   pub refused : IsNoScript (second a) job.script
   pub untouched : Untouched a
 
--- A read of the job failed: the count of the shelf's faults rose, and where the shelf tells, it found no
--- such file or the read was one of those that are to fail.
+-- The job's file couldn't be read: the count of the shelf's faults rose, and where the shelf tells, it
+-- held no such file or the read was one of those that are to fail.
+pub record FileNotRead (job : Replay) (a : Around) : Type 0 where
+  pub failed : FindsNone a.told job.file a.reads a.reads_after
+
+-- The job's file is good, and its script couldn't be read.
+pub record ScriptNotRead (job : Replay) (a : Around) : Type 0 where
+  pub stack : List LayerTree
+  pub between : ℕ
+  pub stack_read : IsStack a.told job.file stack a.reads between
+  pub failed : FindsNone (second a) job.script between a.reads_after
+
+-- A read of the job failed.
 pub record NotRead (words : Option Replay) (a : Around) : Type 0 where
   pub job : Replay
   pub is_job : words ≡ Some job
-  pub failed : FindsNone a.told job.file a.reads a.reads_after ⊎ FindsNone (second a) job.script a.reads a.reads_after
+  pub failed : FileNotRead job a ⊎ ScriptNotRead job a
   pub untouched : Untouched a
 
 -- How a replay ended. Where memory ran out, nothing was written, or a prefix of the report.
