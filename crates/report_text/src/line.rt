@@ -1,6 +1,6 @@
 //! A line of text as it is built up.
 
-ghost use Rattle.std.specs.Prelude.{◌≡◌, ◌++◌, [], OnOk};
+ghost use Rattle.std.specs.Prelude.{◌≡◌, ◌++◌, [], IfOk, OnOk};
 ghost use Rattle.std.specs.Fmt.{decimal};
 ghost use Rattle.run_mean.specs.Text.{hex_text};
 
@@ -30,6 +30,15 @@ impl Line {
         Line {
             bytes: Vec::new(alloc),
         }
+    }
+
+    /// An empty line with room for so many bytes, so that it doesn't grow on the way.
+    pub fn with_room(alloc: Global, bytes: usize) -> Result<Line, Memory>
+        ensures { IfOk result (λ line. line ≡ []) }
+    {
+        Ok(Line {
+            bytes: Vec::with_capacity(alloc, bytes)?,
+        })
     }
 
     pub fn slice(&self) -> &[u8]

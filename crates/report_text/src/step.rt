@@ -101,11 +101,21 @@ fn push_chain(line: &mut Line, stack: &[Rc<Layer>], message: &Message) -> Result
     Ok(())
 }
 
+/// How much room the line of an event mostly takes: two digits a byte, and what stands before them.
+fn room_for(event: &Event) -> usize {
+    event
+        .message
+        .body()
+        .len()
+        .saturating_mul(2)
+        .saturating_add(64)
+}
+
 /// `deliver M cast P HEX`
 fn deliver_line(alloc: Global, id: u8, event: &Event) -> Result<Line, Memory>
     ensures { IfOk result (λ line. line ≡ report.deliver_line id event.now) }
 {
-    let mut line = Line::new(alloc);
+    let mut line = Line::with_room(alloc, room_for(event))?;
     line.text(b"deliver ")?;
     line.number(u64::from(id))?;
     line.text(b" cast ")?;
@@ -126,7 +136,7 @@ fn packet_line(
 ) -> Result<Line, Memory>
     ensures { IfOk result (λ line. line ≡ report.packet_line (stack_tree stack.now) number id event.now) }
 {
-    let mut line = Line::new(alloc);
+    let mut line = Line::with_room(alloc, room_for(event))?;
     line.text(b"packet ")?;
     line.number(number)?;
     line.text(b" ")?;
