@@ -1,28 +1,7 @@
 //! What the definition of a file's stack says of the counter layer's file, and of files that differ
 //! from it by one fault, computed from the definition alone.
-#![tactic(auto, unfolding(layer_resolve::specs::Stack::stack_of, layer_resolve::specs::Stack::layer_of, layer_resolve::specs::Stack::handler_of, layer_resolve::specs::Stack::scope_of, layer_resolve::specs::Names::declared))]
+#![tactic(auto)]
 
-ghost use Rattle.resolve_laws.specs.CounterFile.{IsCounter};
-ghost use Rattle.resolve_laws.specs.Faults.{UnknownName, NameTwice, TooFewFields, MessageAsNumber, HeaderGoingUp, ArrayAsNumber, NumberAsArray, HandlersAlike, UnknownLayer};
+mod files;
 
-/// The file of the counter layer means the counter layer.
-pub fn counter_file()
-    ensures { IsCounter }
-{}
-
-/// With one fault of names it means no stack.
-pub fn name_faults()
-    ensures unknown_name { UnknownName }
-    ensures name_twice { NameTwice }
-    ensures handlers_alike { HandlersAlike }
-    ensures unknown_layer { UnknownLayer }
-{}
-
-/// With one fault of types it means no stack.
-pub fn type_faults()
-    ensures too_few_fields { TooFewFields }
-    ensures message_as_number { MessageAsNumber }
-    ensures header_going_up { HeaderGoingUp }
-    ensures array_as_number { ArrayAsNumber }
-    ensures number_as_array { NumberAsArray }
-{}
+pub use files::{counter_file, name_faults, type_faults};
