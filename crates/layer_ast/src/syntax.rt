@@ -8,12 +8,23 @@ use crate::tokens::{Dir, Kind};
 pub struct File {
     pub layers: Vec<Layer>,
     pub places: Vec<Place>,
+    /// The layers that places name and the library brings; they aren't spelled in the file.
+    pub library: Vec<Layer>,
 }
 
-/// `NAME ";"`, a layer of the stack.
-#[derive(Clone, Copy)]
+/// `NAME [ "(" given { "," given } ")" ] ";"`, a layer of the stack.
+#[derive(Drop)]
 pub struct Place {
     pub name: Name,
+    /// Empty where the place gives no params.
+    pub given: Vec<Given>,
+}
+
+/// `NAME "=" NUMBER`, a param that a place gives.
+#[derive(Clone, Copy)]
+pub struct Given {
+    pub name: Name,
+    pub value: u32,
 }
 
 /// `"layer" NAME "{" { declaration } { handler } "}"`
@@ -27,17 +38,35 @@ pub struct Layer {
 
 #[derive(Drop)]
 pub enum Declaration {
-    /// `"state" "int" NAME [ "[" "n" "]" ] ";"`
+    /// `"param" NAME "=" NUMBER ";"`
+    Param { at: At, name: Name, value: u32 },
+    /// `"state" "int" NAME [ "[" "n" [ "*" "n" ] "]" ] [ "=" expression ] ";"`
     Int {
         at: At,
         name: Name,
         shape: Shape,
+        initial: Option<Expression>,
     },
-    /// `"header" NAME "(" [ names ] ")" "passes" ";"`
+    /// `"state" "queue" NAME "[" size "]" "of" "(" items ")" ";"`
+    Queue {
+        at: At,
+        name: Name,
+        capacity: Size,
+        items: Items,
+    },
+    /// `"state" "queue" NAME "[" "n" "]" "[" size "]" "of" "(" items ")" ";"`
+    Queues {
+        at: At,
+        name: Name,
+        capacity: Size,
+        items: Items,
+    },
+    /// `"header" NAME "(" [ names ] ")" ( "passes" | "ends" ) ";"`
     Header {
         at: At,
         name: Name,
         fields: Option<Names>,
+        ending: Ending,
     },
 }
 
@@ -47,6 +76,46 @@ pub enum Shape {
     One,
     /// `[n]`, one for each member.
     Array,
+    /// `[n*n]`, one for each pair of members.
+    Square,
+}
+
+/// Whether the headers of the layers above follow a header.
+#[derive(Clone, Copy, PartialEq, Eq, Debug)]
+pub enum Ending {
+    Passes,
+    Ends,
+}
+
+/// `NUMBER | NAME`, a capacity or the maximum of a loop.
+#[derive(Clone, Copy)]
+pub enum Size {
+    Number { at: At, value: u32 },
+    Named { name: Name },
+}
+
+/// `item { "," item }`
+#[derive(Drop)]
+pub struct Items {
+    pub first: Item,
+    pub rest: Vec<Item>,
+}
+
+/// `NAME ":" ( "int" | "msg" | "part" )`
+#[derive(Clone, Copy)]
+pub struct Item {
+    pub name: Name,
+    pub sort: Sort,
+}
+
+/// What an item of a row is.
+#[derive(Clone, Copy, PartialEq, Eq, Debug)]
+pub enum Sort {
+    Int,
+    /// A message with the headers of the layers above.
+    Msg,
+    /// A message of bytes alone.
+    Part,
 }
 
 /// `NAME { "," NAME }`
@@ -56,7 +125,7 @@ pub struct Names {
     pub rest: Vec<Name>,
 }
 
-/// `( "up" | "down" ) KIND "(" names ")" [ "with" .. ] [ "common" expression ] block`
+/// `( "up" | "down" ) KIND "(" names ")" [ "with" .. ] [ "common" expression | "rare" ] block`
 #[derive(Drop)]
 pub struct Handler {
     pub at: At,
@@ -64,7 +133,7 @@ pub struct Handler {
     pub kind: Kind,
     pub names: Names,
     pub popped: Option<Popped>,
-    pub common: Option<Expression>,
+    pub expected: Expected,
     pub block: Block,
 }
 
@@ -75,6 +144,16 @@ pub struct Popped {
     pub fields: Option<Names>,
 }
 
+/// When a handler is predicted.
+#[derive(Drop)]
+pub enum Expected {
+    Always,
+    /// `"common" expression`
+    Common(Expression),
+    /// `"rare"`
+    Rare,
+}
+
 /// `"{" { statement } "}"`
 #[derive(Drop)]
 pub struct Block {
@@ -83,12 +162,64 @@ pub struct Block {
 
 #[derive(Drop)]
 pub enum Statement {
+    /// `"let" NAME "=" expression ";"`
+    Let {
+        at: At,
+        name: Name,
+        value: Expression,
+    },
     /// `"set" NAME [ "[" expression "]" ] "=" expression ";"`
     Set {
         at: At,
         name: Name,
         index: Option<Expression>,
         value: Expression,
+    },
+    /// `"set" NAME "[" expression "]" "[" expression "]" "=" expression ";"`
+    SetSquare {
+        at: At,
+        name: Name,
+        row: Expression,
+        column: Expression,
+        value: Expression,
+    },
+    /// `"push" queue "(" arguments ")" "else" block`
+    Push {
+        at: At,
+        queue: Queue,
+        items: Arguments,
+        otherwise: Block,
+    },
+    /// `"take" queue "(" names ")" block "else" block`
+    Take {
+        at: At,
+        queue: Queue,
+        names: Names,
+        block: Block,
+        otherwise: Block,
+    },
+    /// `"if" [ "rare" ] expression block`
+    When {
+        at: At,
+        likely: Likely,
+        condition: Expression,
+        block: Block,
+    },
+    /// `"if" [ "rare" ] expression block "else" block`
+    Choose {
+        at: At,
+        likely: Likely,
+        condition: Expression,
+        block: Block,
+        otherwise: Block,
+    },
+    /// `"each" NAME "below" expression "max" size block`
+    Each {
+        at: At,
+        name: Name,
+        below: Expression,
+        most: Size,
+        block: Block,
     },
     /// `( "up" | "down" ) KIND "(" arguments ")" [ "with" .. ] ";"`
     Emit {
@@ -100,6 +231,15 @@ pub enum Statement {
     },
 }
 
+/// Which way a condition is predicted to go.
+#[derive(Clone, Copy, PartialEq, Eq, Debug)]
+pub enum Likely {
+    /// `"if"`: into the first block.
+    First,
+    /// `"if" "rare"`: past it.
+    Else,
+}
+
 /// `"with" NAME "(" [ arguments ] ")"` of a statement: the header that it puts on.
 #[derive(Drop)]
 pub struct Pushed {
@@ -107,11 +247,19 @@ pub struct Pushed {
     pub fields: Option<Arguments>,
 }
 
-/// `expression { "," expression }`
+/// `argument { "," argument }`
 #[derive(Drop)]
 pub struct Arguments {
-    pub first: Expression,
-    pub rest: Vec<Expression>,
+    pub first: Argument,
+    pub rest: Vec<Argument>,
+}
+
+/// `expression | built`: a bare name stands as an expression, whatever it turns out to name, so that it
+/// has one reading.
+#[derive(Drop)]
+pub enum Argument {
+    Value(Expression),
+    Content(Built),
 }
 
 #[derive(Drop)]
@@ -128,10 +276,37 @@ pub enum Expression {
     Members {
         at: At,
     },
+    /// `"ltime"`, how many views came before.
+    Ltime {
+        at: At,
+    },
     /// `NAME [ "[" expression "]" ]`
     Named {
         name: Name,
         index: Option<Box<Expression>>,
+    },
+    /// `NAME "[" expression "]" "[" expression "]"`
+    Square {
+        name: Name,
+        row: Box<Expression>,
+        column: Box<Expression>,
+    },
+    /// `"len" "(" queue ")"`
+    Rows {
+        at: At,
+        queue: Queue,
+    },
+    /// `"at" "(" queue "," expression ")" "." NAME`
+    Item {
+        at: At,
+        queue: Queue,
+        row: Box<Expression>,
+        label: Name,
+    },
+    /// `"size" "(" message ")"`
+    Size {
+        at: At,
+        message: Box<MessageExpression>,
     },
     /// `"(" expression operator expression ")"`
     Binary {
@@ -140,12 +315,109 @@ pub enum Expression {
         operator: Operator,
         right: Box<Expression>,
     },
+    /// `function "(" expression ")"`
+    Apply {
+        at: At,
+        function: Function,
+        operand: Box<Expression>,
+    },
+    /// `"pick" "(" expression "," expression "," expression ")"`
+    Pick {
+        at: At,
+        condition: Box<Expression>,
+        first: Box<Expression>,
+        second: Box<Expression>,
+    },
 }
 
+/// `NAME [ "[" expression "]" ]`, a queue or one of an array.
+#[derive(Drop)]
+pub struct Queue {
+    pub name: Name,
+    pub index: Option<Box<Expression>>,
+}
+
+/// `NAME | built`
+#[derive(Drop)]
+pub enum MessageExpression {
+    Bare(Name),
+    Built(Built),
+}
+
+/// A message that is no bare name.
+#[derive(Drop)]
+pub enum Built {
+    /// `"nothing"`
+    Nothing { at: At },
+    /// `"held" "(" queue "," expression ")"`
+    Held {
+        at: At,
+        queue: Queue,
+        row: Box<Expression>,
+    },
+    /// `"cut" "(" message "," expression "," expression ")"`
+    Cut {
+        at: At,
+        message: Box<MessageExpression>,
+        from: Box<Expression>,
+        length: Box<Expression>,
+    },
+    /// `"tail" "(" message "," expression ")"`
+    Tail {
+        at: At,
+        message: Box<MessageExpression>,
+        from: Box<Expression>,
+    },
+    /// `"join" "(" message "," message ")"`
+    Join {
+        at: At,
+        first: Box<MessageExpression>,
+        second: Box<MessageExpression>,
+    },
+}
+
+/// An operator between two numbers.
 #[derive(Clone, Copy, PartialEq, Eq, Debug)]
 pub enum Operator {
     /// `+`
     Add,
+    /// `-`
+    Subtract,
+    /// `*`
+    Multiply,
     /// `==`
     Equal,
+    /// `!=`
+    NotEqual,
+    /// `<`
+    Less,
+    /// `<=`
+    LessOrEqual,
+    /// `>`
+    Greater,
+    /// `>=`
+    GreaterOrEqual,
+    /// `and`
+    And,
+    /// `or`
+    Or,
+    /// `&`
+    BitAnd,
+    /// `|`
+    BitOr,
+    /// `^`
+    BitXor,
+}
+
+/// A function of one number.
+#[derive(Clone, Copy, PartialEq, Eq, Debug)]
+pub enum Function {
+    /// `not`
+    Not,
+    /// `bit`
+    Bit,
+    /// `count`
+    Count,
+    /// `lowest`
+    Lowest,
 }
