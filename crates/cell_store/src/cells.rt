@@ -1,10 +1,10 @@
 //! The state of a layer.
 
 ghost use Rattle.std.specs.Prelude.{◌≡◌, [], IfOk, slice_index_or};
-ghost use Rattle.layer_mean.specs.State.{size_of};
+ghost use Rattle.first_mean.specs.State.{size_of};
 
 use crate::numbers::Numbers;
-use layer_mean::{Form, Layer};
+use first_mean::{Form, Layer};
 use msg_core::Memory;
 use std::alloc::Global;
 use std::marker::Model;
@@ -20,7 +20,7 @@ pub struct Cells {
 }
 
 impl Model for Cells {
-    ghost use Rattle.layer_mean.specs.State.{State};
+    ghost use Rattle.first_mean.specs.State.{State};
 
     ghost Value = { State };
 
@@ -28,8 +28,8 @@ impl Model for Cells {
 }
 
 impl Cells {
-    ghost use Rattle.layer_mean.specs.State.{fresh, number_at, with_number};
-    ghost use Rattle.layer_mean.specs.View.{layer_tree};
+    ghost use Rattle.first_mean.specs.State.{fresh, number_at, with_number};
+    ghost use Rattle.first_mean.specs.View.{layer_tree};
 
     /// The cells of `layer` at the member with rank `me` of `count`: every number is 0.
     pub fn fresh(
@@ -118,7 +118,7 @@ fn size_of(count: u32, form: Form) -> u32
 mod tests {
     use super::*;
     use layer_ast::Word;
-    use layer_mean::Cell;
+    use first_mean::Cell;
     use std::test::Fail;
 
     fn cell(name: Word, form: Form) -> Cell {

@@ -6,11 +6,11 @@ use Rattle.std.proofs.Common.{ap, ◌∙◌}
 use Rattle.std.specs.declared.alloc.Global.{Global}
 use Rattle.std.specs.declared.boxed.Box.{Box}
 use denote.RawPtr.{null_ptr}
-use Rattle.layer_mean.specs.Tree.{ExpressionTree, number, me, count, local, element, binary}
-use Rattle.layer_mean.specs.View.{expression_tree}
-use Rattle.layer_mean.specs.declared.layer.Expression.{Expression}
-use Rattle.layer_mean.specs.declared.layer.Expression.TheVariants.{Number, Me, Count, Local, Element', Binary'}
-use Rattle.layer_mean.specs.contracts.layer.Expression as expression
+use Rattle.first_mean.specs.Tree.{ExpressionTree, number, me, count, local, element, binary}
+use Rattle.first_mean.specs.View.{expression_tree}
+use Rattle.first_mean.specs.declared.layer.Expression.{Expression}
+use Rattle.first_mean.specs.declared.layer.Expression.TheVariants.{Number, Me, Count, Local, Element', Binary'}
+use Rattle.first_mean.specs.contracts.layer.Expression as expression
 
 -- A box that stands nowhere.
 abbrev pub nowhere : Box (Unit {0}) Global

@@ -1,9 +1,9 @@
 -- What the running of statements leaves.
 use Rattle.std.specs.Prelude.{◌≡◌, List, ◌++◌}
 use Rattle.layer_ast.specs.declared.tokens.Dir.{Dir}
-use Rattle.layer_mean.specs.declared.run.Event.{Event}
-use Rattle.layer_mean.specs.State.{State}
-use Rattle.layer_mean.specs.Effect.{Outcome}
+use Rattle.first_mean.specs.declared.run.Event.{Event}
+use Rattle.first_mean.specs.State.{State}
+use Rattle.first_mean.specs.Effect.{Outcome}
 
 -- An outcome has come about: its state is reached, and its events are sent behind those before.
 pub record Did (o : Outcome) (reached : State) (before behind : List (Dir × Event)) : Type 0 where

@@ -1,7 +1,7 @@
 -- A layer at work.
 use Rattle.std.specs.Prelude.{ℕ}
-use Rattle.layer_mean.specs.Tree.{LayerTree}
-use Rattle.layer_mean.specs.State.{State}
+use Rattle.first_mean.specs.Tree.{LayerTree}
+use Rattle.first_mean.specs.State.{State}
 
 -- A layer of one member: its place in the stack, lowest 0, what it does, and its state.
 pub record LayerAt : Type 0 where

@@ -1,9 +1,9 @@
 //! What statements do.
 
 ghost use Rattle.std.specs.Prelude.{◌≡◌, [], ◌∷◌, ◌++◌, IfOk, OnOk, map};
-ghost use Rattle.layer_mean.specs.Effect.{does, does_all, sent_as};
-ghost use Rattle.layer_mean.specs.Value.{val};
-ghost use Rattle.layer_mean.specs.View.{expression_tree, statement_tree};
+ghost use Rattle.first_mean.specs.Effect.{does, does_all, sent_as};
+ghost use Rattle.first_mean.specs.Value.{val};
+ghost use Rattle.first_mean.specs.View.{expression_tree, statement_tree};
 ghost use Rattle.layer_eval.specs.Did.{Did};
 
 use crate::emits::Emits;
@@ -11,7 +11,7 @@ use crate::entered::Entered;
 use crate::value::number;
 use cell_store::Cells;
 use layer_ast::{Dir, Kind};
-use layer_mean::{Event, FieldExpressions, Statement};
+use first_mean::{Event, FieldExpressions, Statement};
 use msg_core::{Fields, Header, Memory, Message};
 use std::alloc::Global;
 

@@ -3,7 +3,7 @@
 ghost use Rattle.std.specs.Prelude.{◌≡◌, ◌↔◌, [], ◌∷◌, ◌++◌, IsTrue, OnErr, OnOk, length};
 
 use layer_ast::Dir;
-use layer_mean::Event;
+use first_mean::Event;
 use msg_core::Memory;
 use std::alloc::Global;
 use std::marker::Model;
@@ -18,7 +18,7 @@ pub struct Emits {
 impl Model for Emits {
     ghost use Rattle.std.specs.Prelude.{List};
     ghost use Rattle.layer_ast.specs.declared.tokens.Dir.{Dir};
-    ghost use Rattle.layer_mean.specs.declared.run.Event.{Event};
+    ghost use Rattle.first_mean.specs.declared.run.Event.{Event};
 
     ghost Value = { List (Dir × Event) };
 

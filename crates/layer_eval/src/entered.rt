@@ -16,7 +16,7 @@ pub struct Entered {
 
 impl Model for Entered {
     ghost use Rattle.std.specs.Prelude.{◌∷◌};
-    ghost use Rattle.layer_mean.specs.Value.{Scope};
+    ghost use Rattle.first_mean.specs.Value.{Scope};
 
     ghost Value = { Scope };
 

@@ -6,7 +6,7 @@ use crate::emits::Emits;
 use crate::visit::visit;
 use cell_store::Cells;
 use layer_ast::Dir;
-use layer_mean::{Event, Layer};
+use first_mean::{Event, Layer};
 use msg_core::Memory;
 use std::alloc::Global;
 use std::marker::Model;
@@ -24,7 +24,7 @@ pub struct FileLayer {
 impl Model for FileLayer {
     ghost use Rattle.std.specs.Coded.{codes};
     ghost use Rattle.std.specs.Rc.{rc_value};
-    ghost use Rattle.layer_mean.specs.View.{layer_tree};
+    ghost use Rattle.first_mean.specs.View.{layer_tree};
     ghost use Rattle.layer_eval.specs.LayerAt.{LayerAt};
     ghost use Rattle.layer_eval.specs.Codes.{expression_code};
 
@@ -37,9 +37,9 @@ impl Model for FileLayer {
 
 impl FileLayer {
     ghost use Rattle.std.specs.Rc.{rc_value};
-    ghost use Rattle.layer_mean.specs.State.{fresh};
-    ghost use Rattle.layer_mean.specs.View.{layer_tree};
-    ghost use Rattle.layer_mean.specs.Visit.{step};
+    ghost use Rattle.first_mean.specs.State.{fresh};
+    ghost use Rattle.first_mean.specs.View.{layer_tree};
+    ghost use Rattle.first_mean.specs.Visit.{step};
 
     /// A layer that has seen no event, at the member with rank `me` of `count`.
     pub fn fresh(

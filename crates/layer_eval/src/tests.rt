@@ -1,6 +1,6 @@
 use crate::{Emits, FileLayer};
 use layer_ast::{Dir, Kind, Word};
-use layer_mean::{
+use first_mean::{
     Cell, Event, Expression, FieldExpressions, Form, Handler, HeaderForm, Layer, Operator,
     Statement,
 };

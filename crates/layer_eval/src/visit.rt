@@ -4,8 +4,8 @@ ghost use Rattle.std.specs.Prelude.{◌≡◌, ◌∷◌, ◌++◌, OnOk, option
 ghost use Rattle.std.specs.Option.{option_copied};
 ghost use Rattle.std.specs.List.{find};
 ghost use Rattle.msg_core.specs.Chain.{Content};
-ghost use Rattle.layer_mean.specs.View.{layer_tree, handler_tree};
-ghost use Rattle.layer_mean.specs.Visit.{step, met, is_for, unhandled};
+ghost use Rattle.first_mean.specs.View.{layer_tree, handler_tree};
+ghost use Rattle.first_mean.specs.Visit.{step, met, is_for, unhandled};
 ghost use Rattle.layer_eval.specs.Did.{Did};
 
 use crate::effect::{run_block, sent_as};
@@ -13,14 +13,14 @@ use crate::emits::Emits;
 use crate::entered::Entered;
 use cell_store::Cells;
 use layer_ast::{Dir, Kind};
-use layer_mean::{Event, Handler, Layer};
+use first_mean::{Event, Handler, Layer};
 use msg_core::{Fields, Header, Memory, Message};
 use std::alloc::Global;
 use std::marker::Model;
 
 /// One visit of the layer at `place`: the handler for the event runs its block; with no handler the
 /// event passes, or is dropped.
-#[tactic(auto, unfolding(layer_mean::specs::Visit::step))]
+#[tactic(auto, unfolding(first_mean::specs::Visit::step))]
 pub fn visit(
     alloc: Global,
     place: u8,
@@ -60,7 +60,7 @@ struct Met {
 }
 
 impl Model for Met {
-    ghost use Rattle.layer_mean.specs.Visit.{Met as Meeting};
+    ghost use Rattle.first_mean.specs.Visit.{Met as Meeting};
 
     ghost Value = { Meeting };
 

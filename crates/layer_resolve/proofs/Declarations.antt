@@ -7,8 +7,8 @@ use Rattle.std.specs.List.{list_all}
 use Rattle.layer_ast.specs.Tree.{DeclarationTree, int, header}
 use Rattle.layer_ast.specs.View.{declaration_tree}
 use Rattle.layer_ast.specs.declared.syntax.Declaration.{Declaration}
-use Rattle.layer_mean.specs.View.{header_tree}
-use Rattle.layer_mean.specs.declared.layer.HeaderForm.{HeaderForm}
+use Rattle.first_mean.specs.View.{header_tree}
+use Rattle.first_mean.specs.declared.layer.HeaderForm.{HeaderForm}
 use Rattle.layer_resolve.specs.Names.{words, has_labels, is_small, declared_header, declared_headers, all_different}
 
 -- what is there only under a test

@@ -7,10 +7,10 @@ use Rattle.layer_ast.specs.declared.names.Name.{Name}
 use Rattle.layer_ast.specs.declared.names.Word.{Word}
 use Rattle.layer_ast.specs.declared.syntax.Shape.{Shape}
 use Rattle.layer_ast.specs.declared.syntax.Shape.TheVariants as written
-use Rattle.layer_mean.specs.Tree.{CellTree, HeaderTree}
-use Rattle.layer_mean.specs.declared.layer.Form.{Form}
-use Rattle.layer_mean.specs.declared.layer.Form.TheVariants.{Number, Array}
-use Rattle.layer_mean.specs.contracts.layer.Form as form_row
+use Rattle.first_mean.specs.Tree.{CellTree, HeaderTree}
+use Rattle.first_mean.specs.declared.layer.Form.{Form}
+use Rattle.first_mean.specs.declared.layer.Form.TheVariants.{Number, Array}
+use Rattle.first_mean.specs.contracts.layer.Form as form_row
 
 -- The words of names with commas between them, which may be left out.
 abbrev pub words : Option NamesTree → List Word

@@ -4,10 +4,10 @@ use Rattle.std.specs.Option.{option_or}
 use Rattle.layer_ast.specs.Tree as ast
 use Rattle.layer_ast.specs.declared.syntax.Operator as ast_operator
 use Rattle.layer_ast.specs.declared.syntax.Operator.TheVariants as written
-use Rattle.layer_mean.specs.Tree.{ExpressionTree, number, me, count, local, element, binary}
-use Rattle.layer_mean.specs.declared.layer.Form.TheVariants.{Number, Array}
-use Rattle.layer_mean.specs.declared.layer.Operator.{Operator}
-use Rattle.layer_mean.specs.declared.layer.Operator.TheVariants.{Add, Equal}
+use Rattle.first_mean.specs.Tree.{ExpressionTree, number, me, count, local, element, binary}
+use Rattle.first_mean.specs.declared.layer.Form.TheVariants.{Number, Array}
+use Rattle.first_mean.specs.declared.layer.Operator.{Operator}
+use Rattle.first_mean.specs.declared.layer.Operator.TheVariants.{Add, Equal}
 use Rattle.layer_resolve.specs.Names.{Scope, cell_number, local_number}
 
 -- What two things make, where there are both.

@@ -7,8 +7,8 @@ use Rattle.layer_ast.specs.declared.syntax.Place.{Place}
 use Rattle.layer_ast.specs.declared.tokens.Dir.{Dir}
 use Rattle.layer_ast.specs.declared.tokens.Dir.TheVariants.{Up, Down}
 use Rattle.layer_ast.specs.declared.tokens.Kind.TheVariants.{Cast}
-use Rattle.layer_mean.specs.Tree.{ExpressionTree, HandlerTree, LayerTree}
-use Rattle.layer_mean.specs.Visit.{is_for}
+use Rattle.first_mean.specs.Tree.{ExpressionTree, HandlerTree, LayerTree}
+use Rattle.first_mean.specs.Visit.{is_for}
 use Rattle.layer_resolve.specs.Names.{words, popped_words, Declared, declared, Scope, scope_with, header_tag}
 use Rattle.layer_resolve.specs.Numbers.{both, each, number_of}
 use Rattle.layer_resolve.specs.Statements.{is_cast, statements_of}

@@ -6,8 +6,8 @@ use Rattle.layer_ast.specs.declared.tokens.Dir.TheVariants.{Up, Down}
 use Rattle.layer_ast.specs.declared.tokens.Kind.{Kind}
 use Rattle.layer_ast.specs.declared.tokens.Kind.TheVariants.{Cast}
 use Rattle.layer_ast.specs.declared.names.Name.{Name}
-use Rattle.layer_mean.specs.Tree.{ExpressionTree, number, StatementTree, assign, emit}
-use Rattle.layer_mean.specs.declared.layer.Form.TheVariants.{Number, Array}
+use Rattle.first_mean.specs.Tree.{ExpressionTree, number, StatementTree, assign, emit}
+use Rattle.first_mean.specs.declared.layer.Form.TheVariants.{Number, Array}
 use Rattle.layer_resolve.specs.Names.{Scope, cell_number, header_tag}
 use Rattle.layer_resolve.specs.Numbers.{both, each, number_of}
 

@@ -2,17 +2,17 @@
 
 ghost use Rattle.std.specs.Prelude.{◌≡◌, ◌≤◌, map, length, option_map, filter_map, IfOk, OnOk, OnSome, Some, None, true, option_to_list, ◌++◌, if◌then◌else◌, ◌&&◌, ◌==◌, not, position, bytes_eq};
 ghost use denote.Enum.Bare.{sameb};
-ghost use Rattle.layer_mean.specs.contracts.layer.Form as form_row;
+ghost use Rattle.first_mean.specs.contracts.layer.Form as form_row;
 ghost use Rattle.std.specs.List.{list_all};
 ghost use Rattle.layer_ast.specs.View.{declaration_tree, names_tree};
-ghost use Rattle.layer_mean.specs.View.{cell_tree, header_tree};
+ghost use Rattle.first_mean.specs.View.{cell_tree, header_tree};
 ghost use Rattle.layer_resolve.specs.Names as spec;
 ghost use Rattle.layer_resolve.specs.Answer.{Answers};
 
 use crate::error::ResolveError;
 use crate::words::{all_different, count, is_among, is_same, words};
 use layer_ast::{Declaration, Names, Shape, Word};
-use layer_mean::{Cell, Form, HeaderForm};
+use first_mean::{Cell, Form, HeaderForm};
 use std::alloc::{AllocError, Global};
 use std::marker::Model;
 
@@ -36,7 +36,7 @@ pub struct Declared {
 impl Model for Declared {
     ghost use Rattle.std.specs.Prelude.{◌≡◌, ◌≤◌, map, length, true};
     ghost use Rattle.std.specs.List.{list_all};
-    ghost use Rattle.layer_mean.specs.View.{cell_tree, header_tree};
+    ghost use Rattle.first_mean.specs.View.{cell_tree, header_tree};
     ghost use Rattle.layer_resolve.specs.Names as spec;
 
     ghost Value = { spec.Declared };

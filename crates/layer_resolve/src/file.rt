@@ -2,7 +2,7 @@
 
 ghost use Rattle.std.specs.Prelude.{◌≡◌, ◌∷◌, [], map};
 ghost use Rattle.layer_ast.specs.View as written;
-ghost use Rattle.layer_mean.specs.View.{layer_tree, handler_tree};
+ghost use Rattle.first_mean.specs.View.{layer_tree, handler_tree};
 ghost use Rattle.layer_resolve.specs.Stack as spec;
 ghost use Rattle.layer_resolve.specs.Answer.{Answers};
 
@@ -11,7 +11,7 @@ use crate::error::ResolveError;
 use crate::handler::{all_apart, handlers};
 use crate::words::is_same;
 use layer_ast::{File, Word};
-use layer_mean::{Handler, Layer};
+use first_mean::{Handler, Layer};
 use std::alloc::Global;
 
 /// The most handlers of a layer.

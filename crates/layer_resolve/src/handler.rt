@@ -2,9 +2,9 @@
 
 ghost use Rattle.std.specs.Prelude.{◌≡◌, ◌≤◌, length, map, option_map, OnOk};
 ghost use Rattle.std.specs.List.{list_any};
-ghost use Rattle.layer_mean.specs.Visit.{is_for};
+ghost use Rattle.first_mean.specs.Visit.{is_for};
 ghost use Rattle.layer_ast.specs.View as written;
-ghost use Rattle.layer_mean.specs.View.{expression_tree, handler_tree};
+ghost use Rattle.first_mean.specs.View.{expression_tree, handler_tree};
 ghost use Rattle.layer_resolve.specs.Names.{popped_words};
 ghost use Rattle.layer_resolve.specs.Numbers.{each};
 ghost use Rattle.layer_resolve.specs.Stack as spec;
@@ -17,7 +17,7 @@ use crate::scope::Scope;
 use crate::statement::{block, is_cast};
 use crate::words::count;
 use layer_ast::{Dir, Kind, Popped};
-use layer_mean::{Expression, Handler};
+use first_mean::{Expression, Handler};
 use std::alloc::Global;
 
 /// The tag of the header that a handler going up takes off.

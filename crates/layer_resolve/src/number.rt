@@ -3,14 +3,14 @@
 ghost use Rattle.std.specs.Prelude.{◌≡◌};
 ghost use Rattle.layer_ast.specs.Tree.{named};
 ghost use Rattle.layer_ast.specs.View as written;
-ghost use Rattle.layer_mean.specs.View.{expression_tree};
+ghost use Rattle.first_mean.specs.View.{expression_tree};
 ghost use Rattle.layer_resolve.specs.Numbers.{operator_of, number_of};
 ghost use Rattle.layer_resolve.specs.Answer.{Answers};
 
 use crate::error::ResolveError;
 use crate::scope::Scope;
 use layer_ast::Name;
-use layer_mean::{Expression, Form, Operator};
+use first_mean::{Expression, Form, Operator};
 use std::alloc::Global;
 
 fn operator(written: layer_ast::Operator) -> Operator

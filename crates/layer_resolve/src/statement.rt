@@ -2,7 +2,7 @@
 
 ghost use Rattle.std.specs.Prelude.{◌≡◌, ◌≤◌, ◌∷◌, map, length, Some, option_map};
 ghost use Rattle.layer_ast.specs.View as written;
-ghost use Rattle.layer_mean.specs.View.{expression_tree, statement_tree};
+ghost use Rattle.first_mean.specs.View.{expression_tree, statement_tree};
 ghost use Rattle.layer_resolve.specs.Numbers.{each, number_of};
 ghost use Rattle.layer_resolve.specs.Statements as spec;
 ghost use Rattle.layer_resolve.specs.Answer.{Answers};
@@ -11,7 +11,7 @@ use crate::error::ResolveError;
 use crate::number::number;
 use crate::scope::Scope;
 use layer_ast::{Arguments, Block, Dir, Kind, Name, Pushed};
-use layer_mean::{Expression, FieldExpressions, Form, Statement};
+use first_mean::{Expression, FieldExpressions, Form, Statement};
 use std::alloc::Global;
 
 /// Whether a kind is the one that is built so far.

@@ -1,10 +1,10 @@
 -- Layers that may be missing.
 use Rattle.std.specs.Prelude.{◌≡◌, ℕ, List, Option, Some, None}
 use denote.Ref.{Bor}
-use Rattle.layer_mean.specs.Tree.{LayerTree, no_layer}
-use Rattle.layer_mean.specs.View.{layer_tree}
-use Rattle.layer_mean.specs.declared.layer.Layer.{Layer}
-use Rattle.run_mean.specs.Text.{layer_number}
+use Rattle.first_mean.specs.Tree.{LayerTree, no_layer}
+use Rattle.first_mean.specs.View.{layer_tree}
+use Rattle.first_mean.specs.declared.layer.Layer.{Layer}
+use Rattle.first_run.specs.Text.{layer_number}
 
 -- The tree of a layer that is borrowed, and of none the layer without a name.
 abbrev pub shown_layer : Option (Bor Layer) → LayerTree

@@ -2,18 +2,18 @@
 
 ghost use Rattle.std.specs.Prelude.{◌≡◌, ◌+◌, ◌^◌, ◌<◌, ◌++◌, [], ◌∷◌, OnOk, IfOk, length, map};
 ghost use Rattle.std.specs.Rc.{rc_value};
-ghost use Rattle.layer_mean.specs.View.{stack_tree, layer_tree};
-ghost use Rattle.run_mean.specs.Report as report;
-ghost use Rattle.run_mean.specs.View.{did_of};
+ghost use Rattle.first_mean.specs.View.{stack_tree, layer_tree};
+ghost use Rattle.first_run.specs.Report as report;
+ghost use Rattle.first_run.specs.View.{did_of};
 ghost use Rattle.script_mean.specs.Event.{member_of};
 
 use crate::line::Line;
 use crate::step::{absent_line, cell_line, push_output, refused_line, state_line};
 use cell_store::Cells;
 use layer_ast::Dir;
-use layer_mean::{Event, Layer};
+use first_mean::{Event, Layer};
 use msg_core::{Memory, View};
-use run_mean::Did;
+use first_run::Did;
 use script_mean::ScriptEvent;
 use std::alloc::Global;
 use std::rc::Rc;

@@ -3,16 +3,16 @@
 ghost use Rattle.std.specs.Prelude.{◌≡◌, ◌++◌, OnOk, IfOk, ◌+◌, ◌^◌, ◌<◌, ◌∷◌, []};
 ghost use Rattle.std.specs.List.{join_by};
 ghost use Rattle.std.specs.Fmt.{decimal};
-ghost use Rattle.layer_mean.specs.View.{stack_tree, layer_tree, cell_tree};
-ghost use Rattle.run_mean.specs.Text.{header_text, chain_text, header_name};
-ghost use Rattle.run_mean.specs.Report as report;
+ghost use Rattle.first_mean.specs.View.{stack_tree, layer_tree, cell_tree};
+ghost use Rattle.first_run.specs.Text.{header_text, chain_text, header_name};
+ghost use Rattle.first_run.specs.Report as report;
 ghost use Rattle.report_text.specs.Layer.{IsLayerAt, shown_layer};
 ghost use Rattle.report_text.specs.Lead.{lead};
 ghost use Rattle.report_text.specs.Lines.{written};
 
 use crate::line::Line;
 use layer_ast::Dir;
-use layer_mean::{Cell, Event, Layer};
+use first_mean::{Cell, Event, Layer};
 use msg_core::{Fields, Header, Memory, Message, Stray, View};
 use std::alloc::Global;
 use std::rc::Rc;

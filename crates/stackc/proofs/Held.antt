@@ -4,11 +4,11 @@ use Rattle.std.proofs.lemmas.List.{take_all}
 use Rattle.std.proofs.lemmas.List.Folds.{concat-append}
 use Rattle.std.specs.Prelude.{Result, Ok, Err}
 use Rattle.std.specs.List.{concat}
-use Rattle.layer_mean.specs.Tree.{LayerTree}
+use Rattle.first_mean.specs.Tree.{LayerTree}
 use Rattle.script_mean.specs.declared.event.ScriptEvent.{ScriptEvent}
 use Rattle.script_mean.specs.declared.script.Script.{Script}
-use Rattle.run_mean.specs.World.{World, happens, members_below, new_member, first_world}
-use Rattle.run_mean.specs.Report.{story, told, event_lines, report, report_lines, end_line}
+use Rattle.first_run.specs.World.{World, happens, members_below, new_member, first_world}
+use Rattle.first_run.specs.Report.{story, told, event_lines, report, report_lines, end_line}
 use Rattle.world_core.specs.Play.{Play}
 use Rattle.stackc.specs.declared.fault.Fault.{Fault}
 use Rattle.stackc.specs.declared.fault.Fault.TheVariants.{Words, FileTooLarge, FileLater, ScriptTooLong, ScriptLater, Read, Write, Memory}

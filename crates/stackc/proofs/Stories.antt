@@ -7,12 +7,12 @@ use Rattle.std.specs.Prelude.{◌==◌, if◌then◌else◌}
 use Rattle.std.specs.List.{fold, concat}
 use Rattle.msg_core.specs.declared.packet.Packet.{Packet}
 use Rattle.msg_core.specs.declared.packet.Stray.TheVariants.{Sender}
-use Rattle.layer_mean.specs.Tree.{LayerTree}
+use Rattle.first_mean.specs.Tree.{LayerTree}
 use Rattle.script_mean.specs.declared.event.ScriptEvent.{ScriptEvent}
 use Rattle.script_mean.specs.declared.event.ScriptEvent.TheVariants as script
 use Rattle.script_mean.specs.declared.script.Script.{Script}
-use Rattle.run_mean.specs.World.{World, Happening, happens, given, only, refused, stepped, packet_task, packet_number, member_at}
-use Rattle.run_mean.specs.Report.{Story, told, story, event_lines, report, report_lines, end_line}
+use Rattle.first_run.specs.World.{World, Happening, happens, given, only, refused, stepped, packet_task, packet_number, member_at}
+use Rattle.first_run.specs.Report.{Story, told, story, event_lines, report, report_lines, end_line}
 
 -- members neither come nor go
 abbrev Stays : World → Happening → Type 0

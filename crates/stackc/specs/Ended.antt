@@ -2,9 +2,9 @@
 use Rattle.std.specs.Prelude.{◌≡◌, ℕ, List, codes, Option, Some, None, Result, Ok, Err, ◌⊎◌}
 use Rattle.std.specs.Option.{option_map}
 use Rattle.outside.specs.Shelf.{Shelved, after_read}
-use Rattle.layer_mean.specs.Tree.{LayerTree}
+use Rattle.first_mean.specs.Tree.{LayerTree}
 use Rattle.script_mean.specs.declared.script.Script.{Script}
-use Rattle.run_mean.specs.Report.{report}
+use Rattle.first_run.specs.Report.{report}
 use Rattle.stackc.specs.Job.{Replay}
 use Rattle.stackc.specs.Wrote.{Begins, Gains, Fails}
 use Rattle.stackc.specs.Fetched.{FindsNone, IsScript, IsTooLong, IsNoScript}

@@ -2,9 +2,9 @@
 use Rattle.std.specs.Prelude.{◌≡◌, ℕ, ◌≤◌, List, [], ◌∷◌, Option, Some, Result, Ok, Err, length}
 use Rattle.layer_ast.specs.Tree.{FileTree}
 use Rattle.layer_ast.specs.Spells.{Spells}
-use Rattle.layer_mean.specs.Tree.{LayerTree}
-use Rattle.layer_mean.specs.View.{layer_tree}
-use Rattle.layer_mean.specs.declared.layer.Layer.{Layer}
+use Rattle.first_mean.specs.Tree.{LayerTree}
+use Rattle.first_mean.specs.View.{layer_tree}
+use Rattle.first_mean.specs.declared.layer.Layer.{Layer}
 use Rattle.layer_resolve.specs.Stack.{stack_of}
 use Rattle.outside.specs.Shelf.{Shelved}
 use Rattle.stackc.specs.Fetched.{Finds, FindsMore, FindsNone}

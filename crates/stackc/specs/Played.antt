@@ -1,10 +1,10 @@
 -- What one event of a script came to on a sink.
 use Rattle.std.specs.Prelude.{◌≡◌, ℕ, List, [], ◌∷◌, Option, Result, Ok, Err}
 use Rattle.std.specs.List.{concat}
-use Rattle.layer_mean.specs.Tree.{LayerTree}
+use Rattle.first_mean.specs.Tree.{LayerTree}
 use Rattle.script_mean.specs.declared.event.ScriptEvent.{ScriptEvent}
-use Rattle.run_mean.specs.World.{happens}
-use Rattle.run_mean.specs.Report.{event_lines}
+use Rattle.first_run.specs.World.{happens}
+use Rattle.first_run.specs.Report.{event_lines}
 use Rattle.world_core.specs.Play.{Play}
 use Rattle.stackc.specs.Wrote.{Begins, Gains, Fails}
 use Rattle.stackc.specs.declared.fault.Fault.{Fault}

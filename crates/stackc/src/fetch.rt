@@ -9,7 +9,7 @@ ghost use Rattle.stackc.specs.Fetched.{ReadsScript, Judges};
 ghost use Rattle.stackc.specs.File.{ReadsStack, JudgesStack, shown_layer, most_file};
 
 use crate::fault::Fault;
-use layer_mean::Layer;
+use first_mean::Layer;
 use layer_parse::{ParseError, parse};
 use layer_resolve::{ResolveError, resolve};
 use outside::{Got, Shelf, ShelfError};

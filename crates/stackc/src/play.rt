@@ -4,16 +4,16 @@
 ghost use Rattle.std.specs.Prelude.{◌≡◌, ◌<◌, ◌∷◌, [], OnOk, length};
 ghost use Rattle.std.specs.List.{concat};
 ghost use Rattle.std.specs.Rc.{rc_value};
-ghost use Rattle.layer_mean.specs.View.{layer_tree};
+ghost use Rattle.first_mean.specs.View.{layer_tree};
 ghost use Rattle.script_mean.specs.Event.{member_of};
 ghost use Rattle.script_mean.specs.Script.{IsRunnable};
-ghost use Rattle.run_mean.specs.Report.{report, end_line};
+ghost use Rattle.first_run.specs.Report.{report, end_line};
 ghost use Rattle.stackc.specs.Wrote.{Wrote};
 ghost use Rattle.stackc.specs.Played.{Played, Lined, Stands};
 
 use crate::fault::Fault;
 use layer_eval::Emits;
-use layer_mean::Layer;
+use first_mean::Layer;
 use msg_core::Memory;
 use outside::{Sink, SinkError};
 use report_text::{Line, end_line, event_lines, member_of};

@@ -4,13 +4,13 @@ use Rattle.std.specs.List.{find, fold, filter}
 use Rattle.std.specs.Prelude.{cond, if◌then◌else◌, ◌==◌}
 use Rattle.layer_ast.specs.declared.tokens.Dir.{Dir}
 use Rattle.layer_ast.specs.declared.tokens.Dir.TheVariants.{Up, Down}
-use Rattle.layer_mean.specs.declared.run.Event.{Event}
-use Rattle.layer_mean.specs.Tree.{LayerTree, HandlerTree, StatementTree, assign, emit}
-use Rattle.layer_mean.specs.State.{State}
-use Rattle.layer_mean.specs.Value.{Scope}
-use Rattle.layer_mean.specs.Effect.{Outcome, after, start, does, does_all}
-use Rattle.layer_mean.specs.Visit.{step, Met, met, handled, unhandled, is_for}
-use Rattle.layer_mean.specs.Queue.{run, run_for, layers, Line, Work, tasks_of, emissions, is_emission}
+use Rattle.first_mean.specs.declared.run.Event.{Event}
+use Rattle.first_mean.specs.Tree.{LayerTree, HandlerTree, StatementTree, assign, emit}
+use Rattle.first_mean.specs.State.{State}
+use Rattle.first_mean.specs.Value.{Scope}
+use Rattle.first_mean.specs.Effect.{Outcome, after, start, does, does_all}
+use Rattle.first_mean.specs.Visit.{step, Met, met, handled, unhandled, is_for}
+use Rattle.first_mean.specs.Queue.{run, run_for, layers, Line, Work, tasks_of, emissions, is_emission}
 
 -- tasks at the edges come out in their order
 drains : (stack : List LayerTree) (k : ℕ) (sent : List (Dir × Event)) (states : List State) (outs : List (Dir × Event)) →

@@ -9,14 +9,14 @@ use Rattle.std.proofs.lemmas.Option.{slice_get-get_or}
 use Rattle.std.specs.List.{filter}
 use Rattle.msg_core.specs.declared.packet.Packet.{Packet}
 use Rattle.layer_ast.specs.declared.tokens.Dir.{Dir}
-use Rattle.layer_mean.specs.declared.run.Event.{Event}
-use Rattle.layer_mean.specs.Tree.{LayerTree}
-use Rattle.layer_mean.specs.Effect.{Outcome}
-use Rattle.layer_mean.specs.Visit.{step}
-use Rattle.layer_mean.specs.Queue.{run, Task, Line, Work}
-use Rattle.run_mean.specs.World as world
-use Rattle.run_mean.specs.World.{World, stepped, given, packet_number, packet_task, member_at, nobody, is_lower, packet_of}
-use Rattle.run_mean.specs.declared.Did.TheVariants.{Took}
+use Rattle.first_mean.specs.declared.run.Event.{Event}
+use Rattle.first_mean.specs.Tree.{LayerTree}
+use Rattle.first_mean.specs.Effect.{Outcome}
+use Rattle.first_mean.specs.Visit.{step}
+use Rattle.first_mean.specs.Queue.{run, Task, Line, Work}
+use Rattle.first_run.specs.World as world
+use Rattle.first_run.specs.World.{World, stepped, given, packet_number, packet_task, member_at, nobody, is_lower, packet_of}
+use Rattle.first_run.specs.declared.Did.TheVariants.{Took}
 use Rattle.world_core.specs.declared.world.Member.{Member}
 use Rattle.world_core.specs.Members.{shown_member, Runs}
 use Rattle.world_core.specs.Play.{Play, Fed}

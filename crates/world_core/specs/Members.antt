@@ -1,8 +1,8 @@
 -- Members of a world of one layer.
 use Rattle.std.specs.Prelude.{◌≡◌, ℕ, List, [], ◌∷◌}
-use Rattle.layer_mean.specs.Tree.{LayerTree}
-use Rattle.layer_mean.specs.State.{fresh}
-use Rattle.run_mean.specs.World as world
+use Rattle.first_mean.specs.Tree.{LayerTree}
+use Rattle.first_mean.specs.State.{fresh}
+use Rattle.first_run.specs.World as world
 use Rattle.world_core.specs.declared.world.Member.{Member}
 
 -- The member of the definitions that a member is.

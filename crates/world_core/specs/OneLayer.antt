@@ -1,11 +1,11 @@
 -- Runs of a stack of one layer.
 use Rattle.std.specs.Prelude.{◌≡◌, ℕ, List, [], ◌∷◌}
 use Rattle.layer_ast.specs.declared.tokens.Dir.{Dir}
-use Rattle.layer_mean.specs.declared.run.Event.{Event}
-use Rattle.layer_mean.specs.Tree.{LayerTree}
-use Rattle.layer_mean.specs.State.{State}
-use Rattle.layer_mean.specs.Visit.{step}
-use Rattle.layer_mean.specs.Queue.{run}
+use Rattle.first_mean.specs.declared.run.Event.{Event}
+use Rattle.first_mean.specs.Tree.{LayerTree}
+use Rattle.first_mean.specs.State.{State}
+use Rattle.first_mean.specs.Visit.{step}
+use Rattle.first_mean.specs.Queue.{run}
 
 -- One visit, whose emissions are the outputs in their order.
 abbrev pub OneVisit : Type 0

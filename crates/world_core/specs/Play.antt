@@ -4,11 +4,11 @@ use Rattle.std.specs.List.{All}
 use Rattle.msg_core.specs.declared.packet.Packet.{Packet}
 use Rattle.msg_core.specs.declared.packet.View.{View}
 use Rattle.layer_ast.specs.declared.tokens.Dir.{Dir}
-use Rattle.layer_mean.specs.declared.run.Event.{Event}
-use Rattle.layer_mean.specs.Tree.{LayerTree}
-use Rattle.run_mean.specs.World.{World, Member, Happening, packet_of, nobody}
-use Rattle.run_mean.specs.View.{did_of}
-use Rattle.run_mean.specs.declared.Did.{Did}
+use Rattle.first_mean.specs.declared.run.Event.{Event}
+use Rattle.first_mean.specs.Tree.{LayerTree}
+use Rattle.first_run.specs.World.{World, Member, Happening, packet_of, nobody}
+use Rattle.first_run.specs.View.{did_of}
+use Rattle.first_run.specs.declared.Did.{Did}
 use Rattle.world_core.specs.declared.packets.Sender.{Sender}
 
 -- What a world shows to contracts: its stack, lowest layer first, and the world of the definitions.

@@ -2,11 +2,11 @@
 
 ghost use Rattle.std.specs.Prelude.{◌≡◌, ◌++◌, OnOk, map};
 ghost use Rattle.std.specs.List.{filter};
-ghost use Rattle.run_mean.specs.World.{is_lower};
+ghost use Rattle.first_run.specs.World.{is_lower};
 ghost use Rattle.world_core.specs.Play.{packet_in};
 
 use layer_ast::Dir;
-use layer_mean::Event;
+use first_mean::Event;
 use msg_core::{Dest, Memory, Packet, View};
 use std::alloc::Global;
 

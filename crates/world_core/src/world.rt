@@ -2,10 +2,10 @@
 
 ghost use Rattle.std.specs.Prelude.{◌≡◌, ℕ, ◌+◌, ◌^◌, ◌≤◌, ◌<◌, ◌∷◌, [], OnOk, IfOk, length};
 ghost use Rattle.std.specs.Rc.{rc_value};
-ghost use Rattle.layer_mean.specs.View.{layer_tree, stack_tree};
-ghost use Rattle.run_mean.specs.World.{first_world, first_view, happens, stepped, given, member_at, packet_number};
+ghost use Rattle.first_mean.specs.View.{layer_tree, stack_tree};
+ghost use Rattle.first_run.specs.World.{first_world, first_view, happens, stepped, given, member_at, packet_number};
 ghost use Rattle.script_mean.specs.Event.{member_of};
-ghost use Rattle.run_mean.specs.declared.Did.TheVariants.{Took};
+ghost use Rattle.first_run.specs.declared.Did.TheVariants.{Took};
 ghost use Rattle.world_core.specs.Play.{Fed};
 ghost use Rattle.world_core.specs.Members.{IsNew};
 
@@ -13,9 +13,9 @@ use crate::packets::{Sender, send};
 use cell_store::Cells;
 use layer_ast::{Dir, Kind};
 use layer_eval::{Emits, FileLayer};
-use layer_mean::{Event, Layer};
+use first_mean::{Event, Layer};
 use msg_core::{Memory, Message, Packet, Stray, View};
-use run_mean::Did;
+use first_run::Did;
 use script_mean::{Script, ScriptEvent};
 use std::alloc::Global;
 use std::marker::Model;
@@ -45,7 +45,7 @@ impl Model for World {
     ghost use Rattle.std.specs.List.{All};
     ghost use Rattle.std.specs.Rc.{rc_value};
     ghost use Rattle.std.specs.Coded.{codes};
-    ghost use Rattle.layer_mean.specs.View.{layer_tree};
+    ghost use Rattle.first_mean.specs.View.{layer_tree};
     ghost use Rattle.layer_eval.specs.Codes.{expression_code};
     ghost use Rattle.world_core.specs.Play.{Play};
     ghost use Rattle.world_core.specs.Members.{shown_member, Runs};

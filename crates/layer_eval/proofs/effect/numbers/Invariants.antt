@@ -1,6 +1,6 @@
 use Rattle.std.proofs.Common.{◌≡◌, take, map}
-use Rattle.layer_mean.specs.Value.{val}
-use Rattle.layer_mean.specs.View.{expression_tree}
+use Rattle.first_mean.specs.Value.{val}
+use Rattle.first_mean.specs.View.{expression_tree}
 use Rattle.layer_eval.proofs.effect.numbers.Given as goal
 
 abbrev pub invariant-loop-expression : goal.invariant-loop-expression

@@ -1,6 +1,6 @@
 use Rattle.std.proofs.Common.{take, map}
-use Rattle.layer_mean.specs.Effect.{does_all}
-use Rattle.layer_mean.specs.View.{statement_tree}
+use Rattle.first_mean.specs.Effect.{does_all}
+use Rattle.first_mean.specs.View.{statement_tree}
 use Rattle.layer_eval.specs.Did.{Did}
 use Rattle.layer_eval.proofs.effect.run_all.Given as goal
 

@@ -1,8 +1,8 @@
 use Rattle.std.proofs.Common.{◌≡◌, refl, ap, sym, ◌∙◌, Some, None}
 use Rattle.std.specs.List.{find}
 use Rattle.std.specs.Option.{option_copied}
-use Rattle.layer_mean.specs.View.{handler_tree}
-use Rattle.layer_mean.specs.Visit.{step, is_for}
+use Rattle.first_mean.specs.View.{handler_tree}
+use Rattle.first_mean.specs.Visit.{step, is_for}
 use Rattle.layer_eval.proofs.Finds.{find-map}
 use Rattle.layer_eval.proofs.visit.visit.Goals as goal
 

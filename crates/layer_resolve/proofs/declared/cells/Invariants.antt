@@ -1,6 +1,6 @@
 use Rattle.std.proofs.Common.{◌≡◌, map, filter_map, take}
 use Rattle.layer_ast.specs.View.{declaration_tree}
-use Rattle.layer_mean.specs.View.{cell_tree}
+use Rattle.first_mean.specs.View.{cell_tree}
 use Rattle.layer_resolve.specs.Names as spec
 use Rattle.layer_resolve.proofs.declared.cells.Given as goal
 

@@ -1,9 +1,9 @@
 use Rattle.std.proofs.Common.{map, ap, ◌∙◌, sym, option_map, Some, None, if◌then◌else◌, take, Vec, Global}
-use Rattle.layer_mean.specs.declared.layer.HeaderForm.{HeaderForm}
+use Rattle.first_mean.specs.declared.layer.HeaderForm.{HeaderForm}
 use Rattle.std.proofs.lemmas.Result.{err_from_is_err_and}
 use Rattle.layer_resolve.proofs.Exits.{err_passes}
 use Rattle.layer_ast.specs.View.{declaration_tree}
-use Rattle.layer_mean.specs.View.{header_tree}
+use Rattle.first_mean.specs.View.{header_tree}
 use Rattle.layer_resolve.specs.Names as spec
 use Rattle.layer_resolve.proofs.Lists.{kept_more, all_more}
 use Rattle.layer_resolve.proofs.Declarations.{test_passed, test_failed, labels_stop, small_headers}

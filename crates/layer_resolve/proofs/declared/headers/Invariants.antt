@@ -1,7 +1,7 @@
 use Rattle.std.proofs.Common.{◌≡◌, map, filter_map, take, true}
 use Rattle.std.specs.List.{list_all}
 use Rattle.layer_ast.specs.View.{declaration_tree}
-use Rattle.layer_mean.specs.View.{header_tree}
+use Rattle.first_mean.specs.View.{header_tree}
 use Rattle.layer_resolve.specs.Names as spec
 use Rattle.layer_resolve.proofs.declared.headers.Given as goal
 

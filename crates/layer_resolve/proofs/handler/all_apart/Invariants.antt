@@ -1,5 +1,5 @@
 use Rattle.std.proofs.Common.{◌≡◌, map, length}
-use Rattle.layer_mean.specs.View.{handler_tree}
+use Rattle.first_mean.specs.View.{handler_tree}
 use Rattle.layer_resolve.specs.Stack as spec
 use Rattle.layer_resolve.proofs.handler.all_apart.Given as goal
 

@@ -1,6 +1,6 @@
 use Rattle.std.proofs.Common.{◌≡◌, Some, map, take}
 use Rattle.layer_ast.specs.View as written
-use Rattle.layer_mean.specs.View.{handler_tree}
+use Rattle.first_mean.specs.View.{handler_tree}
 use Rattle.layer_resolve.specs.Numbers.{each}
 use Rattle.layer_resolve.specs.Stack.{handler_of}
 use Rattle.layer_resolve.proofs.handler.handlers.Given as goal

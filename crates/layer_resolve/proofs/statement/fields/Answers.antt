@@ -3,7 +3,7 @@ use Rattle.std.proofs.lemmas.List.{length-map}
 use Rattle.layer_ast.specs.View as written
 use Rattle.layer_ast.specs.declared.syntax.Arguments.{Arguments}
 use Rattle.layer_ast.specs.declared.syntax.Expression as ast
-use Rattle.layer_mean.specs.View.{expression_tree}
+use Rattle.first_mean.specs.View.{expression_tree}
 use Rattle.layer_resolve.specs.Numbers.{number_of, each}
 use Rattle.layer_resolve.specs.Statements as spec
 use Rattle.layer_resolve.proofs.Each.{each_count}

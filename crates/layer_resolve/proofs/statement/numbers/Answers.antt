@@ -1,8 +1,8 @@
 use Rattle.std.proofs.Common.{◌∷◌, ◌∙◌, [], List, Some, map, ap, sym, Vec, Global}
 use Rattle.std.proofs.lemmas.Result.{err_from_is_err_and}
 use Rattle.layer_ast.specs.View as written
-use Rattle.layer_mean.specs.View.{expression_tree}
-use Rattle.layer_mean.specs.declared.layer.Expression.{Expression}
+use Rattle.first_mean.specs.View.{expression_tree}
+use Rattle.first_mean.specs.declared.layer.Expression.{Expression}
 use Rattle.layer_resolve.specs.Numbers.{each, number_of}
 use Rattle.layer_resolve.proofs.Each.{each_next, each_never}
 use Rattle.layer_resolve.proofs.Exits.{err_passes}

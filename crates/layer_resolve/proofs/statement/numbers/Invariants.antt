@@ -1,6 +1,6 @@
 use Rattle.std.proofs.Common.{◌≡◌, ◌∷◌, Some, map, take}
 use Rattle.layer_ast.specs.View as written
-use Rattle.layer_mean.specs.View.{expression_tree}
+use Rattle.first_mean.specs.View.{expression_tree}
 use Rattle.layer_resolve.specs.Numbers.{each, number_of}
 use Rattle.layer_resolve.proofs.statement.numbers.Given as goal
 

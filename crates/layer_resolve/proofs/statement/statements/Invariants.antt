@@ -1,6 +1,6 @@
 use Rattle.std.proofs.Common.{◌≡◌, Some, map, take}
 use Rattle.layer_ast.specs.View as written
-use Rattle.layer_mean.specs.View.{statement_tree}
+use Rattle.first_mean.specs.View.{statement_tree}
 use Rattle.layer_resolve.specs.Numbers.{each}
 use Rattle.layer_resolve.specs.Statements.{statement_of}
 use Rattle.layer_resolve.proofs.statement.statements.Given as goal

@@ -1,7 +1,7 @@
 use Rattle.std.proofs.Common.{◌≡◌, ◌<◌, ◌∙◌, sym, ap, length, map, arith}
 use Rattle.std.proofs.lemmas.List.{length-map}
-use Rattle.layer_mean.specs.View.{cell_tree, layer_tree}
-use Rattle.run_mean.specs.Report.{numbered_cell, cell_line}
+use Rattle.first_mean.specs.View.{cell_tree, layer_tree}
+use Rattle.first_run.specs.Report.{numbered_cell, cell_line}
 use Rattle.report_text.proofs.Items.{numbered_more, numbered_all, mapped_at}
 use Rattle.report_text.proofs.event.push_cells.Goals as goal
 

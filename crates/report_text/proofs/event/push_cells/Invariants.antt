@@ -1,7 +1,7 @@
 use Rattle.std.proofs.Common.{◌≡◌, ◌++◌, take, map}
 use Rattle.std.specs.List.{enumerate_from}
-use Rattle.layer_mean.specs.View.{layer_tree}
-use Rattle.run_mean.specs.Report.{numbered_cell}
+use Rattle.first_mean.specs.View.{layer_tree}
+use Rattle.first_run.specs.Report.{numbered_cell}
 use Rattle.report_text.proofs.event.push_cells.Given as goal
 
 abbrev pub invariant-loop-c : goal.invariant-loop-c

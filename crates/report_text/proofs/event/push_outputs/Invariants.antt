@@ -1,7 +1,7 @@
 use Rattle.std.proofs.Common.{◌≡◌, ◌+◌, ◌≤◌, [], take}
 use Rattle.std.specs.List.{fold}
-use Rattle.layer_mean.specs.View.{stack_tree}
-use Rattle.run_mean.specs.Report.{output_line}
+use Rattle.first_mean.specs.View.{stack_tree}
+use Rattle.first_run.specs.Report.{output_line}
 use Rattle.report_text.specs.Lines.{written}
 use Rattle.report_text.proofs.event.push_outputs.Given as goal
 

@@ -1,6 +1,6 @@
 use Rattle.std.proofs.Common.{◌∷◌, [], arith}
-use Rattle.layer_mean.specs.View.{stack_tree}
-use Rattle.run_mean.specs.Text.{header_text}
+use Rattle.first_mean.specs.View.{stack_tree}
+use Rattle.first_run.specs.Text.{header_text}
 use Rattle.report_text.proofs.Joined.{line_more}
 use Rattle.report_text.proofs.step.push_chain.Goals as goal
 

@@ -1,7 +1,7 @@
 use Rattle.std.proofs.Common.{◌≡◌, ◌++◌, ◌∷◌, [], take}
 use Rattle.std.specs.List.{join_by}
-use Rattle.layer_mean.specs.View.{stack_tree}
-use Rattle.run_mean.specs.Text.{header_text}
+use Rattle.first_mean.specs.View.{stack_tree}
+use Rattle.first_run.specs.Text.{header_text}
 use Rattle.report_text.proofs.step.push_chain.Given as goal
 
 abbrev pub invariant-loop-k : goal.invariant-loop-k

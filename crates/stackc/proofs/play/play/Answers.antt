@@ -3,7 +3,7 @@ use Rattle.std.proofs.lemmas.Result.{err_from_is_err_and}
 use Rattle.std.proofs.lemmas.List.Elements.{All-get_or}
 use Rattle.script_mean.specs.declared.event.ScriptEvent.{ScriptEvent}
 use Rattle.script_mean.specs.Event.{member_of}
-use Rattle.run_mean.specs.Report.{end_line}
+use Rattle.first_run.specs.Report.{end_line}
 use Rattle.stackc.specs.Wrote.{Wrote}
 use Rattle.stackc.proofs.Held.{held_first, held_more, held_cut, held_last}
 use Rattle.stackc.proofs.play.play.Goals as goal

@@ -1,5 +1,5 @@
 use Rattle.std.specs.Rc.{rc_value}
-use Rattle.layer_mean.specs.View.{layer_tree}
+use Rattle.first_mean.specs.View.{layer_tree}
 use Rattle.stackc.proofs.Held.{Held}
 use Rattle.stackc.proofs.play.play.Given as goal
 

@@ -1,6 +1,6 @@
 use Rattle.std.proofs.Common.{◌≡◌, ◌++◌, take, map}
 use Rattle.std.specs.List.{filter}
-use Rattle.run_mean.specs.World.{is_lower}
+use Rattle.first_run.specs.World.{is_lower}
 use Rattle.world_core.specs.Play.{packet_in}
 use Rattle.world_core.proofs.packets.send.Given as goal
 

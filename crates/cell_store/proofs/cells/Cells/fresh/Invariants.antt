@@ -1,6 +1,6 @@
 use Rattle.std.proofs.Common.{◌≡◌, take, map, replicate}
-use Rattle.layer_mean.specs.State.{size_of}
-use Rattle.layer_mean.specs.View.{cell_tree}
+use Rattle.first_mean.specs.State.{size_of}
+use Rattle.first_mean.specs.View.{cell_tree}
 use Rattle.cell_store.proofs.cells.Cells.fresh.Given as goal
 
 abbrev pub invariant-loop-cell : goal.invariant-loop-cell

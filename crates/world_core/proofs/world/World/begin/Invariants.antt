@@ -1,8 +1,8 @@
 use Rattle.std.proofs.Common.{◌≡◌, ◌∷◌, [], map}
 use Rattle.std.specs.List.{All}
 use Rattle.std.specs.Rc.{rc_value}
-use Rattle.layer_mean.specs.View.{layer_tree}
-use Rattle.run_mean.specs.World.{members_below}
+use Rattle.first_mean.specs.View.{layer_tree}
+use Rattle.first_run.specs.World.{members_below}
 use Rattle.world_core.specs.Members.{shown_member, Runs}
 use Rattle.world_core.proofs.world.World.begin.Given as goal
 

@@ -1,7 +1,7 @@
 use Rattle.std.proofs.Common.{◌≡◌, ◌<◌, ◌∙◌, length, map, sym, subst, ap, arith}
 use Rattle.std.proofs.lemmas.Bool.{ne_eqb}
 use Rattle.std.proofs.lemmas.List.{length-map}
-use Rattle.run_mean.specs.World.{member_at}
+use Rattle.first_run.specs.World.{member_at}
 use Rattle.world_core.specs.Play.{Play}
 use Rattle.world_core.specs.Members.{shown_member}
 use Rattle.world_core.proofs.Steps.{give_is, number_is, at_id}

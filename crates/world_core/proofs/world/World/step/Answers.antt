@@ -2,10 +2,10 @@ use Rattle.std.proofs.Common.{◌≡◌, ◌<◌, ◌∙◌, ◌++◌, length, m
 use Rattle.std.proofs.lemmas.List.{length-map}
 use Rattle.std.proofs.lemmas.List.Elements.{All-get_or}
 use Rattle.std.specs.Rc.{rc_value}
-use Rattle.layer_mean.specs.View.{layer_tree}
-use Rattle.layer_mean.specs.Visit.{step}
+use Rattle.first_mean.specs.View.{layer_tree}
+use Rattle.first_mean.specs.Visit.{step}
 use Rattle.std.specs.List.{filter}
-use Rattle.run_mean.specs.World.{World, is_lower, packet_of}
+use Rattle.first_run.specs.World.{World, is_lower, packet_of}
 use Rattle.world_core.specs.Play.{Play}
 use Rattle.world_core.specs.Members.{shown_member, Runs}
 use Rattle.world_core.proofs.Steps.{step_is}

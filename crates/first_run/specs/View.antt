@@ -1,10 +1,10 @@
 -- What an event came to, of the program's answer and its list of outputs.
 use Rattle.std.specs.Prelude.{List}
 use Rattle.layer_ast.specs.declared.tokens.Dir.{Dir}
-use Rattle.layer_mean.specs.declared.run.Event.{Event}
-use Rattle.run_mean.specs.World as world
-use Rattle.run_mean.specs.declared.Did.{Did}
-use Rattle.run_mean.specs.declared.Did.TheVariants.{Took, Refused, Absent, Shown, Unbuilt}
+use Rattle.first_mean.specs.declared.run.Event.{Event}
+use Rattle.first_run.specs.World as world
+use Rattle.first_run.specs.declared.Did.{Did}
+use Rattle.first_run.specs.declared.Did.TheVariants.{Took, Refused, Absent, Shown, Unbuilt}
 
 abbrev pub did_of : Did → List (Dir × Event) → world.Did
 did_of Took outs = world.took outs

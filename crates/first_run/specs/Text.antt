@@ -4,7 +4,7 @@ use Rattle.std.specs.List.{join_by}
 use Rattle.std.specs.Fmt.{decimal}
 use Rattle.hex.specs.Hex.{encode_lower}
 use Rattle.msg_core.specs.declared.message.Header.{Header}
-use Rattle.layer_mean.specs.Tree.{LayerTree, HeaderTree, CellTree, no_layer}
+use Rattle.first_mean.specs.Tree.{LayerTree, HeaderTree, CellTree, no_layer}
 
 -- Bytes in lower case hexadecimal, or `-` for none.
 abbrev pub hex_text : List ℕ → List ℕ

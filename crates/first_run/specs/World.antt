@@ -10,10 +10,10 @@ use Rattle.msg_core.specs.declared.packet.Stray.TheVariants.{Sender}
 use Rattle.layer_ast.specs.declared.tokens.Dir.{Dir}
 use Rattle.layer_ast.specs.declared.tokens.Dir.TheVariants.{Up, Down}
 use Rattle.layer_ast.specs.declared.tokens.Kind.TheVariants.{Cast}
-use Rattle.layer_mean.specs.declared.run.Event.{Event}
-use Rattle.layer_mean.specs.Tree.{LayerTree}
-use Rattle.layer_mean.specs.State.{State, fresh}
-use Rattle.layer_mean.specs.Queue.{Task, Line, Work, run}
+use Rattle.first_mean.specs.declared.run.Event.{Event}
+use Rattle.first_mean.specs.Tree.{LayerTree}
+use Rattle.first_mean.specs.State.{State, fresh}
+use Rattle.first_mean.specs.Queue.{Task, Line, Work, run}
 use Rattle.script_mean.specs.declared.event.ScriptEvent.{ScriptEvent}
 use Rattle.script_mean.specs.declared.event.ScriptEvent.TheVariants as script
 use Rattle.script_mean.specs.declared.script.Script.{Script}

@@ -2,7 +2,7 @@
 //! are computed from the definitions alone.
 #![tactic(auto)]
 
-ghost use Rattle.run_laws.specs.Counter.{CastAndGive, GivenTwice};
+ghost use Rattle.first_laws.specs.Counter.{CastAndGive, GivenTwice};
 
 /// A cast of the counter layer that is given to another member.
 pub fn cast_and_give()

@@ -3,8 +3,8 @@
 use Rattle.std.specs.Prelude.{ℕ, List, [], Option}
 use Rattle.layer_ast.specs.declared.tokens.Dir.{Dir}
 use Rattle.layer_ast.specs.declared.tokens.Kind.{Kind}
-use Rattle.layer_mean.specs.declared.layer.Form.{Form}
-use Rattle.layer_mean.specs.declared.layer.Operator.{Operator}
+use Rattle.first_mean.specs.declared.layer.Form.{Form}
+use Rattle.first_mean.specs.declared.layer.Operator.{Operator}
 
 -- A number that a layer reads or computes.
 pub data ExpressionTree : Type 0 where

@@ -1,8 +1,8 @@
 -- The state of one layer of one member.
 use Rattle.std.specs.Prelude.{ℕ, List, [], map, slice_index, slice_index_or, slice_set, replicate}
-use Rattle.layer_mean.specs.Tree.{CellTree, LayerTree}
-use Rattle.layer_mean.specs.declared.layer.Form.{Form}
-use Rattle.layer_mean.specs.declared.layer.Form.TheVariants.{Number, Array}
+use Rattle.first_mean.specs.Tree.{CellTree, LayerTree}
+use Rattle.first_mean.specs.declared.layer.Form.{Form}
+use Rattle.first_mean.specs.declared.layer.Form.TheVariants.{Number, Array}
 
 -- A state keeps the own rank, the number of members and the view's ltime, which a visit only reads,
 -- and for each cell its numbers.

@@ -1,10 +1,10 @@
 -- What expressions are worth.
 use Rattle.std.specs.Prelude.{ℕ, ◌+◌, ◌%◌, ◌^◌, ◌==◌, Bool, if◌then◌else◌, List, slice_index}
 use Rattle.msg_core.specs.Chain.{Content}
-use Rattle.layer_mean.specs.Tree.{ExpressionTree, number, me, count, local, element, binary}
-use Rattle.layer_mean.specs.State.{State, number_at}
-use Rattle.layer_mean.specs.declared.layer.Operator.{Operator}
-use Rattle.layer_mean.specs.declared.layer.Operator.TheVariants.{Add, Equal}
+use Rattle.first_mean.specs.Tree.{ExpressionTree, number, me, count, local, element, binary}
+use Rattle.first_mean.specs.State.{State, number_at}
+use Rattle.first_mean.specs.declared.layer.Operator.{Operator}
+use Rattle.first_mean.specs.declared.layer.Operator.TheVariants.{Add, Equal}
 
 -- What a handler's block sees beside the state: the event's peer before the fields of the popped
 -- header, and the message that the handler was entered with.

@@ -7,15 +7,15 @@ use Rattle.msg_core.specs.declared.packet.Stray.{Stray}
 use Rattle.msg_core.specs.declared.packet.Stray.TheVariants as stray
 use Rattle.layer_ast.specs.declared.tokens.Dir.{Dir}
 use Rattle.layer_ast.specs.declared.tokens.Dir.TheVariants.{Up, Down}
-use Rattle.layer_mean.specs.declared.run.Event.{Event}
-use Rattle.layer_mean.specs.Tree.{LayerTree, CellTree}
-use Rattle.layer_mean.specs.State.{State, no_state}
+use Rattle.first_mean.specs.declared.run.Event.{Event}
+use Rattle.first_mean.specs.Tree.{LayerTree, CellTree}
+use Rattle.first_mean.specs.State.{State, no_state}
 use Rattle.script_mean.specs.declared.event.ScriptEvent.{ScriptEvent}
 use Rattle.script_mean.specs.declared.event.ScriptEvent.TheVariants as script
 use Rattle.script_mean.specs.declared.script.Script.{Script}
 use Rattle.script_mean.specs.Event.{member_of}
-use Rattle.run_mean.specs.World.{World, member_at, Did, took, refused, absent, shown, unbuilt, Happening, happens, first_world}
-use Rattle.run_mean.specs.Text.{hex_text, chain_text}
+use Rattle.first_run.specs.World.{World, member_at, Did, took, refused, absent, shown, unbuilt, Happening, happens, first_world}
+use Rattle.first_run.specs.Text.{hex_text, chain_text}
 
 -- `deliver M cast P HEX`: a delivery at member M from rank P.
 abbrev pub deliver_line : ℕ → Event → List ℕ

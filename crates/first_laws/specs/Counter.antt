@@ -2,13 +2,13 @@
 use Rattle.std.specs.Prelude.{◌≡◌, ℕ, List, [], ◌∷◌, ◌++◌, codes, Some, None}
 use Rattle.layer_ast.specs.declared.tokens.Dir.TheVariants.{Up, Down}
 use Rattle.layer_ast.specs.declared.tokens.Kind.TheVariants.{Cast}
-use Rattle.layer_mean.specs.Tree.{LayerTree, CellTree, HeaderTree, HandlerTree, number, local, element, binary, assign, emit}
-use Rattle.layer_mean.specs.declared.layer.Form.TheVariants.{Number, Array}
-use Rattle.layer_mean.specs.declared.layer.Operator.TheVariants.{Add, Equal}
+use Rattle.first_mean.specs.Tree.{LayerTree, CellTree, HeaderTree, HandlerTree, number, local, element, binary, assign, emit}
+use Rattle.first_mean.specs.declared.layer.Form.TheVariants.{Number, Array}
+use Rattle.first_mean.specs.declared.layer.Operator.TheVariants.{Add, Equal}
 use Rattle.script_mean.specs.declared.event.ScriptEvent.{ScriptEvent}
 use Rattle.script_mean.specs.declared.event.ScriptEvent.TheVariants as script
 use Rattle.script_mean.specs.declared.script.Script.{Script}
-use Rattle.run_mean.specs.Report.{report}
+use Rattle.first_run.specs.Report.{report}
 
 -- Each cast carries the sender's count `k`; `e` has the number that is due from each member.
 abbrev pub counter : LayerTree

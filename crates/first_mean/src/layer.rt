@@ -78,8 +78,8 @@ pub struct FieldExpressions {
 impl Model for FieldExpressions {
     ghost use Rattle.std.specs.Prelude.{List, ◌≤◌, length};
     ghost use Rattle.std.specs.Coded.{codes};
-    ghost use Rattle.layer_mean.specs.declared.layer.Expression.{Expression};
-    ghost use Rattle.layer_mean.specs.contracts.layer.Expression as expression;
+    ghost use Rattle.first_mean.specs.declared.layer.Expression.{Expression};
+    ghost use Rattle.first_mean.specs.contracts.layer.Expression as expression;
 
     ghost Value = { List Expression };
 

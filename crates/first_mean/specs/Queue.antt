@@ -4,11 +4,11 @@ use Rattle.std.specs.Prelude.{ℕ, suc, zero, ◌+◌, ◌-◌, ◌≤◌, List,
 use Rattle.std.specs.List.{fold, filter}
 use Rattle.layer_ast.specs.declared.tokens.Dir.{Dir}
 use Rattle.layer_ast.specs.declared.tokens.Dir.TheVariants.{Up, Down}
-use Rattle.layer_mean.specs.declared.run.Event.{Event}
-use Rattle.layer_mean.specs.Tree.{HandlerTree, LayerTree, StatementTree, assign, emit, no_layer}
-use Rattle.layer_mean.specs.State.{State, no_state}
-use Rattle.layer_mean.specs.Effect.{Outcome}
-use Rattle.layer_mean.specs.Visit.{step}
+use Rattle.first_mean.specs.declared.run.Event.{Event}
+use Rattle.first_mean.specs.Tree.{HandlerTree, LayerTree, StatementTree, assign, emit, no_layer}
+use Rattle.first_mean.specs.State.{State, no_state}
+use Rattle.first_mean.specs.Effect.{Outcome}
+use Rattle.first_mean.specs.Visit.{step}
 
 -- An event on its way. The lower edge of a stack is 0, its places are 1 and up, lowest first, and
 -- the upper edge is one more than their number.

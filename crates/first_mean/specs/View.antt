@@ -1,14 +1,14 @@
 -- The plain tree of each Rust tree.
 use Rattle.std.specs.Prelude.{ℕ, List, map, Option, option_map}
-use Rattle.layer_mean.specs.Tree.{ExpressionTree, number, me, count, local, element, binary, StatementTree, assign, emit, HandlerTree, CellTree, HeaderTree, LayerTree}
-use Rattle.layer_mean.specs.declared.layer.Expression.{Expression}
-use Rattle.layer_mean.specs.declared.layer.Expression.TheVariants.{Number, Me, Count, Local, Element', Binary'}
-use Rattle.layer_mean.specs.declared.layer.Statement.{Statement}
-use Rattle.layer_mean.specs.declared.layer.Statement.TheVariants.{Set, Emit}
-use Rattle.layer_mean.specs.declared.layer.Handler.{Handler}
-use Rattle.layer_mean.specs.declared.layer.Cell.{Cell}
-use Rattle.layer_mean.specs.declared.layer.HeaderForm.{HeaderForm}
-use Rattle.layer_mean.specs.declared.layer.Layer.{Layer}
+use Rattle.first_mean.specs.Tree.{ExpressionTree, number, me, count, local, element, binary, StatementTree, assign, emit, HandlerTree, CellTree, HeaderTree, LayerTree}
+use Rattle.first_mean.specs.declared.layer.Expression.{Expression}
+use Rattle.first_mean.specs.declared.layer.Expression.TheVariants.{Number, Me, Count, Local, Element', Binary'}
+use Rattle.first_mean.specs.declared.layer.Statement.{Statement}
+use Rattle.first_mean.specs.declared.layer.Statement.TheVariants.{Set, Emit}
+use Rattle.first_mean.specs.declared.layer.Handler.{Handler}
+use Rattle.first_mean.specs.declared.layer.Cell.{Cell}
+use Rattle.first_mean.specs.declared.layer.HeaderForm.{HeaderForm}
+use Rattle.first_mean.specs.declared.layer.Layer.{Layer}
 use Rattle.std.specs.declared.rc.Rc.{Rc}
 use Rattle.std.specs.declared.alloc.Global.{Global}
 

@@ -5,10 +5,10 @@ use Rattle.msg_core.specs.Chain.{Content, pushed}
 use Rattle.msg_core.specs.declared.message.Header.{Header}
 use Rattle.layer_ast.specs.declared.tokens.Dir.{Dir}
 use Rattle.layer_ast.specs.declared.tokens.Dir.TheVariants.{Up, Down}
-use Rattle.layer_mean.specs.declared.run.Event.{Event}
-use Rattle.layer_mean.specs.Tree.{StatementTree, assign, emit}
-use Rattle.layer_mean.specs.State.{State, with_number}
-use Rattle.layer_mean.specs.Value.{Scope, val}
+use Rattle.first_mean.specs.declared.run.Event.{Event}
+use Rattle.first_mean.specs.Tree.{StatementTree, assign, emit}
+use Rattle.first_mean.specs.State.{State, with_number}
+use Rattle.first_mean.specs.Value.{Scope, val}
 
 -- What a stretch of statements comes to: the state behind it, and the events that it sent, in order.
 pub record Outcome : Type 0 where

@@ -9,11 +9,11 @@ use Rattle.layer_ast.specs.declared.tokens.Dir.TheVariants.{Up, Down}
 use Rattle.layer_ast.specs.contracts.tokens.Dir as dir_row
 use Rattle.layer_ast.specs.declared.tokens.Kind.{Kind}
 use Rattle.layer_ast.specs.contracts.tokens.Kind as kind_row
-use Rattle.layer_mean.specs.declared.run.Event.{Event}
-use Rattle.layer_mean.specs.Tree.{HandlerTree, LayerTree}
-use Rattle.layer_mean.specs.State.{State}
-use Rattle.layer_mean.specs.Value.{Scope}
-use Rattle.layer_mean.specs.Effect.{Outcome, start, does_all}
+use Rattle.first_mean.specs.declared.run.Event.{Event}
+use Rattle.first_mean.specs.Tree.{HandlerTree, LayerTree}
+use Rattle.first_mean.specs.State.{State}
+use Rattle.first_mean.specs.Value.{Scope}
+use Rattle.first_mean.specs.Effect.{Outcome, start, does_all}
 
 -- An event as its layer meets it: the tag and fields of the header that is popped going up, and the
 -- message behind it. Going down nothing is popped.
