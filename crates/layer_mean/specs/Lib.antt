@@ -1,0 +1,9 @@
+pub mod Event
+pub mod Tree
+pub mod State
+pub mod Value
+pub mod Effect
+pub mod Visit
+pub mod Queue
+pub mod Marked
+pub mod Way

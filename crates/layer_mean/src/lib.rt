@@ -1,0 +1,7 @@
+//! What layers mean, for the whole language: the trees that members run, states, values, statements, a visit, the queue of
+//! tasks and the predicted way, as definitions.
+#![tactic(auto)]
+
+mod run;
+
+pub use run::{Event, Row};
