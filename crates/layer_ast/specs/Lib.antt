@@ -1,6 +1,7 @@
 pub mod Cut
 pub mod Depth
 pub mod Print
+pub mod Printed
 pub mod Samples
 pub mod Spelling
 pub mod Spells

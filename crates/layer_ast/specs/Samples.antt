@@ -1,12 +1,22 @@
 -- Small texts, worked out.
-use Rattle.std.specs.Prelude.{◌≡◌, ℕ, [], ◌∷◌, Some, None, codes}
+use Rattle.std.specs.Prelude.{◌≡◌, ℕ, List, [], ◌∷◌, ◌++◌, Some, None, codes}
+use Rattle.layer_ast.specs.declared.names.At.{At}
+use Rattle.layer_ast.specs.declared.names.Name.{Name}
 use Rattle.layer_ast.specs.declared.tokens.Lexed.{Lexed}
 use Rattle.layer_ast.specs.declared.tokens.Kind.TheVariants as kind
 use Rattle.layer_ast.specs.declared.tokens.Sign.TheVariants as sign
 use Rattle.layer_ast.specs.declared.tokens.Token.{Token}
 use Rattle.layer_ast.specs.declared.tokens.Token.TheVariants as token
+use Rattle.layer_ast.specs.declared.tokens.Dir.TheVariants.{Up, Down}
+use Rattle.layer_ast.specs.declared.syntax.Ending.TheVariants.{Passes}
+use Rattle.layer_ast.specs.declared.syntax.Function.TheVariants.{Not}
+use Rattle.layer_ast.specs.declared.syntax.Likely.TheVariants.{First, Else}
+use Rattle.layer_ast.specs.declared.syntax.Operator.TheVariants.{Add, Equal, Greater}
+use Rattle.layer_ast.specs.declared.syntax.Shape.TheVariants.{Square}
+use Rattle.layer_ast.specs.declared.syntax.Sort.TheVariants.{Msg}
 use Rattle.layer_ast.specs.Cut.{cut}
 use Rattle.layer_ast.specs.Spells.{Spells}
+use Rattle.layer_ast.specs.Tree.{number, me, members, named, item, rows, size, binary, apply, queue, bare, held, value, content, fixed, sized, bind, set_square, push, take, when, choose, each, emit, none, more, always, common, HandlerTree, param, int, rows_cell, header, FileTree}
 
 -- a token at a line and a column
 abbrev pub token_at : Token → ℕ → ℕ → Lexed
@@ -43,10 +53,128 @@ CutsNumbers =
     × (cut (codes "4294967296") ≡ record { tokens = []; bad_at = Some record { line = 1; col = 1 } })
     × (cut (codes "4294967295") ≡ record { tokens = token_at (token.Number 4294967295) 1 1 ∷ []; bad_at = None })
 
+-- a place in a text
+abbrev pub at : ℕ → ℕ → At
+at line col = record { line = line; col = col }
+
+-- a name at a line and a column
+abbrev pub name_at : List ℕ → ℕ → ℕ → Name
+name_at word line col = record { at = at line col; word = word }
+
 -- a text spells the file with one place
 abbrev pub SpellsPlace : Type 0
 SpellsPlace =
     Spells (codes "stack {\n  a; }\n") record {
       layers = [];
-      places = record { name = record { at = record { line = 2; col = 3 }; word = codes "a" } } ∷ [];
+      places = record { name = name_at (codes "a") 2 3; given = [] } ∷ [];
+      library = [];
     }
+
+-- the text of a layer with a param, a queue and a square array, and of a stack with a place that gives the param
+abbrev pub sample_text : List ℕ
+sample_text =
+    codes "layer a {\n"
+    ++ codes "  param keep = 4;\n"
+    ++ codes "  state queue q[keep] of (m: msg);\n"
+    ++ codes "  state int sum[n*n] = (me + 1);\n"
+    ++ codes "  header num(v) passes;\n"
+    ++ codes "  down Cast(p, m) {\n"
+    ++ codes "    push q (m) else { take q (old) { push q (m) else { } } else { } }\n"
+    ++ codes "    if rare (len(q) > 2) { each i below n max 4 { set sum[i][me] = at(q, i).m; } }\n"
+    ++ codes "    down Send(p, held(q, 0)) with num(size(m));\n"
+    ++ codes "  }\n"
+    ++ codes "  up Cast(o, m) with num(v) common (v == 1) { if v { up Cast(o, m); } else { let x = not(v); } }\n"
+    ++ codes "}\n"
+    ++ codes "stack { a(keep = 8); a; }\n"
+
+-- its handler of casts on their way down
+abbrev pub sample_down : HandlerTree
+sample_down =
+    record {
+      at = at 6 3;
+      direction = Down;
+      kind = kind.Cast;
+      names = record { first = name_at (codes "p") 6 13; rest = name_at (codes "m") 6 16 ∷ [] };
+      popped = None;
+      expected = always;
+      block =
+          more (
+          push (at 7 5) (queue (name_at (codes "q") 7 10)) record { first = value (named (name_at (codes "m") 7 13)); rest = [] } (
+          more (
+          take (at 7 23) (queue (name_at (codes "q") 7 28)) record { first = name_at (codes "old") 7 31; rest = [] } (
+          more (push (at 7 38) (queue (name_at (codes "q") 7 43)) record { first = value (named (name_at (codes "m") 7 46)); rest = [] } none) none)
+          none)
+          none))
+          (more (
+          when (at 8 5) Else (binary (at 8 13) (rows (at 8 14) (queue (name_at (codes "q") 8 18))) Greater (number (at 8 23) 2)) (
+          more (
+          each (at 8 28) (name_at (codes "i") 8 33) (members (at 8 41)) (fixed (at 8 47) 4) (
+          more (
+          set_square (at 8 51) (name_at (codes "sum") 8 55) (named (name_at (codes "i") 8 59)) (me (at 8 62))
+          (item (at 8 68) (queue (name_at (codes "q") 8 71)) (named (name_at (codes "i") 8 74)) (name_at (codes "m") 8 77)))
+          none))
+          none))
+          (more (
+          emit (at 9 5) Down kind.Send record {
+            first = value (named (name_at (codes "p") 9 15));
+            rest = content (held (at 9 18) (queue (name_at (codes "q") 9 23)) (number (at 9 26) 0)) ∷ [];
+          } (Some record {
+            name = name_at (codes "num") 9 35;
+            fields = Some record { first = value (size (at 9 39) (bare (name_at (codes "m") 9 44))); rest = [] };
+          }))
+          none));
+    }
+
+-- its handler of casts on their way up
+abbrev pub sample_up : HandlerTree
+sample_up =
+    record {
+      at = at 11 3;
+      direction = Up;
+      kind = kind.Cast;
+      names = record { first = name_at (codes "o") 11 11; rest = name_at (codes "m") 11 14 ∷ [] };
+      popped = Some record { name = name_at (codes "num") 11 22; fields = Some record { first = name_at (codes "v") 11 26; rest = [] } };
+      expected = common (binary (at 11 36) (named (name_at (codes "v") 11 37)) Equal (number (at 11 42) 1));
+      block =
+          more (
+          choose (at 11 47) First (named (name_at (codes "v") 11 50)) (
+          more (
+          emit (at 11 54) Up kind.Cast record {
+            first = value (named (name_at (codes "o") 11 62));
+            rest = value (named (name_at (codes "m") 11 65)) ∷ [];
+          } None)
+          none)
+          (more (bind (at 11 78) (name_at (codes "x") 11 82) (apply (at 11 86) Not (named (name_at (codes "v") 11 90)))) none))
+          none;
+    }
+
+-- the file that it spells
+abbrev pub sample_file : FileTree
+sample_file =
+    record {
+      layers =
+          record {
+            at = at 1 1;
+            name = name_at (codes "a") 1 7;
+            declarations =
+                param (at 2 3) (name_at (codes "keep") 2 9) 4
+                ∷ rows_cell (at 3 3) (name_at (codes "q") 3 15) (sized (name_at (codes "keep") 3 17)) record {
+                  first = record { name = name_at (codes "m") 3 27; sort = Msg };
+                  rest = [];
+                }
+                ∷ int (at 4 3) (name_at (codes "sum") 4 13) Square (Some (binary (at 4 24) (me (at 4 25)) Add (number (at 4 30) 1)))
+                ∷ header (at 5 3) (name_at (codes "num") 5 10) (Some record { first = name_at (codes "v") 5 14; rest = [] }) Passes
+                ∷ [];
+            handlers = sample_down ∷ sample_up ∷ [];
+          }
+          ∷ [];
+      places =
+          record { name = name_at (codes "a") 13 9; given = record { name = name_at (codes "keep") 13 11; value = 8 } ∷ [] }
+          ∷ record { name = name_at (codes "a") 13 22; given = [] }
+          ∷ [];
+      library = [];
+    }
+
+-- the text spells the file
+abbrev pub SpellsLayer : Type 0
+SpellsLayer = Spells sample_text sample_file

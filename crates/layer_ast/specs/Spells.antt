@@ -3,7 +3,8 @@ use Rattle.std.specs.Prelude.{◌≡◌, ◌≢◌, ℕ, List, [], ◌∷◌, ma
 use Rattle.layer_ast.specs.declared.tokens.Lexed.{Lexed}
 use Rattle.layer_ast.specs.Cut.{cut}
 use Rattle.layer_ast.specs.Depth.{IsWithin}
-use Rattle.layer_ast.specs.Print.{Printed, file}
+use Rattle.layer_ast.specs.Print.{file}
+use Rattle.layer_ast.specs.Printed.{Printed}
 use Rattle.layer_ast.specs.Tree.{FileTree}
 
 -- the tokens are the printed ones, each at the place that the tree keeps of it, where it keeps one

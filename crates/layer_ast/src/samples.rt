@@ -1,5 +1,5 @@
 //! Small texts, worked out by evaluation: the definitions compute. Nothing runs here.
-ghost use Rattle.layer_ast.specs.Samples.{CutsText, CutsLetter, CutsNumbers, SpellsPlace};
+ghost use Rattle.layer_ast.specs.Samples.{CutsText, CutsLetter, CutsNumbers, SpellsPlace, SpellsLayer};
 
 /// A text with a comment, a name that begins like a reserved word, long symbols and a bad byte.
 pub fn cuts_text()
@@ -19,4 +19,9 @@ pub fn cuts_numbers()
 /// A file with one place.
 pub fn spells_place()
     ensures { SpellsPlace }
+{}
+
+/// A file with a layer and two places: most forms of declarations, statements and expressions.
+pub fn spells_layer()
+    ensures { SpellsLayer }
 {}

@@ -39,7 +39,11 @@ pub struct Layer {
 #[derive(Drop)]
 pub enum Declaration {
     /// `"param" NAME "=" NUMBER ";"`
-    Param { at: At, name: Name, value: u32 },
+    Param {
+        at: At,
+        name: Name,
+        value: u32,
+    },
     /// `"state" "int" NAME [ "[" "n" [ "*" "n" ] "]" ] [ "=" expression ] ";"`
     Int {
         at: At,
@@ -155,11 +159,13 @@ pub enum Expected {
 }
 
 /// `"{" { statement } "}"`
+#[cycle(statement)]
 #[derive(Drop)]
 pub struct Block {
     pub statements: Vec<Statement>,
 }
 
+#[cycle(statement)]
 #[derive(Drop)]
 pub enum Statement {
     /// `"let" NAME "=" expression ";"`
@@ -262,6 +268,7 @@ pub enum Argument {
     Content(Built),
 }
 
+#[cycle(expression)]
 #[derive(Drop)]
 pub enum Expression {
     Number {
@@ -331,6 +338,7 @@ pub enum Expression {
 }
 
 /// `NAME [ "[" expression "]" ]`, a queue or one of an array.
+#[cycle(expression)]
 #[derive(Drop)]
 pub struct Queue {
     pub name: Name,
@@ -338,6 +346,7 @@ pub struct Queue {
 }
 
 /// `NAME | built`
+#[cycle(expression)]
 #[derive(Drop)]
 pub enum MessageExpression {
     Bare(Name),
@@ -345,10 +354,13 @@ pub enum MessageExpression {
 }
 
 /// A message that is no bare name.
+#[cycle(expression)]
 #[derive(Drop)]
 pub enum Built {
     /// `"nothing"`
-    Nothing { at: At },
+    Nothing {
+        at: At,
+    },
     /// `"held" "(" queue "," expression ")"`
     Held {
         at: At,
