@@ -11,7 +11,7 @@ use Rattle.layer_ast.specs.declared.syntax.Likely.TheVariants as likely
 use Rattle.layer_mean.specs.declared.run.Event.{Event}
 use Rattle.layer_mean.specs.declared.run.Row.{Row}
 use Rattle.layer_mean.specs.Event.{event_of}
-use Rattle.layer_mean.specs.Tree.{ExpressionTree, ContentTree, EmissionTree, RowTree, TakenTree, StatementTree, bind, assign, assign_square, push, take, branch, each, emit, StatementTrees, none, more}
+use Rattle.layer_mean.specs.Tree.{ContentTree, EmissionTree, RowTree, TakenTree, StatementTree, bind, assign, assign_square, push, take, branch, each, emit, StatementTrees, none, more}
 use Rattle.layer_mean.specs.State.{State, flat_index, row_at, has_room, with_number, with_row, without_front}
 use Rattle.layer_mean.specs.Value.{Scope, is_true, val, mval, message_in}
 

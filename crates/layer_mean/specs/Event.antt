@@ -1,5 +1,5 @@
 -- What the events of each kind have.
-use Rattle.std.specs.Prelude.{ℕ, Bool, true, false, if◌then◌else◌, List, [], ◌∷◌, slice_index, Option, Some, None}
+use Rattle.std.specs.Prelude.{ℕ, Bool, true, false, if◌then◌else◌, List, [], ◌∷◌, slice_index, Option}
 use Rattle.msg_core.specs.Chain.{Content}
 use Rattle.layer_ast.specs.declared.tokens.Kind.{Kind}
 use Rattle.layer_ast.specs.declared.tokens.Kind.TheVariants.{Cast, Send, Stable, Ack}

@@ -1,6 +1,6 @@
 -- A layer at its place of a stack, as a plain tree: each name is a number, each param the value that its place gives it, and
 -- nothing points or owns. What layers mean is defined on these trees.
-use Rattle.std.specs.Prelude.{ℕ, List, [], ◌∷◌, Option, Bool}
+use Rattle.std.specs.Prelude.{ℕ, List, [], Option, Bool}
 use Rattle.msg_core.specs.declared.message.Header.{Header}
 use Rattle.layer_ast.specs.declared.tokens.Dir.{Dir}
 use Rattle.layer_ast.specs.declared.tokens.Kind.{Kind}

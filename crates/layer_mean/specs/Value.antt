@@ -1,8 +1,8 @@
 -- What expressions are worth. Both functions are total: reading outside gives 0, or the message that stands in for a missing one.
-use Rattle.std.specs.Prelude.{ℕ, ◌+◌, ◌-◌, ◌*◌, ◌%◌, ◌^◌, ◌==◌, Bool, not, ◌&&◌, ◌||◌, nat_lt, nat_le, if◌then◌else◌, List, [], ◌∷◌, length, slice_index, slice_index_or, Option, Some, None}
-use Rattle.std.specs.Option.{option_map_or, option_or}
+use Rattle.std.specs.Prelude.{ℕ, ◌+◌, ◌-◌, ◌*◌, ◌%◌, ◌^◌, ◌==◌, Bool, not, ◌&&◌, ◌||◌, nat_lt, nat_le, if◌then◌else◌, List, [], length, slice_index, slice_index_or, Option, Some, None}
+use Rattle.std.specs.Option.{option_map_or}
 use Rattle.std.specs.Int.Bits.{bit_and, bit_or, bit_xor}
-use Rattle.std.specs.Int.Count.{ones, count_trailing_zeros}
+use Rattle.std.specs.Int.Count.{ones_in, count_trailing_zeros}
 use Rattle.msg_core.specs.Chain.{Content, plain}
 use Rattle.msg_core.specs.Parts as parts
 use Rattle.layer_ast.specs.declared.syntax.Function.{Function}
@@ -51,7 +51,7 @@ applied BitXor x y = bit_xor x y
 abbrev pub function_of : Function → ℕ → ℕ
 function_of Not x = of_bool (not (is_true x))
 function_of Bit x = if nat_lt x 32 then 2 ^ x else 0
-function_of Count x = ones x
+function_of Count x = ones_in 32 x
 function_of Lowest x = count_trailing_zeros 32 x
 
 -- The message that stands in for that of a missing row: no bytes, and for a message the header `none` of each place above.

@@ -1,5 +1,5 @@
 -- One visit: one event at one layer (Hayden: a layer takes an event from a neighbour, and pops the header that its peer pushed).
-use Rattle.std.specs.Prelude.{ℕ, zero, suc, Bool, true, false, ◌&&◌, ◌==◌, if◌then◌else◌, List, [], ◌∷◌, ◌++◌, map, replicate, Option, Some, None, option_to_list}
+use Rattle.std.specs.Prelude.{ℕ, zero, suc, Bool, ◌&&◌, ◌==◌, if◌then◌else◌, List, [], ◌∷◌, ◌++◌, map, replicate, Option, Some, None, option_to_list}
 use Rattle.std.specs.List.{find}
 use denote.Enum.Bare.{sameb}
 use Rattle.msg_core.specs.Chain.{Content, plain, pushed, popped, first_of}
@@ -11,7 +11,7 @@ use Rattle.layer_ast.specs.declared.tokens.Kind.{Kind}
 use Rattle.layer_ast.specs.contracts.tokens.Kind as kind_row
 use Rattle.layer_mean.specs.declared.run.Event.{Event}
 use Rattle.layer_mean.specs.Event.{arguments}
-use Rattle.layer_mean.specs.Tree.{Expected, always, common, rare, HandlerTree, CellTree, Form, numbers, queue, queues, LayerTree}
+use Rattle.layer_mean.specs.Tree.{Expected, always, common, rare, HandlerTree, Form, numbers, queue, queues, LayerTree}
 use Rattle.layer_mean.specs.State as state
 use Rattle.layer_mean.specs.State.{State, Contents, size_of}
 use Rattle.layer_mean.specs.Value.{Scope, is_true, val}
