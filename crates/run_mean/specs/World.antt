@@ -1,0 +1,97 @@
+-- A group and every packet ever sent in it, and what one event of a script comes to. A lost packet is one that is never given.
+use Rattle.std.specs.Prelude.{ℕ, zero, suc, List, [], ◌∷◌, ◌++◌, map, slice_get, slice_index_or, slice_set, Option, Some, None, Result, Ok, Err}
+use Rattle.std.specs.List.{filter_map, range_with_len}
+use Rattle.std.specs.Option.{option_map_or}
+use Rattle.msg_core.specs.declared.packet.Packet.{Packet}
+use Rattle.msg_core.specs.declared.packet.View.{View}
+use Rattle.layer_mean.specs.Tree.{LayerTree}
+use Rattle.layer_mean.specs.State.{State}
+use Rattle.script_mean.specs.declared.event.ScriptEvent.{ScriptEvent}
+use Rattle.script_mean.specs.declared.event.ScriptEvent.TheVariants as script
+use Rattle.packet_mean.specs.Plan.{Plan}
+use Rattle.packet_mean.specs.Spelling.{full_bytes}
+use Rattle.packet_mean.specs.declared.here.Here.{Here}
+use Rattle.run_mean.specs.View.{rank, first_view}
+use Rattle.run_mean.specs.Member.{Member, inside, out, opened, Input, cast, send, leave, tick, datagram, Refusal, is_out, Entered, entered, Step, step_from, member_behind, packet_in}
+
+-- A group at a moment: its name and its stamp, its members by id, and every packet ever sent, in the order of output. The first packet
+-- has the number 1.
+pub record World : Type 0 where
+  pub group : ℕ
+  pub stamp : ℕ
+  pub members : List Member
+  pub packets : List Packet
+
+-- The world in which a run begins: the members 0 to n - 1 in the first view.
+abbrev pub first_world : List LayerTree → (group stamp n : ℕ) → World
+first_world stack group stamp n = record {
+  group = group;
+  stamp = stamp;
+  members = map (opened stack (first_view n)) (range_with_len 0 n);
+  packets = [];
+}
+
+abbrev pub member_at : World → ℕ → Member
+member_at w id = slice_index_or w.members id out
+
+-- Packet number k, if there is one.
+abbrev pub packet_number : World → ℕ → Option Packet
+packet_number w zero = None
+packet_number w (suc k) = slice_get w.packets k
+
+-- What an event came to: a step that was taken, a refusal, a packet that there isn't, or a member that is shown.
+pub data Did : Type 0 where
+  taken : Step → Did
+  refused : Refusal → Did
+  absent : Did
+  shown : Did
+
+pub record Happening : Type 0 where
+  pub world : World
+  pub did : Did
+
+abbrev pub only : World → Did → Happening
+only w did = record { world = w; did = did }
+
+-- Where a member of a view stands when a datagram comes.
+abbrev pub here_of : World → View → ℕ → Here
+here_of w view id =
+    record { group = w.group; stamp = w.stamp; view = view; rank = option_map_or (λ r. r) (rank view id) 0 }
+
+-- The world behind a step that a member took: its packets are behind all others.
+abbrev pub world_behind : World → View → ℕ → Step → World
+world_behind w view id s = record w {
+  members = slice_set w.members id (member_behind view s);
+  packets = w.packets ++ filter_map packet_in s.outputs;
+}
+
+-- A step of a member that is in a view.
+abbrev pub stepped_inside : List LayerTree → World → ℕ → View → List State → Result Entered Refusal → Happening
+stepped_inside stack w id view states (Err refusal) = only w (refused refusal)
+stepped_inside stack w id view states (Ok what) =
+    let s = step_from stack (here_of w view id) id states what in
+    record { world = world_behind w view id s; did = taken s }
+
+-- A step of a member; one that is out refuses all.
+abbrev pub stepped_of : List LayerTree → List Plan → World → ℕ → Input → Member → Happening
+stepped_of stack plans w id input out = only w (refused is_out)
+stepped_of stack plans w id input (inside view states) =
+    stepped_inside stack w id view states (entered stack plans (here_of w view id) input)
+
+abbrev pub stepped : List LayerTree → List Plan → World → ℕ → Input → Happening
+stepped stack plans w id input = stepped_of stack plans w id input (member_at w id)
+
+-- A packet that is given to a member comes as its full spelling.
+abbrev pub given : List LayerTree → List Plan → World → ℕ → Option Packet → Happening
+given stack plans w id None = only w absent
+given stack plans w id (Some p) = stepped stack plans w id (datagram (full_bytes p))
+
+-- What an event of a script comes to in a world.
+unfoldable pub happens : List LayerTree → List Plan → World → ScriptEvent → Happening
+happens stack plans w (script.Cast id body) = stepped stack plans w id (cast body)
+happens stack plans w (script.Send id to body) = stepped stack plans w id (send to body)
+happens stack plans w (script.Leave id) = stepped stack plans w id leave
+happens stack plans w (script.Tick id moment) = stepped stack plans w id (tick moment)
+happens stack plans w (script.Give k id) = given stack plans w id (packet_number w k)
+happens stack plans w (script.Raw id bytes) = stepped stack plans w id (datagram bytes)
+happens stack plans w (script.Show id) = only w shown
