@@ -2,4 +2,9 @@ pub mod Lines
 pub mod Words
 pub mod Form
 pub mod Event
+pub mod EventText
 pub mod Script
+pub mod Address
+pub mod PlanLine
+pub mod NodePlan
+pub mod Generate

@@ -1,5 +1,5 @@
 -- The lines of a text: each ends with a line feed (10), which the last may lack.
-use Rattle.std.specs.Prelude.{ℕ, ◌+◌, ◌==◌, not, Bool, true, List, [], ◌∷◌, length, count_by, filter, if◌then◌else◌}
+use Rattle.std.specs.Prelude.{ℕ, ◌+◌, ◌==◌, ◌||◌, not, nat_lt, Bool, true, List, [], ◌∷◌, length, count_by, filter, if◌then◌else◌}
 use Rattle.std.specs.List.{after_last, enumerate_from, slice_split}
 
 -- a line feed
@@ -13,6 +13,10 @@ lines_of text = slice_split is_line_feed text
 -- how many lines a text has: its line feeds, and one more where text follows the last of them
 abbrev pub line_count : List ℕ → ℕ
 line_count text = count_by is_line_feed text + (if length (after_last is_line_feed text) == 0 then 0 else 1)
+
+-- more than 4,194,304 bytes or 100,000 lines are too long, whatever they say
+abbrev pub is_too_long : List ℕ → Bool
+is_too_long text = nat_lt 4194304 (length text) || nat_lt 100000 (line_count text)
 
 -- an empty line, or one that begins with `#` (35), says nothing
 abbrev pub says_nothing : List ℕ → Bool

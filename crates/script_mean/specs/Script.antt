@@ -1,11 +1,11 @@
 -- Which script a text spells, or its first fault.
-use Rattle.std.specs.Prelude.{ℕ, ◌<◌, ◌≤◌, ◌||◌, nat_lt, All, List, [], ◌∷◌, length, Option, Some, None, Result, Ok, Err, if◌then◌else◌}
-use Rattle.script_mean.specs.Lines.{line_count, said_lines}
+use Rattle.std.specs.Prelude.{ℕ, ◌<◌, ◌≤◌, nat_lt, All, List, [], ◌∷◌, Option, Some, None, Result, Ok, Err, if◌then◌else◌}
+use Rattle.script_mean.specs.Lines.{is_too_long, said_lines}
 use Rattle.script_mean.specs.Event.{group_line, event_line, said_by, member_of}
 use Rattle.script_mean.specs.declared.script.Script.{Script}
 use Rattle.script_mean.specs.declared.event.ScriptEvent.{ScriptEvent}
 
--- why a text spells no script; lines are counted from 1
+-- why a text spells no script or plan; lines are counted from 1
 pub data ScriptFault : Type 0 where
   too_long : ScriptFault
   bad_line : (line : ℕ) → ScriptFault
@@ -48,11 +48,9 @@ script_of_lines (first ∷ lines) = do
   events ← events_of opening.members lines
   Ok (record { group = opening.group; stamp = opening.stamp; members = opening.members; events = events })
 
--- the script that a text spells; more than 4,194,304 bytes or 100,000 lines are too long, whatever they say
+-- the script that a text spells, unless it is too long
 abbrev pub script_of : List ℕ → Result Script ScriptFault
-script_of text =
-    if nat_lt 4194304 (length text) || nat_lt 100000 (line_count text) then Err too_long
-    else script_of_lines (said_lines text)
+script_of text = if is_too_long text then Err too_long else script_of_lines (said_lines text)
 
 -- a script whose events can be run: it has 1 to 32 members, and each event is of one of them
 pub record IsRunnable (script : Script) : Type 0 where

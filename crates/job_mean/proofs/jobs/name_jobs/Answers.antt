@@ -1,0 +1,40 @@
+-- By computation.
+use Rattle.std.proofs.Common.{refl}
+use Rattle.clap.proofs.OnLiterals.{clap_on_literals}
+use Rattle.job_mean.proofs.jobs.name_jobs.Goals as goal
+
+pub returns-clause-checks : goal.returns-clause-checks
+unfolding clap_on_literals
+returns-clause-checks c = refl
+
+pub returns-clause-synthesizes : goal.returns-clause-synthesizes
+unfolding clap_on_literals
+returns-clause-synthesizes c = refl
+
+pub returns-clause-replays : goal.returns-clause-replays
+unfolding clap_on_literals
+returns-clause-replays c = refl
+
+pub returns-clause-replays_by_default : goal.returns-clause-replays_by_default
+unfolding clap_on_literals
+returns-clause-replays_by_default c = refl
+
+pub returns-clause-in_any_order : goal.returns-clause-in_any_order
+unfolding clap_on_literals
+returns-clause-in_any_order c = refl
+
+pub returns-clause-loads : goal.returns-clause-loads
+unfolding clap_on_literals
+returns-clause-loads c = refl
+
+pub returns-clause-runs_a_node : goal.returns-clause-runs_a_node
+unfolding clap_on_literals
+returns-clause-runs_a_node c = refl
+
+pub returns-clause-behind_the_end_of_options : goal.returns-clause-behind_the_end_of_options
+unfolding clap_on_literals
+returns-clause-behind_the_end_of_options c = refl
+
+pub returns-clause-hyphen_and_nothing : goal.returns-clause-hyphen_and_nothing
+unfolding clap_on_literals
+returns-clause-hyphen_and_nothing c = refl

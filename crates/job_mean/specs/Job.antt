@@ -1,0 +1,123 @@
+-- The job that the words of the command line name.
+use Rattle.std.specs.Prelude.{ℕ, ◌==◌, ◌&&◌, nat_lt, Bool, true, List, [], ◌∷◌, map, filter, Option, Some, None, is_some, codes, if◌then◌else◌}
+use Rattle.std.specs.List.{list_all, list_any, slice_split}
+use Rattle.std.specs.Str.{bytes_eq}
+use Rattle.clap.specs.Walk.{Text}
+use Rattle.script_mean.specs.Words.{◌>>=◌, number_within}
+use Rattle.job_mean.specs.Given.{Given, given_of}
+
+-- how members run a stack: layer by layer, or by its bypasses where they hold
+pub data Mode : Type 0 where
+  layered : Mode
+  bypass : Mode
+
+-- what the program is to do: judge a file; print its bypasses; replay a script, with the packets' bytes or
+-- the number of visits if wanted; replay a script that is made from a seed; run members over a network
+pub data Job : Type 0 where
+  check : (file : Text) → Job
+  synth : (file : Text) → Job
+  replay : (file script : Text) (mode : Mode) (wire count : Bool) → Job
+  load : (file : Text) (seed events members : ℕ) (mode : Mode) → Job
+  node : (file plan : Text) (turns : ℕ) (members : List ℕ) (mode : Mode) → Job
+
+-- each word that not every job has, and whether it was given
+abbrev pub extras : Given → List (Text × Bool)
+extras given =
+    (codes "second", is_some given.second) ∷ (codes "run", is_some given.run) ∷ (codes "seed", is_some given.seed) ∷
+    (codes "events", is_some given.events) ∷ (codes "members", is_some given.members) ∷
+    (codes "turns", is_some given.turns) ∷ (codes "me", is_some given.me) ∷
+    (codes "wire", given.wire) ∷ (codes "count", given.count) ∷ []
+
+-- a job refuses each word that it doesn't list
+abbrev pub with_only : List Text → Given → Option (Unit {0})
+with_only listed given =
+    if list_all (λ name. list_any (bytes_eq name) listed) (map (λ extra. extra.0) (filter (λ extra. extra.1) (extras given)))
+    then Some tt else None
+
+-- the mode of `--run`; without it, the bypasses
+abbrev pub mode_of : Option Text → Option Mode
+mode_of None = Some bypass
+mode_of (Some name) =
+    if bytes_eq name (codes "layered") then Some layered
+    else if bytes_eq name (codes "bypass") then Some bypass
+    else None
+
+-- a number that has to be given, within bounds
+abbrev pub a_number : ℕ → ℕ → Option Text → Option ℕ
+a_number low high given = do
+  text ← given
+  number_within low high text
+
+-- each number is below all those behind it
+abbrev pub is_ascending : List ℕ → Bool
+is_ascending [] = true
+is_ascending (first ∷ more) = list_all (nat_lt first) more && is_ascending more
+
+-- the members that words name
+abbrev pub members_in : List Text → Option (List ℕ)
+members_in [] = Some []
+members_in (word ∷ words) = do
+  member ← number_within 0 31 word
+  members ← members_in words
+  Some (member ∷ members)
+
+-- members that have to be given, one or more in ascending order, with commas (44) between
+abbrev pub some_members : Option Text → Option (List ℕ)
+some_members given = do
+  text ← given
+  members ← members_in (slice_split (λ byte. byte == 44) text)
+  if is_ascending members then Some members else None
+
+-- `check FILE`
+abbrev pub check_job : Given → Option Job
+check_job given = do
+  _ ← with_only [] given
+  Some (check given.file)
+
+-- `synth FILE`
+abbrev pub synth_job : Given → Option Job
+synth_job given = do
+  _ ← with_only [] given
+  Some (synth given.file)
+
+-- `replay FILE SCRIPT`, may have `--run MODE`, `--wire` and `--count`
+abbrev pub replay_job : Given → Option Job
+replay_job given = do
+  _ ← with_only (codes "second" ∷ codes "run" ∷ codes "wire" ∷ codes "count" ∷ []) given
+  script ← given.second
+  mode ← mode_of given.run
+  Some (replay given.file script mode given.wire given.count)
+
+-- `load FILE --seed S --events E --members N`, may have `--run MODE`
+abbrev pub load_job : Given → Option Job
+load_job given = do
+  _ ← with_only (codes "seed" ∷ codes "events" ∷ codes "members" ∷ codes "run" ∷ []) given
+  seed ← a_number 0 4294967295 given.seed
+  events ← a_number 0 99999 given.events
+  members ← a_number 1 32 given.members
+  mode ← mode_of given.run
+  Some (load given.file seed events members mode)
+
+-- `node FILE PLAN --turns T --me IDS`, may have `--run MODE`
+abbrev pub node_job : Given → Option Job
+node_job given = do
+  _ ← with_only (codes "second" ∷ codes "turns" ∷ codes "me" ∷ codes "run" ∷ []) given
+  plan ← given.second
+  turns ← a_number 0 1000000 given.turns
+  members ← some_members given.me
+  mode ← mode_of given.run
+  Some (node given.file plan turns members mode)
+
+-- the job of what was given, if it is one
+abbrev pub job : Given → Option Job
+job given =
+    if bytes_eq given.job (codes "check") then check_job given
+    else if bytes_eq given.job (codes "synth") then synth_job given
+    else if bytes_eq given.job (codes "replay") then replay_job given
+    else if bytes_eq given.job (codes "load") then load_job given
+    else if bytes_eq given.job (codes "node") then node_job given
+    else None
+
+-- the job that the words behind the program's name are, if they are one
+abbrev pub job_of_words : List Text → Option Job
+job_of_words words = given_of words >>= job

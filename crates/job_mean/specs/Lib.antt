@@ -1,0 +1,4 @@
+pub mod Command
+pub mod Given
+pub mod Job
+pub mod Status

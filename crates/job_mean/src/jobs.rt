@@ -1,0 +1,24 @@
+//! Words of the command line, and the jobs that they name by the definitions.
+ghost use Rattle.std.specs.Prelude.{◌≡◌, [], ◌∷◌, Some, codes, true, false};
+ghost use Rattle.clap.specs.Faults.{is_simple_and_free};
+ghost use Rattle.job_mean.specs.Command.{command};
+ghost use Rattle.job_mean.specs.Job.{job_of_words, check, synth, replay, load, node, layered, bypass};
+
+/// The command is one of which `clap` promises what it finds, and that it refuses just what the definition
+/// refuses.
+pub fn simple_command()
+    ensures { is_simple_and_free command ≡ true }
+{}
+
+/// These words name these jobs.
+pub fn name_jobs()
+    ensures checks { job_of_words (codes "check" ∷ codes "a.layers" ∷ []) ≡ Some (check (codes "a.layers")) }
+    ensures synthesizes { job_of_words (codes "synth" ∷ codes "a.layers" ∷ []) ≡ Some (synth (codes "a.layers")) }
+    ensures replays { job_of_words (codes "replay" ∷ codes "a" ∷ codes "b" ∷ codes "--run" ∷ codes "layered" ∷ []) ≡ Some (replay (codes "a") (codes "b") layered false false) }
+    ensures replays_by_default { job_of_words (codes "replay" ∷ codes "a" ∷ codes "b" ∷ []) ≡ Some (replay (codes "a") (codes "b") bypass false false) }
+    ensures in_any_order { job_of_words (codes "--count" ∷ codes "replay" ∷ codes "--run=bypass" ∷ codes "a" ∷ codes "--wire" ∷ codes "b" ∷ []) ≡ Some (replay (codes "a") (codes "b") bypass true true) }
+    ensures loads { job_of_words (codes "load" ∷ codes "a" ∷ codes "--seed=4294967295" ∷ codes "--events" ∷ codes "99999" ∷ codes "--members" ∷ codes "32" ∷ []) ≡ Some (load (codes "a") 4294967295 99999 32 bypass) }
+    ensures runs_a_node { job_of_words (codes "node" ∷ codes "a" ∷ codes "b" ∷ codes "--turns" ∷ codes "1000000" ∷ codes "--me" ∷ codes "0,2,31" ∷ codes "--run" ∷ codes "layered" ∷ []) ≡ Some (node (codes "a") (codes "b") 1000000 (0 ∷ 2 ∷ 31 ∷ []) layered) }
+    ensures behind_the_end_of_options { job_of_words (codes "check" ∷ codes "--" ∷ codes "--wire" ∷ []) ≡ Some (check (codes "--wire")) }
+    ensures hyphen_and_nothing { job_of_words (codes "replay" ∷ codes "-" ∷ [] ∷ []) ≡ Some (replay (codes "-") [] bypass false false) }
+{}

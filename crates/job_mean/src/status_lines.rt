@@ -1,0 +1,44 @@
+//! The line on the standard error and the status of each end.
+ghost use Rattle.std.specs.Prelude.{◌≡◌, [], codes};
+ghost use Rattle.layer_ast.specs.declared.tokens.Kind.TheVariants.{BlockOk};
+ghost use Rattle.script_mean.specs.Script.{too_long, bad_line, no_member};
+ghost use Rattle.job_mean.specs.Status.{error_line, status_number, done, file_refused, words_refused, second_refused, read_failed, write_failed, link_failed, no_memory};
+ghost use Rattle.job_mean.specs.Status.{too_large, bad_token, unexpected, unknown, twice, over_limit, wrong_kind, arity, direction, header, initial, cycle, too_many, too_many_joins, misspelled, too_many_rows};
+
+/// The lines of a file's faults.
+pub fn say_file_faults()
+    ensures length { error_line (file_refused too_large) ≡ codes "file: too large\n" }
+    ensures tokens { error_line (file_refused (bad_token (record { line = 1; col = 12 }))) ≡ codes "file: token 1:12\n" }
+    ensures grammar { error_line (file_refused (unexpected (record { line = 20; col = 1 }))) ≡ codes "file: unexpected 20:1\n" }
+    ensures names { error_line (file_refused (unknown (record { line = 3; col = 4 }))) ≡ codes "file: unknown 3:4\n" }
+    ensures names_twice { error_line (file_refused (twice (record { line = 3; col = 4 }))) ≡ codes "file: twice 3:4\n" }
+    ensures limits { error_line (file_refused (over_limit (record { line = 3; col = 4 }))) ≡ codes "file: limit 3:4\n" }
+    ensures types { error_line (file_refused (wrong_kind (record { line = 3; col = 4 }))) ≡ codes "file: kind 3:4\n" }
+    ensures arities { error_line (file_refused (arity (record { line = 3; col = 4 }))) ≡ codes "file: arity 3:4\n" }
+    ensures directions { error_line (file_refused (direction (record { line = 3; col = 4 }))) ≡ codes "file: direction 3:4\n" }
+    ensures headers { error_line (file_refused (header (record { line = 3; col = 4 }))) ≡ codes "file: header 3:4\n" }
+    ensures initials { error_line (file_refused (initial (record { line = 3; col = 4 }))) ≡ codes "file: initial 3:4\n" }
+    ensures cycles { error_line (file_refused (cycle 2 BlockOk)) ≡ codes "file: cycle 2 BlockOk\n" }
+    ensures weights { error_line (file_refused (too_many 65537)) ≡ codes "file: too many 65537\n" }
+    ensures joins { error_line (file_refused too_many_joins) ≡ codes "file: joins\n" }
+{}
+
+/// The lines of a script's and a plan's faults.
+pub fn say_second_faults()
+    ensures length { error_line (second_refused (misspelled too_long)) ≡ codes "script: too long\n" }
+    ensures form { error_line (second_refused (misspelled (bad_line 100001))) ≡ codes "script: line 100001\n" }
+    ensures member { error_line (second_refused (misspelled (no_member 1))) ≡ codes "script: member 1\n" }
+    ensures rows { error_line (second_refused too_many_rows) ≡ codes "script: rows\n" }
+{}
+
+/// The statuses, and the other lines.
+pub fn say_statuses()
+    ensures good { (status_number done ≡ 0) × (error_line done ≡ []) }
+    ensures file { status_number (file_refused too_large) ≡ 1 }
+    ensures words { (status_number words_refused ≡ 2) × (error_line words_refused ≡ codes "words: refused\n") }
+    ensures second { status_number (second_refused too_many_rows) ≡ 3 }
+    ensures read { (status_number read_failed ≡ 4) × (error_line read_failed ≡ codes "read fault\n") }
+    ensures write { (status_number write_failed ≡ 5) × (error_line write_failed ≡ codes "write fault\n") }
+    ensures link { (status_number link_failed ≡ 6) × (error_line link_failed ≡ codes "link fault\n") }
+    ensures memory { (status_number no_memory ≡ 7) × (error_line no_memory ≡ codes "no memory\n") }
+{}
