@@ -19,7 +19,8 @@ use Rattle.layer_mean.specs.Tree.{LayerTree}
 use Rattle.layer_mean.specs.State.{State}
 use Rattle.layer_mean.specs.Visit.{fresh}
 use Rattle.layer_mean.specs.Queue.{Task, Work, run}
-use Rattle.packet_mean.specs.Plan.{Plan, kind_of}
+use Rattle.packet_mean.specs.Plan.{kind_of}
+use Rattle.stack_mean.specs.Plan.{Plan}
 use Rattle.packet_mean.specs.Received.{received}
 use Rattle.packet_mean.specs.declared.here.Here.{Here}
 use Rattle.run_mean.specs.View.{ids, rank, next_view}

@@ -1,0 +1,156 @@
+-- The report of a run: the lines of each event, the same whether it is run by layers or by bypasses, with the packets' bytes and the
+-- number of visits where these are wanted.
+use Rattle.std.specs.Prelude.{ℕ, zero, suc, ◌+◌, Bool, true, false, if◌then◌else◌, List, [], ◌∷◌, ◌++◌, map, length, slice_index_or, codes, Option, Some, None, option_to_list}
+use Rattle.std.specs.List.{fold, concat, enumerate_from, flat_map, sum_by}
+use Rattle.std.specs.Option.{option_map_or}
+use Rattle.std.specs.Fmt.{decimal}
+use Rattle.msg_core.specs.declared.packet.View.{View}
+use Rattle.layer_mean.specs.Tree.{LayerTree, CellTree}
+use Rattle.layer_mean.specs.State.{State, cell_at}
+use Rattle.layer_mean.specs.Visit.{no_state}
+use Rattle.script_mean.specs.Event.{member_of}
+use Rattle.script_mean.specs.declared.event.ScriptEvent.{ScriptEvent}
+use Rattle.script_mean.specs.declared.event.ScriptEvent.TheVariants as script
+use Rattle.script_mean.specs.declared.script.Script.{Script}
+use Rattle.stack_mean.specs.Plan.{Plan}
+use Rattle.job_mean.specs.Job.{Mode, layered, bypass}
+use Rattle.run_mean.specs.Member.{Member, inside, out, Output, deliver_cast, deliver_send, block, announce, packet, nowhere, timer, quiet, Step}
+use Rattle.run_mean.specs.World.{World, first_world, member_at, Did, taken, refused, absent, shown, Happening, happens}
+use Rattle.run_mean.specs.Common.{is_common, as_sent, wire}
+use Rattle.run_mean.specs.Lines.{line, deliver_line, number_line, packet_line, wire_line, view_line, out_line, state_out_line, refused_line, absent_line, cell_line, cell_values}
+
+-- The lines of an output, a packet having this number.
+abbrev pub output_lines : List LayerTree → ℕ → ℕ → Output → List (List ℕ)
+output_lines stack id k (deliver_cast peer body) = deliver_line id (codes "cast") peer body ∷ []
+output_lines stack id k (deliver_send peer body) = deliver_line id (codes "send") peer body ∷ []
+output_lines stack id k (block a) = number_line (codes "block") id a ∷ []
+output_lines stack id k (announce a) = number_line (codes "announce") id a ∷ []
+output_lines stack id k (packet p) = packet_line stack k id p ∷ []
+output_lines stack id k nowhere = []
+output_lines stack id k (timer a) = number_line (codes "timer") id a ∷ []
+output_lines stack id k (quiet dir event) = []
+
+-- The number of the next packet behind an output.
+abbrev pub number_behind : ℕ → Output → ℕ
+number_behind k (packet p) = k + 1
+number_behind k _ = k
+
+-- The lines of outputs, their packets numbered from k on.
+abbrev pub lines_of_outputs : List LayerTree → ℕ → ℕ → List Output → List (List ℕ)
+lines_of_outputs stack id k [] = []
+lines_of_outputs stack id k (o ∷ outputs) = output_lines stack id k o ++ lines_of_outputs stack id (number_behind k o) outputs
+
+-- The line with the bytes of a packet as it is sent.
+abbrev pub wire_lines : List Plan → ℕ → Output × Option ℕ → List (List ℕ)
+wire_lines plans k (packet p, plan) = wire_line k (wire plans p plan) ∷ []
+wire_lines plans k (_, plan) = []
+
+-- The lines of outputs as they are sent, behind each packet's line its bytes.
+abbrev pub lines_of_wires : List LayerTree → List Plan → ℕ → ℕ → List (Output × Option ℕ) → List (List ℕ)
+lines_of_wires stack plans id k [] = []
+lines_of_wires stack plans id k (o ∷ outputs) =
+    output_lines stack id k o.0 ++ wire_lines plans k o ++ lines_of_wires stack plans id (number_behind k o.0) outputs
+
+-- The lines of a step's outputs; where the packets' bytes are wanted, they are those of a mode.
+abbrev pub step_lines : List LayerTree → List Plan → Option Mode → ℕ → ℕ → Step → List (List ℕ)
+step_lines stack plans None id k s = lines_of_outputs stack id k s.outputs
+step_lines stack plans (Some mode) id k s = lines_of_wires stack plans id k (as_sent mode stack plans s)
+
+-- The line of a view that is installed, and of a member that leaves.
+abbrev pub installed_line : ℕ → Member → List ℕ
+installed_line id (inside view states) = view_line (codes "view") id view
+installed_line id out = out_line id
+
+-- The lines of a cell, and those of all cells of a member, by place and in the order of their declarations.
+abbrev pub cell_lines : List LayerTree → ℕ → ℕ → LayerTree → State → ℕ × CellTree → List (List ℕ)
+cell_lines stack id place layer s c =
+    map (λ x. cell_line id place layer x.0 x.1) (cell_values stack c.1.name c.1.form (cell_at s c.0))
+
+abbrev pub layer_lines : List LayerTree → ℕ → List State → ℕ × LayerTree → List (List ℕ)
+layer_lines stack id states l = flat_map
+    (cell_lines stack id l.0 l.1 (slice_index_or states l.0 no_state))
+    (enumerate_from 0 l.1.cells)
+
+-- A member that is shown.
+abbrev pub member_lines : List LayerTree → ℕ → Member → List (List ℕ)
+member_lines stack id (inside view states) =
+    view_line (codes "state") id view ∷ flat_map (layer_lines stack id states) (enumerate_from 0 stack)
+member_lines stack id out = state_out_line id ∷ []
+
+-- The packet that an event gives, 0 for none.
+abbrev pub packet_given : ScriptEvent → ℕ
+packet_given (script.Give k id) = k
+packet_given _ = 0
+
+-- One event of a run: the world before it, and what it came to.
+pub record Moment : Type 0 where
+  pub before : World
+  pub event : ScriptEvent
+  pub happening : Happening
+
+-- The moments of a run of events from a world on.
+abbrev pub moments : List LayerTree → List Plan → World → List ScriptEvent → List Moment
+moments stack plans w [] = []
+moments stack plans w (e ∷ events) =
+    let h = happens stack plans w e in record { before = w; event = e; happening = h } ∷ moments stack plans h.world events
+
+-- The lines of what an event of a member came to.
+abbrev pub lines_of : List LayerTree → List Plan → Option Mode → Moment → Did → List (List ℕ)
+lines_of stack plans wires m (taken s) =
+    step_lines stack plans wires (member_of m.event) (length m.before.packets + 1) s
+    ++ map (installed_line (member_of m.event)) (option_to_list s.installs)
+lines_of stack plans wires m (refused refusal) = refused_line (member_of m.event) refusal ∷ []
+lines_of stack plans wires m absent = absent_line (member_of m.event) (packet_given m.event) ∷ []
+lines_of stack plans wires m shown = member_lines stack (member_of m.event) (member_at m.before (member_of m.event))
+
+abbrev pub moment_lines : List LayerTree → List Plan → Option Mode → Moment → List (List ℕ)
+moment_lines stack plans wires m = lines_of stack plans wires m m.happening.did
+
+-- How many visits a step counts for: in bypass mode a common one counts for none.
+abbrev pub counted : Mode → List LayerTree → List Plan → Step → ℕ
+counted layered stack plans s = s.work.visits
+counted bypass stack plans s = if is_common stack plans s then 0 else s.work.visits
+
+abbrev pub visits_in : Mode → List LayerTree → List Plan → Did → ℕ
+visits_in mode stack plans (taken s) = counted mode stack plans s
+visits_in mode stack plans _ = 0
+
+abbrev pub visits_of : Mode → List LayerTree → List Plan → Moment → ℕ
+visits_of mode stack plans m = visits_in mode stack plans m.happening.did
+
+-- The moments of a script.
+abbrev pub run_of : List LayerTree → List Plan → Script → List Moment
+run_of stack plans s = moments stack plans (first_world stack s.group s.stamp s.members) s.events
+
+-- The last line, `end N`, of N events; and `visits V`.
+abbrev pub end_line : ℕ → List ℕ
+end_line n = line (codes "end" ∷ decimal n ∷ [])
+
+abbrev pub visits_line : ℕ → List ℕ
+visits_line v = line (codes "visits" ∷ decimal v ∷ [])
+
+-- What is wanted beside the report: the packets' bytes as they are sent in a mode, and the number of visits in a mode.
+pub record Wanted : Type 0 where
+  pub wires : Option Mode
+  pub count : Option Mode
+
+-- The lines of a run with what is wanted.
+abbrev pub wanted_lines : List LayerTree → List Plan → Wanted → Script → List Moment → List (List ℕ)
+wanted_lines stack plans wanted s run =
+    flat_map (moment_lines stack plans wanted.wires) run
+    ++ end_line (length s.events)
+    ∷ map (λ mode. visits_line (sum_by (visits_of mode stack plans) run)) (option_to_list wanted.count)
+
+-- The report of a script: it knows of no mode.
+unfoldable pub report_lines : List LayerTree → List Plan → Script → List (List ℕ)
+report_lines stack plans s = wanted_lines stack plans (record { wires = None; count = None }) s (run_of stack plans s)
+
+-- A mode, if it matters.
+abbrev pub mode_if : Bool → Mode → Option Mode
+mode_if false mode = None
+mode_if true mode = Some mode
+
+-- What the program writes of a script in a mode: the report, where wanted with the packets' bytes and the number of visits.
+unfoldable pub output_in : List LayerTree → List Plan → Script → Mode → (wire count : Bool) → List (List ℕ)
+output_in stack plans s mode wire count =
+    wanted_lines stack plans (record { wires = mode_if wire mode; count = mode_if count mode }) s (run_of stack plans s)

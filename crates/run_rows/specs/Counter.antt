@@ -1,0 +1,45 @@
+-- Runs of the counter layer, with their reports.
+use Rattle.std.specs.Prelude.{◌≡◌, ℕ, Bool, true, false, List, [], ◌∷◌, ◌++◌, codes}
+use Rattle.std.specs.List.{concat}
+use Rattle.layer_mean.specs.Tree.{LayerTree}
+use Rattle.script_mean.specs.declared.event.ScriptEvent.{ScriptEvent}
+use Rattle.script_mean.specs.declared.event.ScriptEvent.TheVariants as script
+use Rattle.script_mean.specs.declared.script.Script.{Script}
+use Rattle.stack_mean.specs.Plans.{plans_of}
+use Rattle.job_mean.specs.Job.{Mode, layered, bypass}
+use Rattle.run_mean.specs.Report.{output_in}
+use Rattle.mean_rows.specs.Counter.{counter}
+
+-- What the program writes of a script of three members.
+abbrev pub written : List LayerTree → (stamp members : ℕ) → List ScriptEvent → Mode → (wire count : Bool) → List ℕ
+written stack stamp members events mode wire count =
+    concat (output_in stack (plans_of stack) (record { group = 1; stamp = stamp; members = members; events = events }) mode wire count)
+
+abbrev pub hi : ScriptEvent
+hi = script.Cast 0 (codes "hi")
+
+-- One packet given twice: the second time is no common step.
+abbrev pub given_twice : List ScriptEvent
+given_twice = hi ∷ script.Give 1 1 ∷ script.Give 1 1 ∷ script.Show 1 ∷ []
+
+abbrev pub given_twice_report : List ℕ
+given_twice_report =
+    codes "packet 1 0 all cnt.num(0) 6869\n" ++ codes "deliver 1 cast 0 6869\n" ++ codes "deliver 1 cast 0 6869\n"
+    ++ codes "state 1 0 7\n" ++ codes "cell 1 0 cnt.k 0\n" ++ codes "cell 1 0 cnt.e 1 0 0\n" ++ codes "end 4\n"
+
+abbrev pub GivenTwice : Type 0
+GivenTwice =
+    (written (counter ∷ []) 7 3 given_twice layered false true ≡ given_twice_report ++ codes "visits 3\n")
+    × (written (counter ∷ []) 7 3 given_twice bypass false true ≡ given_twice_report ++ codes "visits 1\n")
+
+-- One packet with its bytes: in full, and short.
+abbrev pub Wires : Type 0
+Wires =
+    (written (counter ∷ []) 7 3 (hi ∷ script.Give 1 1 ∷ []) layered true false ≡
+        codes "packet 1 0 all cnt.num(0) 6869\n"
+        ++ codes "wire 1 e50000000100000007000000000000000700ff01000000006869\n"
+        ++ codes "deliver 1 cast 0 6869\n" ++ codes "end 2\n")
+    × (written (counter ∷ []) 7 3 (hi ∷ script.Give 1 1 ∷ []) bypass true false ≡
+        codes "packet 1 0 all cnt.num(0) 6869\n"
+        ++ codes "wire 1 e60000000100000007000000000000000700ff00000000006869\n"
+        ++ codes "deliver 1 cast 0 6869\n" ++ codes "end 2\n")
