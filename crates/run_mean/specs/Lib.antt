@@ -5,3 +5,5 @@ pub mod Common
 pub mod Text
 pub mod Lines
 pub mod Report
+pub mod Tally
+pub mod Journal

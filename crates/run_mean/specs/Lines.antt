@@ -1,6 +1,6 @@
 -- The lines of a report, one for each thing that it tells. Each ends with a line feed.
 use Rattle.std.specs.Prelude.{ℕ, List, [], ◌∷◌, ◌++◌, map, codes}
-use Rattle.std.specs.List.{join_by, concat, enumerate_from}
+use Rattle.std.specs.List.{join_by, enumerate_from}
 use Rattle.std.specs.Fmt.{decimal}
 use Rattle.msg_core.specs.declared.packet.Dest.{Dest}
 use Rattle.msg_core.specs.declared.packet.Dest.TheVariants.{All, Rank}
@@ -8,12 +8,11 @@ use Rattle.msg_core.specs.declared.packet.Packet.{Packet}
 use Rattle.msg_core.specs.declared.packet.Stray.{Stray}
 use Rattle.msg_core.specs.declared.packet.Stray.TheVariants as stray
 use Rattle.msg_core.specs.declared.packet.View.{View}
-use Rattle.layer_mean.specs.declared.run.Row.{Row}
-use Rattle.layer_mean.specs.Tree.{LayerTree, CellTree, Form, numbers, queue, queues}
-use Rattle.layer_mean.specs.State.{State, Contents, numbers_in, queues_in, cell_at}
-use Rattle.layer_mean.specs.Visit.{no_state}
+use Rattle.layer_mean.specs.Tree.{LayerTree, Form, numbers, queue, queues}
+use Rattle.layer_mean.specs.State.{Contents, numbers_in, queues_in}
 use Rattle.run_mean.specs.Member.{Refusal, is_out, too_big, is_stray}
-use Rattle.run_mean.specs.Text.{hex_text, chain_text, rows_text}
+use Rattle.script_mean.specs.EventText.{hex_text}
+use Rattle.run_mean.specs.Text.{chain_text, rows_text}
 
 -- Words with a space between, and a line feed behind the last.
 abbrev pub line : List (List ℕ) → List ℕ

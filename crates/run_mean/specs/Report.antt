@@ -1,10 +1,8 @@
 -- The report of a run: the lines of each event, the same whether it is run by layers or by bypasses, with the packets' bytes and the
 -- number of visits where these are wanted.
-use Rattle.std.specs.Prelude.{ℕ, zero, suc, ◌+◌, Bool, true, false, if◌then◌else◌, List, [], ◌∷◌, ◌++◌, map, length, slice_index_or, codes, Option, Some, None, option_to_list}
-use Rattle.std.specs.List.{fold, concat, enumerate_from, flat_map, sum_by}
-use Rattle.std.specs.Option.{option_map_or}
+use Rattle.std.specs.Prelude.{ℕ, ◌+◌, Bool, true, false, if◌then◌else◌, List, [], ◌∷◌, ◌++◌, map, length, slice_index_or, codes, Option, Some, None, option_to_list}
+use Rattle.std.specs.List.{enumerate_from, flat_map, sum_by}
 use Rattle.std.specs.Fmt.{decimal}
-use Rattle.msg_core.specs.declared.packet.View.{View}
 use Rattle.layer_mean.specs.Tree.{LayerTree, CellTree}
 use Rattle.layer_mean.specs.State.{State, cell_at}
 use Rattle.layer_mean.specs.Visit.{no_state}
@@ -16,7 +14,7 @@ use Rattle.stack_mean.specs.Plan.{Plan}
 use Rattle.job_mean.specs.Job.{Mode, layered, bypass}
 use Rattle.run_mean.specs.Member.{Member, inside, out, Output, deliver_cast, deliver_send, block, announce, packet, nowhere, timer, quiet, Step}
 use Rattle.run_mean.specs.World.{World, first_world, member_at, Did, taken, refused, absent, shown, Happening, happens}
-use Rattle.run_mean.specs.Common.{is_common, as_sent, wire}
+use Rattle.run_mean.specs.Common.{is_common, with_plans, as_sent, wire}
 use Rattle.run_mean.specs.Lines.{line, deliver_line, number_line, packet_line, wire_line, view_line, out_line, state_out_line, refused_line, absent_line, cell_line, cell_values}
 
 -- The lines of an output, a packet having this number.
@@ -35,26 +33,28 @@ abbrev pub number_behind : ℕ → Output → ℕ
 number_behind k (packet p) = k + 1
 number_behind k _ = k
 
--- The lines of outputs, their packets numbered from k on.
-abbrev pub lines_of_outputs : List LayerTree → ℕ → ℕ → List Output → List (List ℕ)
-lines_of_outputs stack id k [] = []
-lines_of_outputs stack id k (o ∷ outputs) = output_lines stack id k o ++ lines_of_outputs stack id (number_behind k o) outputs
+-- What stands behind the lines of an output, of which the packet's number is told and the plan under which it is sent short.
+abbrev pub Annex : Type 0
+Annex = ℕ → Output × Option ℕ → List (List ℕ)
 
--- The line with the bytes of a packet as it is sent.
-abbrev pub wire_lines : List Plan → ℕ → Output × Option ℕ → List (List ℕ)
-wire_lines plans k (packet p, plan) = wire_line k (wire plans p plan) ∷ []
-wire_lines plans k (_, plan) = []
+-- The lines of outputs, their packets numbered from k on, with what stands behind each.
+abbrev pub lines_of_outputs : List LayerTree → Annex → ℕ → ℕ → List (Output × Option ℕ) → List (List ℕ)
+lines_of_outputs stack annex id k [] = []
+lines_of_outputs stack annex id k (o ∷ outputs) =
+    output_lines stack id k o.0 ++ annex k o ++ lines_of_outputs stack annex id (number_behind k o.0) outputs
 
--- The lines of outputs as they are sent, behind each packet's line its bytes.
-abbrev pub lines_of_wires : List LayerTree → List Plan → ℕ → ℕ → List (Output × Option ℕ) → List (List ℕ)
-lines_of_wires stack plans id k [] = []
-lines_of_wires stack plans id k (o ∷ outputs) =
-    output_lines stack id k o.0 ++ wire_lines plans k o ++ lines_of_wires stack plans id (number_behind k o.0) outputs
+-- Nothing, or the line with the bytes of a packet as it is sent.
+abbrev pub no_annex : Annex
+no_annex k o = []
+
+abbrev pub wire_annex : List Plan → Annex
+wire_annex plans k (packet p, plan) = wire_line k (wire plans p plan) ∷ []
+wire_annex plans k (_, plan) = []
 
 -- The lines of a step's outputs; where the packets' bytes are wanted, they are those of a mode.
 abbrev pub step_lines : List LayerTree → List Plan → Option Mode → ℕ → ℕ → Step → List (List ℕ)
-step_lines stack plans None id k s = lines_of_outputs stack id k s.outputs
-step_lines stack plans (Some mode) id k s = lines_of_wires stack plans id k (as_sent mode stack plans s)
+step_lines stack plans None id k s = lines_of_outputs stack no_annex id k (with_plans plans None s.outputs)
+step_lines stack plans (Some mode) id k s = lines_of_outputs stack (wire_annex plans) id k (as_sent mode stack plans s)
 
 -- The line of a view that is installed, and of a member that leaves.
 abbrev pub installed_line : ℕ → Member → List ℕ
@@ -94,17 +94,21 @@ moments stack plans w [] = []
 moments stack plans w (e ∷ events) =
     let h = happens stack plans w e in record { before = w; event = e; happening = h } ∷ moments stack plans h.world events
 
--- The lines of what an event of a member came to.
-abbrev pub lines_of : List LayerTree → List Plan → Option Mode → Moment → Did → List (List ℕ)
-lines_of stack plans wires m (taken s) =
-    step_lines stack plans wires (member_of m.event) (length m.before.packets + 1) s
-    ++ map (installed_line (member_of m.event)) (option_to_list s.installs)
-lines_of stack plans wires m (refused refusal) = refused_line (member_of m.event) refusal ∷ []
-lines_of stack plans wires m absent = absent_line (member_of m.event) (packet_given m.event) ∷ []
-lines_of stack plans wires m shown = member_lines stack (member_of m.event) (member_at m.before (member_of m.event))
+-- The lines of what an event of a member came to, those of a step's outputs being told.
+abbrev pub lines_of : List LayerTree → (Step → List (List ℕ)) → Moment → Did → List (List ℕ)
+lines_of stack of_step m (taken s) = of_step s ++ map (installed_line (member_of m.event)) (option_to_list s.installs)
+lines_of stack of_step m (refused refusal) = refused_line (member_of m.event) refusal ∷ []
+lines_of stack of_step m absent = absent_line (member_of m.event) (packet_given m.event) ∷ []
+lines_of stack of_step m shown = member_lines stack (member_of m.event) (member_at m.before (member_of m.event))
 
+-- The number of the first packet that a moment sends.
+abbrev pub first_number : Moment → ℕ
+first_number m = length m.before.packets + 1
+
+-- The lines of a moment; where the packets' bytes are wanted, they are those of a mode.
 abbrev pub moment_lines : List LayerTree → List Plan → Option Mode → Moment → List (List ℕ)
-moment_lines stack plans wires m = lines_of stack plans wires m m.happening.did
+moment_lines stack plans wires m =
+    lines_of stack (step_lines stack plans wires (member_of m.event) (first_number m)) m m.happening.did
 
 -- How many visits a step counts for: in bypass mode a common one counts for none.
 abbrev pub counted : Mode → List LayerTree → List Plan → Step → ℕ

@@ -1,17 +1,12 @@
--- How numbers, bytes, headers, messages and rows are written in a report.
-use Rattle.std.specs.Prelude.{ℕ, ◌-◌, ◌==◌, false, if◌then◌else◌, List, [], ◌∷◌, ◌++◌, map, slice_index_or, codes, Option, Some, None, option_map, option_to_list}
+-- How headers, messages and rows are written in a report.
+use Rattle.std.specs.Prelude.{ℕ, ◌-◌, ◌==◌, false, if◌then◌else◌, List, [], ◌∷◌, ◌++◌, map, slice_index_or, codes, option_to_list}
 use Rattle.std.specs.List.{join_by}
 use Rattle.std.specs.Fmt.{decimal}
-use Rattle.hex.specs.Hex.{encode_lower}
 use Rattle.msg_core.specs.Chain.{Content}
 use Rattle.msg_core.specs.declared.message.Header.{Header}
 use Rattle.layer_mean.specs.declared.run.Row.{Row}
-use Rattle.layer_mean.specs.Tree.{LayerTree, HeaderTree, no_layer}
-
--- Bytes in lower case hexadecimal, or `-` for none.
-abbrev pub hex_text : List ℕ → List ℕ
-hex_text [] = codes "-"
-hex_text (b ∷ bs) = encode_lower (b ∷ bs)
+use Rattle.layer_mean.specs.Tree.{LayerTree, no_layer}
+use Rattle.script_mean.specs.EventText.{hex_text}
 
 -- The layer at a place, counted from 0.
 abbrev pub layer_number : List LayerTree → ℕ → LayerTree

@@ -1,19 +1,10 @@
 -- Runs of the counter layer, with their reports.
-use Rattle.std.specs.Prelude.{◌≡◌, ℕ, Bool, true, false, List, [], ◌∷◌, ◌++◌, codes}
-use Rattle.std.specs.List.{concat}
-use Rattle.layer_mean.specs.Tree.{LayerTree}
+use Rattle.std.specs.Prelude.{◌≡◌, ℕ, true, false, List, [], ◌∷◌, ◌++◌, codes}
 use Rattle.script_mean.specs.declared.event.ScriptEvent.{ScriptEvent}
 use Rattle.script_mean.specs.declared.event.ScriptEvent.TheVariants as script
-use Rattle.script_mean.specs.declared.script.Script.{Script}
-use Rattle.stack_mean.specs.Plans.{plans_of}
-use Rattle.job_mean.specs.Job.{Mode, layered, bypass}
-use Rattle.run_mean.specs.Report.{output_in}
+use Rattle.job_mean.specs.Job.{layered, bypass}
 use Rattle.mean_rows.specs.Counter.{counter}
-
--- What the program writes of a script of three members.
-abbrev pub written : List LayerTree → (stamp members : ℕ) → List ScriptEvent → Mode → (wire count : Bool) → List ℕ
-written stack stamp members events mode wire count =
-    concat (output_in stack (plans_of stack) (record { group = 1; stamp = stamp; members = members; events = events }) mode wire count)
+use Rattle.run_rows.specs.Written.{written}
 
 abbrev pub hi : ScriptEvent
 hi = script.Cast 0 (codes "hi")
@@ -43,3 +34,18 @@ Wires =
         codes "packet 1 0 all cnt.num(0) 6869\n"
         ++ codes "wire 1 e60000000100000007000000000000000700ff00000000006869\n"
         ++ codes "deliver 1 cast 0 6869\n" ++ codes "end 2\n")
+
+-- Two packets given in the wrong order: both gives miss, and each member's application gets what was given.
+abbrev pub swapped : List ScriptEvent
+swapped = hi ∷ script.Cast 0 [] ∷ script.Give 2 1 ∷ script.Give 1 1 ∷ script.Show 1 ∷ []
+
+abbrev pub swapped_report : List ℕ
+swapped_report =
+    codes "packet 1 0 all cnt.num(0) 6869\n" ++ codes "packet 2 0 all cnt.num(1) -\n" ++ codes "deliver 1 cast 0 -\n"
+    ++ codes "deliver 1 cast 0 6869\n" ++ codes "state 1 0 7\n" ++ codes "cell 1 0 cnt.k 0\n" ++ codes "cell 1 0 cnt.e 1 0 0\n"
+    ++ codes "end 5\n"
+
+abbrev pub GivenSwapped : Type 0
+GivenSwapped =
+    (written (counter ∷ []) 7 3 swapped layered false true ≡ swapped_report ++ codes "visits 4\n")
+    × (written (counter ∷ []) 7 3 swapped bypass false true ≡ swapped_report ++ codes "visits 2\n")

@@ -1,14 +1,69 @@
 //! Runs, worked out from the definitions alone.
 #![tactic(auto)]
 
-ghost use Rattle.run_rows.specs.Counter.{GivenTwice, Wires};
+ghost use Rattle.run_rows.specs.Counter.{GivenSwapped, GivenTwice, Wires};
+ghost use Rattle.run_rows.specs.Refusals.{Refuses, RefusesGiven};
+ghost use Rattle.run_rows.specs.Towers.{FourPlaces, ThreePlaces};
+ghost use Rattle.run_rows.specs.Alias.{ThreeCasts};
+ghost use Rattle.run_rows.specs.Leaving.{Keeps, Leaves};
+ghost use Rattle.run_rows.specs.Generated.{Accepts, OneEvent};
 
 /// A packet of the counter layer given twice, in both modes.
 pub fn given_twice()
     ensures { GivenTwice }
 {}
 
+/// Two packets of the counter layer given in the wrong order, in both modes.
+pub fn given_swapped()
+    ensures { GivenSwapped }
+{}
+
 /// The bytes of a packet, in full and short.
 pub fn wires()
     ensures { Wires }
+{}
+
+/// Each cause for which a datagram is refused.
+pub fn refuses()
+    ensures { Refuses }
+{}
+
+/// The own packet, packets that there aren't, and a body that is too long.
+pub fn refuses_given()
+    ensures { RefusesGiven }
+{}
+
+/// A cast through three places, in both modes.
+pub fn three_places()
+    ensures { ThreePlaces }
+{}
+
+/// A cast through four places, in both modes.
+pub fn four_places()
+    ensures { FourPlaces }
+{}
+
+/// A layer that writes before it branches, in both modes.
+pub fn three_casts()
+    ensures { ThreeCasts }
+{}
+
+/// A member that leaves.
+pub fn leaves()
+    ensures { Leaves }
+{}
+
+/// A queue that is shown.
+pub fn keeps()
+    ensures { Keeps }
+{}
+
+/// A generated script of one event.
+pub fn one_event()
+    ensures { OneEvent }
+{}
+
+/// What an accepted stack is answered with.
+pub fn accepts()
+    ensures { Accepts }
 {}

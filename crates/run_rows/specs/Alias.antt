@@ -1,0 +1,20 @@
+-- Three casts of a layer that writes before it branches: the first is no common step.
+use Rattle.std.specs.Prelude.{◌≡◌, ℕ, true, false, List, [], ◌∷◌, ◌++◌, codes}
+use Rattle.script_mean.specs.declared.event.ScriptEvent.{ScriptEvent}
+use Rattle.script_mean.specs.declared.event.ScriptEvent.TheVariants as script
+use Rattle.job_mean.specs.Job.{layered, bypass}
+use Rattle.mean_rows.specs.Alias.{alias}
+use Rattle.run_rows.specs.Written.{written}
+
+abbrev pub three_casts : List ScriptEvent
+three_casts = script.Cast 0 [] ∷ script.Cast 0 [] ∷ script.Cast 0 [] ∷ []
+
+abbrev pub three_packets : List ℕ
+three_packets =
+    codes "packet 1 0 all alias.b() -\n" ++ codes "packet 2 0 all alias.a() -\n" ++ codes "packet 3 0 all alias.a() -\n"
+    ++ codes "end 3\n"
+
+abbrev pub ThreeCasts : Type 0
+ThreeCasts =
+    (written (alias ∷ []) 1 2 three_casts layered false true ≡ three_packets ++ codes "visits 3\n")
+    × (written (alias ∷ []) 1 2 three_casts bypass false true ≡ three_packets ++ codes "visits 1\n")

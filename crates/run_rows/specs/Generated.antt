@@ -1,0 +1,18 @@
+-- A run over a generated script.
+use Rattle.std.specs.Prelude.{◌≡◌, [], ◌∷◌, ◌++◌, codes}
+use Rattle.std.specs.List.{concat}
+use Rattle.script_mean.specs.Generate.{generate}
+use Rattle.stack_mean.specs.Plans.{plans_of}
+use Rattle.job_mean.specs.Job.{layered}
+use Rattle.run_mean.specs.Tally.{tally, accepted_lines}
+use Rattle.mean_rows.specs.Counter.{counter}
+
+-- One event of one member, which gives a packet that there isn't.
+abbrev pub OneEvent : Type 0
+OneEvent =
+    concat (tally (counter ∷ []) (plans_of (counter ∷ [])) layered (generate 0 1 1))
+    ≡ codes "deliver 0 packet 0 timer 0 block 0 announce 0 view 0 out 0 refused 0 absent 1 end 1\n" ++ codes "short 0\n"
+
+-- The text that an accepted stack of one place is answered with.
+abbrev pub Accepts : Type 0
+Accepts = concat (accepted_lines (counter ∷ [])) ≡ codes "accepted 1\n"
