@@ -1,5 +1,5 @@
 -- The tokens that a tree is printed as, and the signs of directions, operators, functions and sorts.
-use Rattle.std.specs.Prelude.{ℕ, Option, Some, None}
+use Rattle.std.specs.Prelude.{ℕ, List, Option, Some, None, filter_map}
 use Rattle.layer_ast.specs.declared.names.At.{At}
 use Rattle.layer_ast.specs.declared.names.Name.{Name}
 use Rattle.layer_ast.specs.declared.tokens.Dir.{Dir}
@@ -22,6 +22,10 @@ use Rattle.layer_ast.specs.declared.syntax.Sort.TheVariants.{Int, Msg, Part}
 pub record Printed : Type 0 where
   pub token : Token
   pub at : Option At
+
+-- the places that printed tokens say, in order
+abbrev pub marks : List Printed → List At
+marks = filter_map (λ p. p.at)
 
 -- a sign that the tree keeps no place of
 abbrev pub plain : Sign → Printed

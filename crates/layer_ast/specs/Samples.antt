@@ -1,5 +1,5 @@
 -- Small texts, worked out.
-use Rattle.std.specs.Prelude.{◌≡◌, ℕ, List, [], ◌∷◌, ◌++◌, Some, None, codes}
+use Rattle.std.specs.Prelude.{◌≡◌, ℕ, List, [], ◌∷◌, ◌++◌, Some, None, codes, length}
 use Rattle.layer_ast.specs.declared.names.At.{At}
 use Rattle.layer_ast.specs.declared.names.Name.{Name}
 use Rattle.layer_ast.specs.declared.tokens.Lexed.{Lexed}
@@ -15,6 +15,8 @@ use Rattle.layer_ast.specs.declared.syntax.Operator.TheVariants.{Add, Equal, Gre
 use Rattle.layer_ast.specs.declared.syntax.Shape.TheVariants.{Square}
 use Rattle.layer_ast.specs.declared.syntax.Sort.TheVariants.{Msg}
 use Rattle.layer_ast.specs.Cut.{cut}
+use Rattle.layer_ast.specs.Print.{file}
+use Rattle.layer_ast.specs.Printed.{marks}
 use Rattle.layer_ast.specs.Spells.{Spells}
 use Rattle.layer_ast.specs.Tree.{number, me, members, named, item, rows, size, binary, apply, queue, bare, held, value, content, fixed, sized, bind, set_square, push, take, when, choose, each, emit, none, more, always, common, HandlerTree, param, int, rows_cell, header, FileTree}
 
@@ -178,3 +180,7 @@ sample_file =
 -- the text spells the file
 abbrev pub SpellsLayer : Type 0
 SpellsLayer = Spells sample_text sample_file
+
+-- the file keeps the places of 73 of its 193 tokens
+abbrev pub KeepsPlaces : Type 0
+KeepsPlaces = (length (marks (file sample_file)) ≡ 73) × (length (file sample_file) ≡ 193)

@@ -1,5 +1,5 @@
 //! Small texts, worked out by evaluation: the definitions compute. Nothing runs here.
-ghost use Rattle.layer_ast.specs.Samples.{CutsText, CutsLetter, CutsNumbers, SpellsPlace, SpellsLayer};
+ghost use Rattle.layer_ast.specs.Samples.{CutsText, CutsLetter, CutsNumbers, SpellsPlace, SpellsLayer, KeepsPlaces};
 
 /// A text with a comment, a name that begins like a reserved word, long symbols and a bad byte.
 pub fn cuts_text()
@@ -24,4 +24,9 @@ pub fn spells_place()
 /// A file with a layer and two places: most forms of declarations, statements and expressions.
 pub fn spells_layer()
     ensures { SpellsLayer }
+{}
+
+/// How many places the tree of that file keeps.
+pub fn keeps_places()
+    ensures { KeepsPlaces }
 {}

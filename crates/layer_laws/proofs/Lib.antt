@@ -1,4 +1,9 @@
+pub mod Arguments
+pub mod Begins
+pub mod Declarations
 pub mod Expressions
+pub mod Files
 pub mod Once
+pub mod Signs
+pub mod Statements
 pub mod Together
-pub mod Trees

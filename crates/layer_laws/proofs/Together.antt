@@ -4,7 +4,7 @@ use Rattle.layer_ast.specs.declared.names.At.{At}
 use Rattle.layer_ast.specs.declared.names.Name.{Name}
 use Rattle.layer_ast.specs.declared.tokens.Lexed.{Lexed}
 use Rattle.layer_ast.specs.declared.tokens.Token.TheVariants as token
-use Rattle.layer_ast.specs.Print.{Printed}
+use Rattle.layer_ast.specs.Printed.{Printed}
 use Rattle.layer_ast.specs.Spells.{Fits}
 
 -- where both say a place, it is the same
@@ -42,19 +42,6 @@ same_at (Some a) = refl
 pub goes_with_itself : (s : List Printed) → Together s s
 goes_with_itself [] = tt
 goes_with_itself (p ∷ s) = (refl, same_at p.at, goes_with_itself s)
-
-swapped_at : (a b : Option At) → BothAt a b → BothAt b a
-swapped_at (Some a) (Some b) h = sym h
-swapped_at None (Some b) h = tt
-swapped_at None None h = tt
-swapped_at (Some a) None h = tt
-
--- which of the two is the first doesn't matter
-pub swapped : (s t : List Printed) → Together s t → Together t s
-swapped [] [] h = tt
-swapped (p ∷ s) (q ∷ t) (e, a, h) = (sym e, swapped_at p.at q.at a, swapped s t h)
-swapped [] (q ∷ t) h = absurd h
-swapped (p ∷ s) [] h = absurd h
 
 -- a name is its place and its word
 pub name_once : (n m : Name) → token.Name n.word ≡ token.Name m.word → n.at ≡ m.at → n ≡ m

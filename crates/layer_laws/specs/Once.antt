@@ -4,10 +4,10 @@ use Rattle.layer_ast.specs.Print.{file}
 use Rattle.layer_ast.specs.Spells.{Spells}
 use Rattle.layer_ast.specs.Tree.{FileTree}
 
--- a text spells at most one file
+-- a text spells at most one file with the same layers of the library, which aren't spelled
 abbrev pub SpelledOnce : Type 0
-SpelledOnce = (text : List ℕ) (s t : FileTree) → Spells text s → Spells text t → s ≡ t
+SpelledOnce = (text : List ℕ) (s t : FileTree) → s.library ≡ t.library → Spells text s → Spells text t → s ≡ t
 
--- two files that are printed alike, with the same places, are one file
+-- two files that are printed alike, with the same places, are one file where the library brings them the same layers
 abbrev pub PrintedOnce : Type 0
-PrintedOnce = (s t : FileTree) → file s ≡ file t → s ≡ t
+PrintedOnce = (s t : FileTree) → s.library ≡ t.library → file s ≡ file t → s ≡ t
