@@ -1,1 +1,12 @@
 pub mod Declared
+pub mod Earliest
+pub mod FileFault
+pub mod Forms
+pub mod Kinds
+pub mod Limits
+pub mod NameFaults
+pub mod Places
+pub mod Scope
+pub mod Sorts
+pub mod TypeFaults
+pub mod Uses
