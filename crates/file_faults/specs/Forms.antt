@@ -5,7 +5,7 @@ use denote.Enum.Bare.{sameb}
 use Rattle.layer_ast.specs.contracts.syntax.Shape as shape_row
 use Rattle.layer_ast.specs.declared.names.Name.{Name}
 use Rattle.layer_ast.specs.declared.names.Word.{Word}
-use Rattle.layer_ast.specs.declared.syntax.Ending.TheVariants.{Passes, Ends}
+use Rattle.layer_ast.specs.declared.syntax.Ending.TheVariants.{Ends}
 use Rattle.layer_ast.specs.declared.syntax.Shape.{Shape}
 use Rattle.layer_ast.specs.Tree.{DeclarationTree, int, rows_cell, rows_array, header, ItemTree, LayerTree, QueueTree, queue, queue_at}
 use Rattle.file_faults.specs.Declared.{declaration_of, names_in}

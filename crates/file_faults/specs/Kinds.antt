@@ -12,9 +12,15 @@ use Rattle.layer_ast.specs.declared.tokens.Kind.TheVariants.{Cast, Send, Stable,
 abbrev pub allows : List Sort → Sort → Bool
 allows sorts sort = list_any (sameb sort_row.the_type sort) sorts
 
--- What may stand where a number, or a message of either sort, is wanted.
+-- What may stand where this is wanted: a number, a message of the layers above, a part, or a message of either sort.
 abbrev pub a_number : List Sort
 a_number = Int ∷ []
+
+abbrev pub a_msg : List Sort
+a_msg = Msg ∷ []
+
+abbrev pub a_part : List Sort
+a_part = Part ∷ []
 
 abbrev pub a_message : List Sort
 a_message = Msg ∷ Part ∷ []

@@ -1,5 +1,7 @@
 pub mod Declared
 pub mod Earliest
+pub mod ExpressionFaults
+pub mod Faults
 pub mod FileFault
 pub mod Forms
 pub mod Kinds
@@ -10,3 +12,9 @@ pub mod Scope
 pub mod Sorts
 pub mod TypeFaults
 pub mod Uses
+pub mod Samples
+pub mod SamplesVisible
+pub mod SamplesTwice
+pub mod SamplesLimits
+pub mod SamplesKinds
+pub mod SamplesEmissions

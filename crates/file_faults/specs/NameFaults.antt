@@ -1,40 +1,20 @@
 -- The first fault of a file's names, in text order.
-use Rattle.std.specs.Prelude.{ℕ, Bool, not, ◌&&◌, if◌then◌else◌, List, [], ◌∷◌, ◌++◌, map, flat_map, filter, drop, bytes_eq, Option, Some, None, option_map}
+use Rattle.std.specs.Prelude.{ℕ, Bool, ◌&&◌, if◌then◌else◌, List, [], ◌∷◌, ◌++◌, map, flat_map, filter, drop, bytes_eq, Option, Some, None}
 use Rattle.std.specs.List.{list_any}
 use Rattle.std.specs.Option.{option_map_or}
 use denote.Enum.Bare.{sameb}
 use Rattle.layer_ast.specs.contracts.tokens.Dir as dir_row
 use Rattle.layer_ast.specs.contracts.tokens.Kind as kind_row
-use Rattle.layer_ast.specs.declared.names.At.{At}
 use Rattle.layer_ast.specs.declared.names.Name.{Name}
-use Rattle.layer_ast.specs.declared.names.Word.{Word}
-use Rattle.layer_ast.specs.Tree.{ExpressionTree, PoppedTree, Expected, always, common, rare, StatementTree, HandlerTree, DeclarationTree, param, int, rows_cell, rows_array, header, ItemTree, SizeTree, LayerTree, GivenTree, PlaceTree, FileTree}
+use Rattle.layer_ast.specs.Tree.{PoppedTree, Expected, common, HandlerTree, DeclarationTree, int, rows_cell, rows_array, ItemTree, LayerTree, PlaceTree, FileTree}
 use Rattle.file_faults.specs.Declared.{declared_name, is_cell, is_header, is_param}
-use Rattle.file_faults.specs.Earliest.{key_at, earliest, unless}
+use Rattle.file_faults.specs.Earliest.{earliest, unless}
+use Rattle.file_faults.specs.Faults.{NameFault, unknown, twice, too_many, name_key, name_fault_at}
 use Rattle.file_faults.specs.Forms.{declared_as, items_of, labels_of, row_of}
 use Rattle.file_faults.specs.Limits.{LimitedSize, capacity_in, is_within_at, maximum_in, messages_inside, number_outside, numbers_beyond, sizes_in}
 use Rattle.file_faults.specs.Places.{faults_of_layers, layer_at}
 use Rattle.file_faults.specs.Scope.{Scope, Standing, brought, handler_names, handler_statements, head_names, head_scope, is_visible, layer_scope, visible}
 use Rattle.file_faults.specs.Uses.{Use, of_name, of_label, uses, size_uses, statement_uses}
-
--- A fault of names at a place: a name that isn't declared or visible there, a name or a handler that is there already, or one more
--- than a limit allows.
-pub data NameFault : Type 0 where
-  unknown : (at : At) → NameFault
-  twice : (at : At) → NameFault
-  too_many : (at : At) → NameFault
-
--- What faults of names are ordered by.
-abbrev pub name_key : NameFault → List ℕ
-name_key (unknown at) = key_at at 0
-name_key (twice at) = key_at at 1
-name_key (too_many at) = key_at at 2
-
--- The same fault at another place.
-abbrev pub name_fault_at : At → NameFault → NameFault
-name_fault_at at (unknown _) = unknown at
-name_fault_at at (twice _) = twice at
-name_fault_at at (too_many _) = too_many at
 
 -- Those of these things that are the same as one before them in the list, or as one of the earlier things.
 abbrev pub repeated : {A : Type 0} → (A → A → Bool) → List A → List A → List A

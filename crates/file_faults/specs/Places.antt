@@ -1,5 +1,5 @@
 -- What the places of a stack name, and the values that they give to params.
-use Rattle.std.specs.Prelude.{ℕ, List, [], ◌++◌, map, flat_map, bytes_eq, find, Option, Some, None, option_map, option_and_then, option_to_list, unwrap_or, is_some, if◌then◌else◌}
+use Rattle.std.specs.Prelude.{ℕ, List, ◌++◌, map, flat_map, bytes_eq, find, Option, Some, None, option_map, option_and_then, option_to_list, unwrap_or, is_some, if◌then◌else◌}
 use Rattle.std.specs.Option.{option_or}
 use Rattle.layer_ast.specs.declared.names.At.{At}
 use Rattle.layer_ast.specs.declared.names.Word.{Word}

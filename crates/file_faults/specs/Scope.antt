@@ -1,14 +1,13 @@
 -- Which names are visible where: a layer's own names everywhere in it, a handler's names in its condition and block, and a local
 -- from its declaration to the end of its block.
-use Rattle.std.specs.Prelude.{ℕ, Bool, if◌then◌else◌, List, [], ◌∷◌, ◌++◌, map, flat_map, bytes_eq, find, Option, Some, None, option_map, slice_index_or}
+use Rattle.std.specs.Prelude.{Bool, if◌then◌else◌, List, [], ◌∷◌, ◌++◌, map, flat_map, bytes_eq, Option, Some, slice_index_or}
 use Rattle.std.specs.List.{list_any, enumerate_from}
 use Rattle.std.specs.Option.{option_map_or}
 use Rattle.layer_ast.specs.declared.names.Name.{Name}
 use Rattle.layer_ast.specs.declared.names.Word.{Word}
 use Rattle.layer_ast.specs.declared.syntax.Sort.{Sort}
 use Rattle.layer_ast.specs.declared.syntax.Sort.TheVariants.{Int, Msg, Part}
-use Rattle.layer_ast.specs.declared.tokens.Kind.{Kind}
-use Rattle.layer_ast.specs.Tree.{LayerTree, HandlerTree, NamesTree, PoppedTree, QueueTree, StatementTree, bind, set, set_square, push, take, when, choose, each, emit, StatementTrees, none, more}
+use Rattle.layer_ast.specs.Tree.{LayerTree, HandlerTree, NamesTree, PoppedTree, QueueTree, StatementTree, bind, push, take, when, choose, each, StatementTrees, none, more}
 use Rattle.file_faults.specs.Declared.{declared_name, names_in}
 use Rattle.file_faults.specs.Forms.{declared_as, is_end, row_of, queue_name}
 use Rattle.file_faults.specs.Kinds.{allows, arguments_of}

@@ -1,126 +1,26 @@
 -- The first fault of a file's types, in text order.
-use Rattle.std.specs.Prelude.{ℕ, Bool, true, false, not, ◌&&◌, ◌==◌, if◌then◌else◌, List, [], ◌∷◌, ◌++◌, map, flat_map, find, length, zip, bytes_eq, slice_get, Option, Some, None, is_some, option_map, option_and_then}
+use Rattle.std.specs.Prelude.{ℕ, Bool, true, false, not, ◌&&◌, ◌==◌, if◌then◌else◌, List, [], ◌∷◌, ◌++◌, map, flat_map, length, slice_get, Option, Some, None, option_and_then}
 use Rattle.std.specs.Option.{option_map_or}
 use Rattle.layer_ast.specs.declared.names.At.{At}
 use Rattle.layer_ast.specs.declared.names.Name.{Name}
 use Rattle.layer_ast.specs.declared.syntax.Shape.{Shape}
 use Rattle.layer_ast.specs.declared.syntax.Shape.TheVariants.{One, Array, Square}
 use Rattle.layer_ast.specs.declared.syntax.Sort.{Sort}
-use Rattle.layer_ast.specs.declared.syntax.Sort.TheVariants.{Int, Msg, Part}
+use Rattle.layer_ast.specs.declared.syntax.Sort.TheVariants.{Msg, Part}
 use Rattle.layer_ast.specs.declared.tokens.Dir.{Dir}
 use Rattle.layer_ast.specs.declared.tokens.Dir.TheVariants.{Up, Down}
 use Rattle.layer_ast.specs.declared.tokens.Kind.{Kind}
-use Rattle.layer_ast.specs.Tree.{ExpressionTree, number, me, members, ltime, named, element, square, rows, item, size, binary, apply, pick, QueueTree, queue, queue_at, MessageTree, bare, built, BuiltTree, nothing, held, cut, tail, join, ArgumentTree, value, content, NamesTree, ArgumentsTree, PoppedTree, PushedTree, SizeTree, fixed, sized, StatementTree, bind, set, set_square, push, take, when, choose, each, emit, Expected, always, common, rare, HandlerTree, DeclarationTree, param, int, rows_cell, rows_array, header, ItemTree, LayerTree, FileTree}
+use Rattle.layer_ast.specs.Tree.{ExpressionTree, QueueTree, ArgumentTree, PushedTree, SizeTree, fixed, sized, StatementTree, bind, set, set_square, push, take, when, choose, each, emit, Expected, common, HandlerTree, DeclarationTree, int, rows_cell, rows_array, LayerTree, FileTree}
 use Rattle.file_faults.specs.Declared.{is_header, is_param, names_in}
-use Rattle.file_faults.specs.Earliest.{key_at, earliest, unless}
-use Rattle.file_faults.specs.Forms.{declared_as, fields_of, is_end, is_numbers, is_queue, is_queue_array, queue_name, row_of}
-use Rattle.file_faults.specs.Kinds.{a_message, a_number, allows, arguments_of, has_message}
+use Rattle.file_faults.specs.Earliest.{earliest, unless}
+use Rattle.file_faults.specs.Forms.{declared_as, fields_of, is_end, is_numbers, queue_name, row_of}
+use Rattle.file_faults.specs.Kinds.{a_number, arguments_of, has_message}
 use Rattle.file_faults.specs.Places.{faults_of_layers}
-use Rattle.file_faults.specs.Scope.{Scope, Standing, handler_statements, head_scope, layer_scope, popped_names}
-use Rattle.file_faults.specs.Sorts.{argument_at, argument_sort, expression_at, held_sort, is_initial, message_at, message_sort, name_sort, size_at}
+use Rattle.file_faults.specs.Scope.{Scope, handler_statements, head_scope, layer_scope, popped_names}
+use Rattle.file_faults.specs.Sorts.{argument_sort, expression_at, is_initial, size_at}
 use Rattle.file_faults.specs.Uses.{arguments_in}
-
--- A fault of types at a place: something of another kind than is needed, another number of arguments or names, a header where none
--- may stand, a header that doesn't suit the message, or an initial value that isn't made of what it may be made of.
-pub data TypeFault : Type 0 where
-  kind : (at : At) → TypeFault
-  arity : (at : At) → TypeFault
-  direction : (at : At) → TypeFault
-  header_fault : (at : At) → TypeFault
-  initial : (at : At) → TypeFault
-
--- What faults of types are ordered by.
-abbrev pub type_key : TypeFault → List ℕ
-type_key (kind at) = key_at at 0
-type_key (arity at) = key_at at 1
-type_key (direction at) = key_at at 2
-type_key (header_fault at) = key_at at 3
-type_key (initial at) = key_at at 4
-
--- The same fault at another place.
-abbrev pub type_fault_at : At → TypeFault → TypeFault
-type_fault_at at (kind _) = kind at
-type_fault_at at (arity _) = arity at
-type_fault_at at (direction _) = direction at
-type_fault_at at (header_fault _) = header_fault at
-type_fault_at at (initial _) = initial at
-
--- Whether a sort, where one is known, is one of these.
-abbrev pub may_be : List Sort → Option Sort → Bool
-may_be wanted sort = option_map_or (allows wanted) sort true
-
--- Whether a sort is known and is one of these.
-abbrev pub must_be : List Sort → Option Sort → Bool
-must_be wanted sort = option_map_or (allows wanted) sort false
-
--- Whether the mention of a queue has the form of its declaration.
-abbrev pub is_queue_form : LayerTree → QueueTree → Bool
-is_queue_form layer (queue name) = declared_as is_queue layer name.word
-is_queue_form layer (queue_at name index) = declared_as is_queue_array layer name.word
-
--- Whether `at` may read this label: an item of that name is a number.
-abbrev pub reads_number : LayerTree → QueueTree → Name → Bool
-reads_number layer q label =
-    must_be a_number (option_map (λ i. i.sort) (find (λ i. bytes_eq i.name.word label.word) (row_of layer (queue_name q).word)))
-
-abbrev mutual
-  -- The faults of an expression, which is to be a number.
-  pub number_faults : Scope → ExpressionTree → List TypeFault
-  number_faults scope (named name) = unless (must_be a_number (name_sort scope name.word)) (kind name.at)
-  number_faults scope (element name index) =
-      unless (declared_as (is_numbers Array) scope.layer name.word) (kind name.at) ++ number_faults scope index
-  number_faults scope (square name row column) =
-      unless (declared_as (is_numbers Square) scope.layer name.word) (kind name.at)
-      ++ number_faults scope row
-      ++ number_faults scope column
-  number_faults scope (rows at q) = queue_faults scope at q
-  number_faults scope (item at q row label) =
-      queue_faults scope at q ++ unless (reads_number scope.layer q label) (kind at) ++ number_faults scope row
-  number_faults scope (size at message) = message_faults scope message
-  number_faults scope (binary at left operator right) = number_faults scope left ++ number_faults scope right
-  number_faults scope (apply at function operand) = number_faults scope operand
-  number_faults scope (pick at condition first second) =
-      number_faults scope condition ++ number_faults scope first ++ number_faults scope second
-  number_faults scope _ = []
-
-  -- The faults of the mention of a queue behind the word at this place.
-  pub queue_faults : Scope → At → QueueTree → List TypeFault
-  queue_faults scope at (queue name) = unless (declared_as is_queue scope.layer name.word) (kind at)
-  queue_faults scope at (queue_at name index) =
-      unless (declared_as is_queue_array scope.layer name.word) (kind at) ++ number_faults scope index
-
-  -- The faults of what is to be a message.
-  pub message_faults : Scope → MessageTree → List TypeFault
-  message_faults scope (bare name) = unless (must_be a_message (name_sort scope name.word)) (kind name.at)
-  message_faults scope (built b) = built_faults scope b
-
-  -- The faults of a message that is no bare name: a tail isn't of a part, and a join is of a part and a message.
-  pub built_faults : Scope → BuiltTree → List TypeFault
-  built_faults scope (nothing at) = []
-  built_faults scope (held at q row) =
-      queue_faults scope at q ++ unless (is_some (held_sort scope q)) (kind at) ++ number_faults scope row
-  built_faults scope (cut at message from length) =
-      message_faults scope message ++ number_faults scope from ++ number_faults scope length
-  built_faults scope (tail at message from) =
-      unless (may_be (Int ∷ Msg ∷ []) (message_sort scope message)) (kind at)
-      ++ message_faults scope message
-      ++ number_faults scope from
-  built_faults scope (join at first second) =
-      unless (may_be (Part ∷ []) (message_sort scope first)) (kind (message_at first))
-      ++ unless (may_be (Msg ∷ []) (message_sort scope second)) (kind (message_at second))
-      ++ message_faults scope first
-      ++ message_faults scope second
-
--- The faults of an argument, which is to be of one of these sorts.
-abbrev pub argument_faults : Scope → List Sort → ArgumentTree → List TypeFault
-argument_faults scope wanted (value (named name)) = unless (must_be wanted (name_sort scope name.word)) (kind name.at)
-argument_faults scope wanted (value e) = unless (allows wanted Int) (kind (expression_at e)) ++ number_faults scope e
-argument_faults scope wanted (content b) =
-    unless (may_be wanted (argument_sort scope (content b))) (kind (argument_at (content b))) ++ built_faults scope b
-
--- The faults of arguments, for each of which one of some sorts is wanted.
-abbrev pub arguments_faults : Scope → List (List Sort) → List ArgumentTree → List TypeFault
-arguments_faults scope wanted arguments = flat_map (λ x. argument_faults scope x.0 x.1) (zip wanted arguments)
+use Rattle.file_faults.specs.ExpressionFaults.{argument_faults, arguments_faults, number_faults, queue_faults}
+use Rattle.file_faults.specs.Faults.{TypeFault, kind, arity, direction, header, initial, type_key, type_fault_at}
 
 -- A size is a number or a param; the place is that of a fault.
 abbrev pub size_type_faults : LayerTree → At → SizeTree → List TypeFault
@@ -177,7 +77,7 @@ emission_faults scope at dir event arguments pushed =
     unless (length arguments == length (arguments_of event)) (arity at)
     ++ arguments_faults scope (arguments_of event) arguments
     ++ option_map_or (pushed_faults scope at dir event) pushed []
-    ++ unless (option_map_or (suits dir (ends_with scope.layer pushed)) (sent_sort scope event arguments) true) (header_fault at)
+    ++ unless (option_map_or (suits dir (ends_with scope.layer pushed)) (sent_sort scope event arguments) true) (header at)
 
 -- The faults of an assignment to a cell of numbers of this shape, at its word `set`.
 abbrev pub set_faults : Scope → At → Shape → Name → List ExpressionTree → List TypeFault
@@ -224,8 +124,8 @@ abbrev pub handler_type_faults : LayerTree → HandlerTree → List TypeFault
 handler_type_faults layer handler =
     unless (length (names_in (Some handler.names)) == length (arguments_of handler.kind)) (arity handler.at)
     ++ option_map_or
-        (λ p. with_faults layer handler.at p.name (length (popped_names (Some p))) (takes_off handler))
-        handler.popped []
+    (λ p. with_faults layer handler.at p.name (length (popped_names (Some p))) (takes_off handler))
+    handler.popped []
     ++ expected_type_faults (head_scope layer handler) handler.expected
     ++ flat_map (λ s. statement_type_faults s.scope s.statement) (handler_statements layer handler)
 
