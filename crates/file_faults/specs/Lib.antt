@@ -17,4 +17,6 @@ pub mod SamplesVisible
 pub mod SamplesTwice
 pub mod SamplesLimits
 pub mod SamplesKinds
+pub mod SamplesCounts
 pub mod SamplesEmissions
+pub mod SamplesLibrary

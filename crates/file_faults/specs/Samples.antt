@@ -1,8 +1,13 @@
 -- What it is that a small text is judged.
-use Rattle.std.specs.Prelude.{◌≡◌, ℕ, List, [], ◌∷◌, ◌++◌, flat_map, codes, Option}
+use Rattle.std.specs.Prelude.{◌≡◌, ℕ, List, [], ◌∷◌, ◌++◌, flat_map, codes, Option, None}
+use Rattle.layer_ast.specs.declared.names.At.{At}
+use Rattle.layer_ast.specs.declared.tokens.Dir.{Dir}
+use Rattle.layer_ast.specs.declared.tokens.Dir.TheVariants.{Up, Down}
+use Rattle.layer_ast.specs.declared.tokens.Kind.{Kind}
+use Rattle.layer_ast.specs.declared.tokens.Kind.TheVariants.{Cast, Timer}
 use Rattle.layer_ast.specs.Samples.{at, name_at}
 use Rattle.layer_ast.specs.Spells.{Spells}
-use Rattle.layer_ast.specs.Tree.{DeclarationTree, HandlerTree, FileTree}
+use Rattle.layer_ast.specs.Tree.{NamesTree, StatementTrees, always, DeclarationTree, HandlerTree, FileTree}
 use Rattle.file_faults.specs.Faults.{FileFault}
 use Rattle.file_faults.specs.FileFault.{file_fault}
 
@@ -26,3 +31,27 @@ small_file line declarations handlers = record {
   places = record { name = name_at (codes "a") line 9; given = [] } ∷ [];
   library = [];
 }
+
+-- A handler that takes no header off and is always predicted.
+abbrev pub handler : At → Dir → Kind → NamesTree → StatementTrees → HandlerTree
+handler at direction kind names block = record {
+  at = at;
+  direction = direction;
+  kind = kind;
+  names = names;
+  popped = None;
+  expected = always;
+  block = block;
+}
+
+-- On this line, with two blanks in front: `down Timer(t)`, `down Cast(p, m)` and `up Cast(o, m)`.
+abbrev pub timer_down : ℕ → StatementTrees → HandlerTree
+timer_down line = handler (at line 3) Down Timer record { first = name_at (codes "t") line 14; rest = [] }
+
+abbrev pub cast_down : ℕ → StatementTrees → HandlerTree
+cast_down line =
+    handler (at line 3) Down Cast record { first = name_at (codes "p") line 13; rest = name_at (codes "m") line 16 ∷ [] }
+
+abbrev pub cast_up : ℕ → StatementTrees → HandlerTree
+cast_up line =
+    handler (at line 3) Up Cast record { first = name_at (codes "o") line 11; rest = name_at (codes "m") line 14 ∷ [] }

@@ -1,4 +1,6 @@
 //! Small files, judged by evaluation: each text spells a tree, and the definitions give its first fault. Nothing runs here.
+ghost use Rattle.file_faults.specs.SamplesCounts.{Params, Cells, Headers, Handlers, Locals, Layers};
+ghost use Rattle.file_faults.specs.SamplesLibrary.{FromLibrary, GivenToLibrary, FaultOfLibrary, HidesLibrary};
 ghost use Rattle.file_faults.specs.SamplesVisible.{UnknownCell, BeforeLet, InItsLet, InItsBound, BehindItsBlock, TakenElsewhere, LocalAsHeader, DeclaredBehind, UnknownLabel, LabelOfNone, UnknownLayer, CellGiven};
 ghost use Rattle.file_faults.specs.SamplesTwice.{LayerTwice, CellAndParam, LocalAndCell, ArgumentAndField, OtherBlocks, LabelTwice, ParamTwice, HandlerTwice};
 ghost use Rattle.file_faults.specs.SamplesLimits.{FiveFields, FifthTwice, MessageInside, CapacityOutside, GivenOutside, MaximumOutside, NotPlaced, PlacesBeyond};
@@ -70,4 +72,22 @@ pub fn emissions()
     ensures initial_of_array { InitialOfArray }
     ensures names_first { NamesFirst }
     ensures counter { Counter }
+{}
+
+/// As many things as a limit allows, and one more.
+pub fn counts()
+    ensures params { Params }
+    ensures cells { Cells }
+    ensures headers { Headers }
+    ensures handlers { Handlers }
+    ensures locals { Locals }
+    ensures layers { Layers }
+{}
+
+/// Layers of the library.
+pub fn library()
+    ensures from_library { FromLibrary }
+    ensures given_to_library { GivenToLibrary }
+    ensures fault_of_library { FaultOfLibrary }
+    ensures hides_library { HidesLibrary }
 {}
