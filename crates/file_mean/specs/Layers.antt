@@ -1,13 +1,12 @@
 -- The layer that a layer of a file is at a place of its stack.
-use Rattle.std.specs.Prelude.{ℕ, ◌-◌, List, [], ◌∷◌, ◌++◌, map, length, filter_map, Bool, true, false, is_some, Option, Some, None, option_map, option_to_list}
-use Rattle.std.specs.List.{last_or}
+use Rattle.std.specs.Prelude.{ℕ, ◌-◌, List, [], ◌∷◌, ◌++◌, map, length, filter_map, Bool, true, false, is_some, Option, Some, None, option_to_list}
 use Rattle.std.specs.Option.{option_map_or, option_zip}
 use Rattle.layer_ast.specs.declared.names.Name.{Name}
 use Rattle.layer_ast.specs.declared.syntax.Ending.{Ending}
 use Rattle.layer_ast.specs.declared.syntax.Ending.TheVariants.{Passes, Ends}
 use Rattle.layer_ast.specs.Tree as ast
 use Rattle.layer_mean.specs.Event.{carries}
-use Rattle.layer_mean.specs.Tree.{number, Expected, always, common, rare, HandlerTree, ItemsTree, Form, numbers, queue, queues, CellTree, HeaderTree, LayerTree}
+use Rattle.layer_mean.specs.Tree.{number, Expected, always, common, rare, HandlerTree, ItemsTree, numbers, queue, queues, CellTree, HeaderTree, LayerTree}
 use Rattle.file_faults.specs.Declared.{names_in}
 use Rattle.file_mean.specs.Names.{Placed, Names, own_names, with_numbers, with_messages, tag_of, size_value, numbers_among, message_among, carried_in}
 use Rattle.file_mean.specs.Values.{number_of}

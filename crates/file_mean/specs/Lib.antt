@@ -10,3 +10,4 @@ pub mod AliasFile
 pub mod PacesFile
 pub mod BlocksFile
 pub mod QueuesFile
+pub mod FormsFile

@@ -1,5 +1,5 @@
 -- What the names of a layer file stand for: params and cells of a layer at a place, and the slots of what a handler declares.
-use Rattle.std.specs.Prelude.{ℕ, zero, suc, ◌+◌, ◌-◌, List, [], ◌∷◌, ◌++◌, map, take, length, zip, find, Bool, true, false, bytes_eq, Option, Some, None, option_map, option_and_then, unwrap_or}
+use Rattle.std.specs.Prelude.{ℕ, ◌+◌, ◌-◌, List, [], ◌∷◌, ◌++◌, map, take, length, zip, find, Bool, true, false, bytes_eq, Option, Some, None, option_map, option_and_then, unwrap_or}
 use Rattle.std.specs.List.{last_or, position, range_with_len}
 use Rattle.std.specs.Map.{lookup}
 use Rattle.std.specs.Option.{option_or, option_map_or}
@@ -8,7 +8,7 @@ use Rattle.layer_ast.specs.declared.names.Name.{Name}
 use Rattle.layer_ast.specs.declared.names.Word.{Word}
 use Rattle.layer_ast.specs.declared.syntax.Sort.{Sort}
 use Rattle.layer_ast.specs.declared.syntax.Sort.TheVariants.{Int, Msg, Part}
-use Rattle.layer_ast.specs.Tree.{DeclarationTree, param, int, rows_cell, rows_array, header, ItemTree, LayerTree, GivenTree, SizeTree, fixed, sized}
+use Rattle.layer_ast.specs.Tree.{DeclarationTree, param, rows_cell, rows_array, ItemTree, LayerTree, GivenTree, SizeTree, fixed, sized}
 use Rattle.layer_mean.specs.Tree.{Carried, part, whole}
 use Rattle.file_faults.specs.Declared.{declaration_of, cell_number, header_tag}
 

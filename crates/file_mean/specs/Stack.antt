@@ -1,6 +1,6 @@
 -- The stack that a file means, and what the library brings to it.
-use Rattle.std.specs.Prelude.{ℕ, ◌+◌, ◌-◌, List, [], ◌∷◌, ◌++◌, map, length, find, filter, filter_map, Bool, not, bytes_eq, Option, Some, None}
-use Rattle.std.specs.List.{enumerate_from, range_with_len, list_any}
+use Rattle.std.specs.Prelude.{ℕ, ◌+◌, ◌-◌, List, ◌++◌, map, length, find, bytes_eq, Option}
+use Rattle.std.specs.List.{enumerate_from, range_with_len}
 use Rattle.std.specs.Option.{option_map_or}
 use Rattle.msg_core.specs.declared.message.Header.{Header}
 use Rattle.layer_ast.specs.declared.names.Word.{Word}
@@ -18,8 +18,8 @@ abbrev pub blank_above : ℕ → ℕ → List Header
 blank_above place places = map none_header (range_with_len (place + 1) (places - (place + 1)))
 
 -- The layer at a place, which has this number.
-abbrev pub layer_at : ast.FileTree → ℕ → ast.PlaceTree → LayerTree
-layer_at file number place = option_map_or
+abbrev pub placed_layer : ast.FileTree → ℕ → ast.PlaceTree → LayerTree
+placed_layer file number place = option_map_or
     (λ layer. layer_of (record {
       layer = layer;
       given = place.given;
@@ -30,4 +30,4 @@ layer_at file number place = option_map_or
 -- The stack that a file means: the layer at each place, lowest first. (Of a file with a fault of names or types it says nothing
 -- that is used.)
 unfoldable pub stack_of : ast.FileTree → List LayerTree
-stack_of file = map (λ x. layer_at file x.0 x.1) (enumerate_from 0 file.places)
+stack_of file = map (λ x. placed_layer file x.0 x.1) (enumerate_from 0 file.places)

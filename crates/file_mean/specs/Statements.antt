@@ -7,7 +7,7 @@ use Rattle.layer_ast.specs.declared.tokens.Dir.{Dir}
 use Rattle.layer_ast.specs.declared.tokens.Kind.{Kind}
 use Rattle.layer_ast.specs.Tree as ast
 use Rattle.layer_mean.specs.Event.{carries}
-use Rattle.layer_mean.specs.Tree.{ExpressionTree, number, ContentTree, EmissionTree, RowTree, TakenTree, StatementTree, bind, assign, assign_square, push, take, branch, each, emit, StatementTrees, none, more}
+use Rattle.layer_mean.specs.Tree.{ExpressionTree, number, EmissionTree, RowTree, TakenTree, StatementTree, bind, assign, assign_square, push, take, branch, each, emit, StatementTrees, none, more}
 use Rattle.file_mean.specs.Names.{Names, cell_of, tag_of, capacity_of, size_value, numbers_among, message_among, with_numbers, with_messages}
 use Rattle.file_mean.specs.Values.{number_of, queue_name, queue_carries, queue_cell, queue_index, argument_number, argument_message}
 
@@ -42,8 +42,8 @@ emission_of names direction kind arguments pushed = record {
 }
 
 -- The row that is pushed on a queue: its last item is its message, where the queue's rows carry one.
-abbrev pub row_of : Names → ast.QueueTree → List ast.ArgumentTree → RowTree
-row_of names q items =
+abbrev pub pushed_row : Names → ast.QueueTree → List ast.ArgumentTree → RowTree
+pushed_row names q items =
     let has_message = is_some (queue_carries names q) in
     record {
       numbers = map (argument_number names) (numbers_among has_message items);
@@ -56,28 +56,28 @@ with_taken q new names =
     let has_message = is_some (queue_carries names q) in
     with_messages (option_to_list (message_among has_message new)) (with_numbers (numbers_among has_message new) names)
 
-abbrev pub taken_of : Names → ast.QueueTree → List Name → TakenTree
-taken_of names q new = record {
+abbrev pub taken_row : Names → ast.QueueTree → List Name → TakenTree
+taken_row names q new = record {
   numbers = range_with_len names.taken.numbers (length (numbers_among (is_some (queue_carries names q)) new));
   message = option_map (λ carried. (names.taken.messages, carried)) (queue_carries names q);
 }
 
--- Other names with the slots that these have taken: what was declared there is visible no longer.
-abbrev pub left : Names → Names → Names
-left names inner = record names { taken = inner.taken }
+-- The names behind a block, from those in front of it and those at its end: what it declared is visible no longer, and has its slots.
+abbrev pub after_block : Names → Names → Names
+after_block names inner = record names { taken = inner.taken }
 
 abbrev mutual
   -- The names behind a statement: those that it declares for the rest of its block are visible, and of all that it declares the
   -- slots are taken.
   pub behind : ast.StatementTree → Names → Names
   behind (ast.bind at name value) names = with_numbers (name ∷ []) names
-  behind (ast.push at q items otherwise) names = left names (behind_all otherwise names)
+  behind (ast.push at q items otherwise) names = after_block names (behind_all otherwise names)
   behind (ast.take at q new block otherwise) names =
-      left names (behind_all otherwise (left names (behind_all block (with_taken q (all_names new) names))))
-  behind (ast.when at likely condition block) names = left names (behind_all block names)
+      after_block names (behind_all otherwise (after_block names (behind_all block (with_taken q (all_names new) names))))
+  behind (ast.when at likely condition block) names = after_block names (behind_all block names)
   behind (ast.choose at likely condition block otherwise) names =
-      left names (behind_all otherwise (left names (behind_all block names)))
-  behind (ast.each at name below most block) names = left names (behind_all block (with_numbers (name ∷ []) names))
+      after_block names (behind_all otherwise (after_block names (behind_all block names)))
+  behind (ast.each at name below most block) names = after_block names (behind_all block (with_numbers (name ∷ []) names))
   behind _ names = names
 
   -- The names behind the statements of a block.
@@ -98,16 +98,16 @@ abbrev mutual
   statement_of names (ast.set_square at name row column value) = assign_square (cell_of names.place name)
       (number_of names row) (number_of names column) (number_of names value)
   statement_of names (ast.push at q items otherwise) = push (queue_cell names q) (queue_index names q)
-      (capacity_of names.place (queue_name q)) (row_of names q (items.first ∷ items.rest)) (statements_of names otherwise)
+      (capacity_of names.place (queue_name q)) (pushed_row names q (items.first ∷ items.rest)) (statements_of names otherwise)
   statement_of names (ast.take at q new block otherwise) =
       let inner = with_taken q (all_names new) names in
-      take (queue_cell names q) (queue_index names q) (taken_of names q (all_names new)) (statements_of inner block)
-      (statements_of (left names (behind_all block inner)) otherwise)
+      take (queue_cell names q) (queue_index names q) (taken_row names q (all_names new)) (statements_of inner block)
+      (statements_of (after_block names (behind_all block inner)) otherwise)
   statement_of names (ast.when at likely condition block) =
       branch likely (number_of names condition) (statements_of names block) none
   statement_of names (ast.choose at likely condition block otherwise) =
       branch likely (number_of names condition) (statements_of names block)
-      (statements_of (left names (behind_all block names)) otherwise)
+      (statements_of (after_block names (behind_all block names)) otherwise)
   statement_of names (ast.each at name below most block) = each names.taken.numbers (number_of names below)
       (size_value names.place most) (statements_of (with_numbers (name ∷ []) names) block)
   statement_of names (ast.emit at direction kind arguments pushed) =

@@ -2,7 +2,7 @@
 use Rattle.std.specs.Prelude.{ℕ, List, [], ◌∷◌, codes, Option, Some, None}
 use Prim.Native.String.{String}
 use Rattle.layer_ast.specs.declared.names.Name.{Name}
-use Rattle.layer_ast.specs.Samples.{at, name_at}
+use Rattle.layer_ast.specs.Samples.{name_at}
 use Rattle.layer_ast.specs.Tree.{ExpressionTree, named, ArgumentTree, NamesTree, ArgumentsTree, PoppedTree, PushedTree}
 
 -- A name at a line and a column, and the expression that it is.

@@ -1,6 +1,6 @@
 -- Expressions and messages of a layer file with numbers for names.
-use Rattle.std.specs.Prelude.{ℕ, List, [], ◌∷◌, Option, Some, None, option_map, unwrap_or}
-use Rattle.std.specs.Option.{option_map_or, option_or}
+use Rattle.std.specs.Prelude.{ℕ, Option, option_map, unwrap_or}
+use Rattle.std.specs.Option.{option_or}
 use Rattle.layer_ast.specs.declared.names.Name.{Name}
 use Rattle.layer_ast.specs.Tree as ast
 use Rattle.layer_mean.specs.Tree.{Carried, part, ExpressionTree, number, me, count, ltime, local, element, square, rows, item, size, binary, apply, pick, MessageTree, message, nothing, held, cut, tail, join}

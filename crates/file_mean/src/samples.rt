@@ -7,6 +7,7 @@ ghost use Rattle.file_mean.specs.AliasFile as alias;
 ghost use Rattle.file_mean.specs.PacesFile as paces;
 ghost use Rattle.file_mean.specs.BlocksFile as blocks;
 ghost use Rattle.file_mean.specs.QueuesFile as queues;
+ghost use Rattle.file_mean.specs.FormsFile as forms;
 
 /// The counter layer's file: each cast carries the sender's count.
 pub fn counter_file()
@@ -36,4 +37,10 @@ pub fn blocks_file()
 pub fn queues_file()
     ensures spelled { IsFile queues.text queues.file }
     ensures means { stack_of queues.file ≡ queues.stack }
+{}
+
+/// A square array, a choice, parts in front of messages, and an event of two numbers.
+pub fn forms_file()
+    ensures spelled { IsFile forms.text forms.file }
+    ensures means { stack_of forms.file ≡ forms.stack }
 {}

@@ -13,3 +13,6 @@ pub mod Elect
 pub mod Sync
 pub mod Intra
 pub mod Top
+pub mod OrderStack
+pub mod WholeStack
+pub mod HidingStack

@@ -2,3 +2,4 @@
 #![tactic(auto)]
 
 pub mod spelled;
+pub mod stacks;
