@@ -1,0 +1,13 @@
+pub mod Names
+pub mod Values
+pub mod Statements
+pub mod Layers
+pub mod Stack
+pub mod Library
+pub mod Terms
+pub mod CounterFile
+pub mod AliasFile
+pub mod PacesFile
+pub mod BlocksFile
+pub mod QueuesFile
+pub mod FormsFile

@@ -1,0 +1,125 @@
+-- What the names of a layer file stand for: params and cells of a layer at a place, and the slots of what a handler declares.
+use Rattle.std.specs.Prelude.{ℕ, ◌+◌, ◌-◌, List, [], ◌∷◌, ◌++◌, map, take, length, zip, find, Bool, true, false, bytes_eq, Option, Some, None, option_map, option_and_then, unwrap_or}
+use Rattle.std.specs.List.{last_or, position, range_with_len}
+use Rattle.std.specs.Map.{lookup}
+use Rattle.std.specs.Option.{option_or, option_map_or}
+use Rattle.msg_core.specs.declared.message.Header.{Header}
+use Rattle.layer_ast.specs.declared.names.Name.{Name}
+use Rattle.layer_ast.specs.declared.names.Word.{Word}
+use Rattle.layer_ast.specs.declared.syntax.Sort.{Sort}
+use Rattle.layer_ast.specs.declared.syntax.Sort.TheVariants.{Int, Msg, Part}
+use Rattle.layer_ast.specs.Tree.{DeclarationTree, param, rows_cell, rows_array, ItemTree, LayerTree, GivenTree, SizeTree, fixed, sized}
+use Rattle.layer_mean.specs.Tree.{Carried, part, whole}
+use Rattle.file_faults.specs.Declared.{declaration_of, cell_number, header_tag}
+
+-- A layer at a place of a stack, with the params that the place gives and the header `none` of each place above, lowest first.
+pub record Placed : Type 0 where
+  pub layer : LayerTree
+  pub given : List GivenTree
+  pub blank : List Header
+
+-- The value that a param is declared with.
+abbrev pub declared_value : DeclarationTree → Option ℕ
+declared_value (param at name value) = Some value
+declared_value _ = None
+
+-- The value that a place gives a param.
+abbrev pub given_value : List GivenTree → Word → Option ℕ
+given_value given word = option_map (λ g. g.value) (find (λ g. bytes_eq g.name.word word) given)
+
+-- The value of a param: what the place gives, or else the declared one.
+abbrev pub param_value : Placed → Word → Option ℕ
+param_value p word = option_or (given_value p.given word) (option_and_then declared_value (declaration_of p.layer word))
+
+-- The value of a size: a number, or that of a param.
+abbrev pub size_value : Placed → SizeTree → ℕ
+size_value p (fixed at value) = value
+size_value p (sized name) = unwrap_or (param_value p name.word) 0
+
+-- The number of the cell of a name, and the tag of its header.
+abbrev pub cell_of : Placed → Name → ℕ
+cell_of p name = unwrap_or (cell_number p.layer name.word) 0
+
+abbrev pub tag_of : Placed → Name → ℕ
+tag_of p name = unwrap_or (header_tag p.layer name.word) 0
+
+-- The items of the rows of a queue, and its capacity; what is no queue has none.
+abbrev pub items_declared : DeclarationTree → List ItemTree
+items_declared (rows_cell at name capacity items) = items.first ∷ items.rest
+items_declared (rows_array at name capacity items) = items.first ∷ items.rest
+items_declared _ = []
+
+abbrev pub capacity_declared : Placed → DeclarationTree → ℕ
+capacity_declared p (rows_cell at name capacity items) = size_value p capacity
+capacity_declared p (rows_array at name capacity items) = size_value p capacity
+capacity_declared p _ = 0
+
+abbrev pub items_of : Placed → Name → List ItemTree
+items_of p queue = option_map_or items_declared (declaration_of p.layer queue.word) []
+
+abbrev pub capacity_of : Placed → Name → ℕ
+capacity_of p queue = option_map_or (capacity_declared p) (declaration_of p.layer queue.word) 0
+
+-- What an item of a sort carries: a part, a message of the layers above, or, as a number, nothing.
+abbrev pub carried_as : List Header → Sort → Option Carried
+carried_as blank Int = None
+carried_as blank Msg = Some (whole blank)
+carried_as blank Part = Some part
+
+-- What the rows of these items carry: their last item says so.
+abbrev pub carried_in : Placed → List ItemTree → Option Carried
+carried_in p items = option_and_then (λ i. carried_as p.blank i.sort) (last_or None items)
+
+-- The place of an item among those of its row.
+abbrev pub item_number : List ItemTree → Name → ℕ
+item_number items label = unwrap_or (position (λ i. bytes_eq i.name.word label.word) items) 0
+
+-- Where a message comes last among things, if there is one: all others are of numbers.
+abbrev pub numbers_among : {A : Type 0} → Bool → List A → List A
+numbers_among true xs = take (length xs - 1) xs
+numbers_among false xs = xs
+
+abbrev pub message_among : {A : Type 0} → Bool → List A → Option A
+message_among true xs = last_or None xs
+message_among false xs = None
+
+-- How many slots of a scope are taken by numbers, and how many by messages.
+pub record Slots : Type 0 where
+  pub numbers : ℕ
+  pub messages : ℕ
+
+-- The names that are visible at a statement, each with its slot and the newest in front, and the slots that are taken: every
+-- name that a handler declares has a slot of its own, in the order of the text, also where it is no longer visible.
+pub record Names : Type 0 where
+  pub place : Placed
+  pub numbers : List (Word × ℕ)
+  pub messages : List (Word × ℕ)
+  pub taken : Slots
+
+-- A layer's own names alone.
+abbrev pub own_names : Placed → Names
+own_names p = record { place = p; numbers = []; messages = []; taken = record { numbers = 0; messages = 0 } }
+
+-- Names in the slots from a first one on.
+abbrev pub in_slots : ℕ → List Name → List (Word × ℕ)
+in_slots first names = zip (map (λ name. name.word) names) (range_with_len first (length names))
+
+-- With new names for numbers, and for messages.
+abbrev pub with_numbers : List Name → Names → Names
+with_numbers new names = record names {
+  numbers = in_slots names.taken.numbers new ++ names.numbers;
+  taken = record { numbers = names.taken.numbers + length new; messages = names.taken.messages };
+}
+
+abbrev pub with_messages : List Name → Names → Names
+with_messages new names = record names {
+  messages = in_slots names.taken.messages new ++ names.messages;
+  taken = record { numbers = names.taken.numbers; messages = names.taken.messages + length new };
+}
+
+-- The slot of a visible number, and of a visible message.
+abbrev pub number_slot : Names → Name → Option ℕ
+number_slot names name = lookup (bytes_eq name.word) names.numbers
+
+abbrev pub message_slot : Names → Name → ℕ
+message_slot names name = unwrap_or (lookup (bytes_eq name.word) names.messages) 0

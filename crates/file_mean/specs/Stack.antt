@@ -1,0 +1,33 @@
+-- The stack that a file means, and what the library brings to it.
+use Rattle.std.specs.Prelude.{ℕ, ◌+◌, ◌-◌, List, ◌++◌, map, length, find, bytes_eq, Option}
+use Rattle.std.specs.List.{enumerate_from, range_with_len}
+use Rattle.std.specs.Option.{option_map_or}
+use Rattle.msg_core.specs.declared.message.Header.{Header}
+use Rattle.layer_ast.specs.declared.names.Word.{Word}
+use Rattle.layer_ast.specs.Tree as ast
+use Rattle.layer_mean.specs.Tree.{LayerTree, no_layer}
+use Rattle.layer_mean.specs.Visit.{none_header}
+use Rattle.file_mean.specs.Layers.{layer_of}
+
+-- The layer that a place names: one of the file, or else one that the library brings.
+abbrev pub layer_named : ast.FileTree → Word → Option ast.LayerTree
+layer_named file word = find (λ layer. bytes_eq layer.name.word word) (file.layers ++ file.library)
+
+-- The header `none` of each place above the one of this number, of so many places, the lowest first.
+abbrev pub blank_above : ℕ → ℕ → List Header
+blank_above place places = map none_header (range_with_len (place + 1) (places - (place + 1)))
+
+-- The layer at a place, which has this number.
+abbrev pub placed_layer : ast.FileTree → ℕ → ast.PlaceTree → LayerTree
+placed_layer file number place = option_map_or
+    (λ layer. layer_of (record {
+      layer = layer;
+      given = place.given;
+      blank = blank_above number (length file.places);
+    }))
+    (layer_named file place.name.word) no_layer
+
+-- The stack that a file means: the layer at each place, lowest first. (Of a file with a fault of names or types it says nothing
+-- that is used.)
+unfoldable pub stack_of : ast.FileTree → List LayerTree
+stack_of file = map (λ x. placed_layer file x.0 x.1) (enumerate_from 0 file.places)

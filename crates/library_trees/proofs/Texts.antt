@@ -1,0 +1,15 @@
+pub mod Bottom
+pub mod Mnak
+pub mod Pt2pt
+pub mod Pt2ptw
+pub mod Mflow
+pub mod Frag
+pub mod Collect
+pub mod Stable
+pub mod Local
+pub mod Total
+pub mod Suspect
+pub mod Elect
+pub mod Sync
+pub mod Intra
+pub mod Top
