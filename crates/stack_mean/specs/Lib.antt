@@ -1,1 +1,10 @@
 pub mod Plan
+pub mod Emissions
+pub mod Graph
+pub mod Acceptance
+pub mod NoShape
+pub mod Drawn
+pub mod Shape
+pub mod Plans
+pub mod SampleLayers
+pub mod Samples

@@ -1,0 +1,147 @@
+-- A visit as its layer's text alone predicts it: what is sent, whatever the numbers and the bytes are.
+use Rattle.std.specs.Prelude.{ℕ, ◌==◌, if◌then◌else◌, List, [], ◌∷◌, ◌++◌, map, slice_index_or, slice_set, Option, Some, None, option_map, option_to_list, Result, Ok, Err}
+use Rattle.std.specs.Option.{option_map_or, option_and_then}
+use Rattle.layer_ast.specs.declared.tokens.Dir.{Dir}
+use Rattle.layer_ast.specs.declared.tokens.Dir.TheVariants.{Up, Down}
+use Rattle.layer_ast.specs.declared.tokens.Kind.{Kind}
+use Rattle.layer_mean.specs.Event.{carries}
+use Rattle.layer_mean.specs.Tree.{Carried, part, whole, ExpressionTree, number, binary, apply, pick, MessageTree, message, nothing, held, cut, tail, join, ContentTree, EmissionTree, TakenTree, HandlerTree, LayerTree}
+use Rattle.layer_mean.specs.Value.{is_true, applied, function_of}
+use Rattle.layer_mean.specs.Visit.{handler_for, with_room}
+use Rattle.layer_mean.specs.Way.{Step, get, send, loop, handler_way, way_length}
+use Rattle.stack_mean.specs.NoShape as no_shape
+use Rattle.stack_mean.specs.NoShape.{NoShape, drawn_from}
+
+-- A header as far as it is known: its tag, and of each field the number that it always is, or None for one that varies.
+pub record DrawnHeader : Type 0 where
+  pub tag : ℕ
+  pub fields : List (Option ℕ)
+
+-- A message as far as it is known: its headers; or nothing of them, since it was stored.
+pub data DrawnMessage : Type 0 where
+  chained : List DrawnHeader → DrawnMessage
+  unknown : DrawnMessage
+
+-- An event as far as it is known: its kind, and the headers of its message, if it has one.
+pub record DrawnEvent : Type 0 where
+  pub kind : Kind
+  pub headers : Option (List DrawnHeader)
+
+-- What two numbers that may be known make, where both are.
+abbrev pub of_both : (ℕ → ℕ → ℕ) → Option ℕ → Option ℕ → Option ℕ
+of_both f a b = option_and_then (λ x. option_map (f x) b) a
+
+-- The number that an expression always is: one that is written with numbers, operators, functions and choices alone.
+abbrev pub constant_of : ExpressionTree → Option ℕ
+constant_of (number n) = Some n
+constant_of (binary operator a b) = of_both (applied operator) (constant_of a) (constant_of b)
+constant_of (apply function a) = option_map (function_of function) (constant_of a)
+constant_of (pick c a b) =
+    option_and_then (λ x. of_both (λ y z. if is_true x then y else z) (constant_of a) (constant_of b)) (constant_of c)
+constant_of _ = None
+
+-- The message of a row: a part has no headers, and those of a message aren't known.
+abbrev pub drawn_row : Carried → DrawnMessage
+drawn_row part = chained []
+drawn_row (whole blank) = unknown
+
+-- A message by the messages of the scope.
+abbrev pub drawn_message : List DrawnMessage → MessageTree → DrawnMessage
+drawn_message scope (message k) = slice_index_or scope k (chained [])
+drawn_message scope nothing = chained []
+drawn_message scope (held c i row carried) = drawn_row carried
+drawn_message scope (cut m from length) = chained []
+drawn_message scope (tail m from) = drawn_message scope m
+drawn_message scope (join p m) = drawn_message scope m
+
+-- What a visit has come to: the messages of its scope, and what it has sent.
+pub record Drawing : Type 0 where
+  pub scope : List DrawnMessage
+  pub sent : List (Dir × DrawnEvent)
+
+-- The headers with which a message is sent: going down it gets its layer's.
+abbrev pub with_header : Dir → ContentTree → List DrawnHeader → List DrawnHeader
+with_header Up c headers = headers
+with_header Down c headers = record { tag = c.tag; fields = map constant_of c.fields } ∷ headers
+
+-- A message can be sent where its headers are known.
+abbrev pub sent_headers : ℕ → Dir → ContentTree → DrawnMessage → Result (Option (List DrawnHeader)) NoShape
+sent_headers place dir c (chained headers) = Ok (Some (with_header dir c headers))
+sent_headers place dir c unknown = Err (no_shape.stored place)
+
+abbrev pub emission_headers : ℕ → Dir → List DrawnMessage → Option ContentTree → Result (Option (List DrawnHeader)) NoShape
+emission_headers place dir scope None = Ok None
+emission_headers place dir scope (Some c) = sent_headers place dir c (drawn_message scope c.message)
+
+-- The event of a kind, with headers where events of this kind carry a message.
+abbrev pub drawn_event : Kind → Option (List DrawnHeader) → DrawnEvent
+drawn_event kind headers = record { kind = kind; headers = if carries kind then headers else None }
+
+abbrev pub with_sent : Drawing → EmissionTree → Option (List DrawnHeader) → Drawing
+with_sent d e headers = record d { sent = d.sent ++ (e.direction, drawn_event e.kind headers) ∷ [] }
+
+-- The scope with a taken row's message, where it has one.
+abbrev pub with_taken : TakenTree → List DrawnMessage → List DrawnMessage
+with_taken t scope = option_map_or (λ slot. slice_set scope slot.0 (drawn_row slot.1)) t.message scope
+
+-- A predicted step: a take and an emission change what is drawn, and a loop can't be.
+abbrev pub draw_step : ℕ → Step → Drawing → Result Drawing NoShape
+draw_step place (get c i taken) d = Ok (record d { scope = with_taken taken d.scope })
+draw_step place (send e) d = drawn_from (λ headers. Ok (with_sent d e headers)) (emission_headers place e.direction d.scope e.content)
+draw_step place loop d = Err (no_shape.loop place)
+draw_step place _ d = Ok d
+
+-- Predicted steps, in order.
+abbrev pub draw_steps : ℕ → List Step → Drawing → Result Drawing NoShape
+draw_steps place [] d = Ok d
+draw_steps place (x ∷ xs) d = drawn_from (draw_steps place xs) (draw_step place x d)
+
+-- What a visit sends, and how many predicted statements and arguments it counts for.
+pub record DrawnVisit : Type 0 where
+  pub sent : List (Dir × DrawnEvent)
+  pub length : ℕ
+
+-- An event as its layer meets it: the tag that is popped going up, 0 where there is no header, and the headers behind it.
+pub record DrawnMet : Type 0 where
+  pub tag : ℕ
+  pub headers : Option (List DrawnHeader)
+
+abbrev pub popped_of : List DrawnHeader → DrawnMet
+popped_of [] = record { tag = 0; headers = Some [] }
+popped_of (h ∷ hs) = record { tag = h.tag; headers = Some hs }
+
+abbrev pub drawn_met : Dir → Option (List DrawnHeader) → DrawnMet
+drawn_met dir None = record { tag = 0; headers = None }
+drawn_met Up (Some headers) = popped_of headers
+drawn_met Down (Some headers) = record { tag = 0; headers = Some headers }
+
+-- An event that is sent on, with other headers; it counts for nothing.
+abbrev pub drawn_on : Dir → DrawnEvent → Option (List DrawnHeader) → DrawnVisit
+drawn_on dir event headers = record { sent = (dir, record event { headers = headers }) ∷ []; length = 0 }
+
+-- A missing handler passes an event on: down behind `none`, and up where `none` was popped.
+abbrev pub drawn_unhandled : ℕ → Dir → DrawnEvent → ℕ → Option (List DrawnHeader) → Result DrawnVisit NoShape
+drawn_unhandled place dir event tag None = Ok (drawn_on dir event None)
+drawn_unhandled place Down event tag (Some headers) = Ok (drawn_on Down event (Some (record { tag = 0; fields = [] } ∷ headers)))
+drawn_unhandled place Up event tag (Some headers) =
+    if tag == 0 then Ok (drawn_on Up event (Some headers)) else Err (no_shape.rare place)
+
+-- The drawing with which a handler begins: its message alone is known.
+abbrev pub drawn_entered : HandlerTree → Option (List DrawnHeader) → Drawing
+drawn_entered h headers =
+    record { scope = with_room h.messages (chained []) (option_to_list (option_map chained headers)); sent = [] }
+
+-- A handler goes its predicted way, if it has one.
+abbrev pub drawn_way : ℕ → Option (List Step) → Drawing → Result DrawnVisit NoShape
+drawn_way place None d = Err (no_shape.rare place)
+drawn_way place (Some steps) d =
+    drawn_from (λ e. Ok (record { sent = e.sent; length = way_length steps })) (draw_steps place steps d)
+
+abbrev pub drawn_handled : ℕ → Option HandlerTree → Dir → DrawnEvent → DrawnMet → Result DrawnVisit NoShape
+drawn_handled place None dir event m = drawn_unhandled place dir event m.tag m.headers
+drawn_handled place (Some h) dir event m = drawn_way place (handler_way h) (drawn_entered h m.headers)
+
+-- The predicted visit of the layer at a place.
+abbrev pub drawn_visit : ℕ → LayerTree → Dir → DrawnEvent → Result DrawnVisit NoShape
+drawn_visit place layer dir event =
+    let m = drawn_met dir event.headers in drawn_handled place (handler_for layer dir event.kind m.tag) dir event m

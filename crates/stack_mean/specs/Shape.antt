@@ -1,0 +1,135 @@
+-- The shape of an entry: which visits and outputs follow from it where all goes as predicted, told by the layers' texts alone.
+-- (After the common paths of the SOSP 1999 paper.)
+use Rattle.std.specs.Prelude.{ℕ, ◌+◌, ◌-◌, nat_lt, if◌then◌else◌, List, [], ◌∷◌, map, length, Option, Some, Result, Ok, Err}
+use Rattle.std.specs.Option.{option_map_or}
+use Rattle.layer_ast.specs.declared.tokens.Dir.{Dir}
+use Rattle.layer_ast.specs.declared.tokens.Dir.TheVariants.{Up, Down}
+use Rattle.layer_ast.specs.declared.tokens.Kind.{Kind}
+use Rattle.layer_ast.specs.declared.tokens.Kind.TheVariants.{Cast, Send}
+use Rattle.layer_mean.specs.Tree.{LayerTree}
+use Rattle.layer_mean.specs.Queue.{Task, Turn, Player, run_for, layer_at}
+use Rattle.layer_mean.specs.Marked.{Source, Logged, Log, marked, marked_start}
+use Rattle.stack_mean.specs.Acceptance.{weight_limit}
+use Rattle.stack_mean.specs.NoShape as no_shape
+use Rattle.stack_mean.specs.NoShape.{NoShape, drawn_from}
+use Rattle.stack_mean.specs.Drawn.{DrawnHeader, DrawnEvent, DrawnVisit, drawn_visit}
+
+-- The visits so far, and how many predicted statements, arguments and outputs they count for.
+pub record Progress : Type 0 where
+  pub visits : ℕ
+  pub length : ℕ
+
+-- The most visits of a shape.
+abbrev pub visits_limit : ℕ
+visits_limit = 256
+
+-- A visit that can't be drawn ends all.
+abbrev pub drawn_turn : Progress → Result DrawnVisit NoShape → Turn (Result Progress NoShape) DrawnEvent
+drawn_turn p (Err reason) = record { world = Err reason; sent = [] }
+drawn_turn p (Ok v) = record { world = Ok (record { visits = p.visits + 1; length = p.length + v.length }); sent = v.sent }
+
+-- A visit is looked at where none failed before, and where there may be one more.
+abbrev pub shaped_visit : List LayerTree → ℕ → Dir → DrawnEvent → Result Progress NoShape → Turn (Result Progress NoShape) DrawnEvent
+shaped_visit stack at dir event (Err reason) = record { world = Err reason; sent = [] }
+shaped_visit stack at dir event (Ok p) = if nat_lt p.visits visits_limit
+    then drawn_turn p (drawn_visit (at - 1) (layer_at stack at) dir event)
+    else record { world = Err no_shape.long; sent = [] }
+
+-- An output counts for one.
+abbrev pub with_output : Progress → Progress
+with_output p = record p { length = p.length + 1 }
+
+-- The player of the queue that draws a run.
+abbrev pub shaper : List LayerTree → Player (Result Progress NoShape) DrawnEvent
+shaper stack = record {
+  visit = λ at dir event w. shaped_visit stack at dir event w;
+  output = λ dir event w. drawn_from (λ p. Ok (with_output p)) w;
+}
+
+-- The event that an entry begins with, as far as it is known: its direction, its kind and the tags of its headers.
+pub record Known : Type 0 where
+  pub dir : Dir
+  pub kind : Kind
+  pub tags : List ℕ
+
+-- The application's own cast and send come from above and have no headers yet; a packet's cast or send comes from below with its tags.
+abbrev pub app_cast : Known
+app_cast = record { dir = Down; kind = Cast; tags = [] }
+
+abbrev pub app_send : Known
+app_send = record { dir = Down; kind = Send; tags = [] }
+
+abbrev pub packet_entry : Kind → List ℕ → Known
+packet_entry kind tags = record { dir = Up; kind = kind; tags = tags }
+
+-- Where an entry begins: at the lowest place going up, at the highest going down.
+abbrev pub entry_place : List LayerTree → Dir → ℕ
+entry_place stack Up = 1
+entry_place stack Down = length stack
+
+abbrev pub entry_task : List LayerTree → Known → Task DrawnEvent
+entry_task stack k = record {
+  at = entry_place stack k.dir;
+  dir = k.dir;
+  event = record { kind = k.kind; headers = Some (map (λ tag. record { tag = tag; fields = [] }) k.tags) };
+}
+
+-- A visit of a shape: its place, counted from 0, the event's direction and kind, the tag of the first header (0 where there is none),
+-- and the maker of the event.
+pub record ShapeVisit : Type 0 where
+  pub place : ℕ
+  pub dir : Dir
+  pub kind : Kind
+  pub tag : ℕ
+  pub made_by : Option Source
+
+-- An output of a shape: its edge by the direction, its kind, its headers, and its maker.
+pub record ShapeOut : Type 0 where
+  pub dir : Dir
+  pub kind : Kind
+  pub headers : List DrawnHeader
+  pub made_by : Option Source
+
+-- A shape: its visits and outputs in order, and how many predicted statements, arguments and outputs it counts for.
+pub record Shape : Type 0 where
+  pub visits : List ShapeVisit
+  pub outs : List ShapeOut
+  pub length : ℕ
+
+-- The tag of the first header, 0 where there is none.
+abbrev pub first_tag : List DrawnHeader → ℕ
+first_tag [] = 0
+first_tag (h ∷ hs) = h.tag
+
+abbrev pub headers_of : DrawnEvent → List DrawnHeader
+headers_of e = option_map_or (λ headers. headers) e.headers []
+
+abbrev pub shape_visit : Logged DrawnEvent → ShapeVisit
+shape_visit x = record {
+  place = x.at - 1;
+  dir = x.dir;
+  kind = x.marked.event.kind;
+  tag = first_tag (headers_of x.marked.event);
+  made_by = x.marked.made_by;
+}
+
+abbrev pub shape_out : Logged DrawnEvent → ShapeOut
+shape_out x = record {
+  dir = x.dir;
+  kind = x.marked.event.kind;
+  headers = headers_of x.marked.event;
+  made_by = x.marked.made_by;
+}
+
+-- What was logged, as a shape.
+abbrev pub shape_with : Log (Result Progress NoShape) DrawnEvent → Progress → Shape
+shape_with log p = record { visits = map shape_visit log.visits; outs = map shape_out log.outs; length = p.length }
+
+abbrev pub shape_of : Log (Result Progress NoShape) DrawnEvent → Result Shape NoShape
+shape_of log = drawn_from (λ p. Ok (shape_with log p)) log.world
+
+-- The shape of an entry, or the first reason for which it has none. (As many turns as an accepted stack's heaviest entry weighs
+-- are enough.)
+unfoldable pub shape : List LayerTree → Known → Result Shape NoShape
+shape stack k =
+    shape_of (run_for (length stack) (marked (shaper stack)) weight_limit (marked_start (Ok (record { visits = 0; length = 0 })) (entry_task stack k))).world
