@@ -1,15 +1,15 @@
 -- Which stacks are accepted: those of which it is known beforehand that each run ends, and how much it may take. (This project's
 -- own.)
-use Rattle.std.specs.Prelude.{ℕ, zero, suc, ◌+◌, ◌*◌, ◌-◌, nat_lt, max, min, if◌then◌else◌, List, [], ◌∷◌, ◌++◌, map, fold, length, Option, Some, None, Result, Ok, Err}
+use Rattle.std.specs.Prelude.{ℕ, zero, suc, ◌+◌, ◌*◌, ◌-◌, nat_lt, max, min, if◌then◌else◌, List, ◌++◌, map, fold, length, Option, Some, None, Result, Ok, Err}
 use Rattle.std.specs.List.{sum_by}
-use Rattle.std.specs.Option.{option_map_or, is_some}
+use Rattle.std.specs.Option.{option_map_or}
 use Rattle.layer_ast.specs.declared.tokens.Dir.TheVariants.{Up, Down}
 use Rattle.layer_ast.specs.declared.tokens.Kind.{Kind}
 use Rattle.layer_ast.specs.declared.tokens.Kind.TheVariants.{Cast, Send, Timer, Leave}
 use Rattle.layer_mean.specs.Tree.{Form, numbers, queue, queues, ItemsTree, LayerTree}
 use Rattle.layer_mean.specs.Queue.{is_place}
 use Rattle.stack_mean.specs.Emissions.{handler_joins}
-use Rattle.stack_mean.specs.Graph.{Node, Arrow, nodes, nodes_of, arrows, entered_handler, first_on_cycle}
+use Rattle.stack_mean.specs.Graph.{Node, nodes, nodes_of, arrows, entered_handler, first_on_cycle}
 
 -- The largest of some numbers, 0 where there is none.
 abbrev pub largest : List ℕ → ℕ

@@ -1,8 +1,8 @@
 -- What a handler may send at most, whatever way its visit goes, and how many joins it may make.
-use Rattle.std.specs.Prelude.{ℕ, ◌+◌, ◌*◌, List, [], ◌∷◌, ◌++◌, Option}
+use Rattle.std.specs.Prelude.{ℕ, ◌+◌, ◌*◌, List, [], ◌∷◌, ◌++◌}
 use Rattle.std.specs.List.{sum_by}
 use Rattle.std.specs.Option.{option_map_or}
-use Rattle.layer_mean.specs.Tree.{ExpressionTree, number, me, count, ltime, local, element, square, rows, item, size, binary, apply, pick, MessageTree, message, nothing, held, cut, tail, join, ContentTree, EmissionTree, RowTree, StatementTree, bind, assign, assign_square, push, take, branch, each, emit, StatementTrees, none, more, Expected, always, common, rare, HandlerTree}
+use Rattle.layer_mean.specs.Tree.{ExpressionTree, element, square, rows, item, size, binary, apply, pick, MessageTree, held, cut, tail, join, ContentTree, EmissionTree, RowTree, StatementTree, bind, assign, assign_square, push, take, branch, each, emit, StatementTrees, none, more, Expected, common, HandlerTree}
 
 -- An emission that is done so many times at most.
 pub record Repeated : Type 0 where

@@ -1,5 +1,5 @@
 -- The graph of a stack: which events can follow from which. (That a stack is judged by it is this project's own.)
-use Rattle.std.specs.Prelude.{ℕ, zero, suc, ◌+◌, ◌-◌, ◌==◌, Bool, true, false, not, ◌&&◌, if◌then◌else◌, List, [], ◌∷◌, ◌++◌, map, length, Option, Some, None}
+use Rattle.std.specs.Prelude.{ℕ, zero, suc, ◌+◌, ◌==◌, Bool, false, ◌&&◌, if◌then◌else◌, List, [], ◌∷◌, ◌++◌, map, length, Option, Some, None}
 use Rattle.std.specs.List.{find, flat_map, list_any, range_with_len}
 use denote.Enum.Bare.{sameb}
 use Rattle.layer_ast.specs.declared.tokens.Dir.{Dir}

@@ -7,3 +7,4 @@ pub mod Drawn
 pub mod Shape
 pub mod Plans
 pub mod SampleLayers
+pub mod Samples

@@ -1,5 +1,5 @@
 -- The plans of a stack: one for each packet that an application's own cast or send is predicted to send.
-use Rattle.std.specs.Prelude.{ℕ, Bool, true, false, List, [], ◌∷◌, ◌++◌, map, take, Result, Ok, Err}
+use Rattle.std.specs.Prelude.{ℕ, Bool, false, List, [], ◌++◌, map, take, Result, Ok, Err}
 use Rattle.std.specs.List.{filter, flat_map}
 use Rattle.layer_ast.specs.declared.tokens.Dir.{Dir}
 use Rattle.layer_ast.specs.declared.tokens.Dir.TheVariants.{Up, Down}

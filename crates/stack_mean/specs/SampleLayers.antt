@@ -1,5 +1,5 @@
 -- Layers of the samples, as trees: some of the library's, as far as they are needed, and some that are made to be judged.
-use Rattle.std.specs.Prelude.{ℕ, true, false, List, [], ◌∷◌, Option, Some, None, codes}
+use Rattle.std.specs.Prelude.{ℕ, true, false, List, [], ◌∷◌, Some, codes}
 use Rattle.layer_ast.specs.declared.tokens.Dir.{Dir}
 use Rattle.layer_ast.specs.declared.tokens.Dir.TheVariants.{Up, Down}
 use Rattle.layer_ast.specs.declared.tokens.Kind.{Kind}
@@ -7,7 +7,7 @@ use Rattle.layer_ast.specs.declared.tokens.Kind.TheVariants.{Cast, Send}
 use Rattle.layer_ast.specs.declared.syntax.Likely.TheVariants as likely
 use Rattle.layer_ast.specs.declared.syntax.Operator.TheVariants.{Add, Equal, NotEqual, Greater, And}
 use Rattle.layer_ast.specs.declared.syntax.Shape.TheVariants.{One, Array}
-use Rattle.layer_mean.specs.Tree.{Carried, part, whole, ExpressionTree, number, me, local, element, rows, item, size, binary, MessageTree, message, nothing, held, join, StatementTree, bind, assign, push, take, branch, each, emit, StatementTrees, none, more, Expected, always, common, rare, HandlerTree, Form, numbers, queue, queues, HeaderTree, CellTree, LayerTree}
+use Rattle.layer_mean.specs.Tree.{Carried, whole, ExpressionTree, number, me, local, element, rows, item, size, binary, MessageTree, message, nothing, held, tail, join, StatementTree, assign, push, take, branch, each, emit, StatementTrees, none, more, Expected, always, common, rare, HandlerTree, Form, numbers, queue, queues, HeaderTree, CellTree, LayerTree}
 
 -- The statements of a block.
 abbrev pub block : List StatementTree → StatementTrees
@@ -62,7 +62,7 @@ counter = record {
   handlers =
       on Down Cast 0 always (sends Down Cast (local 0) (message 0) 1 (cell 0 ∷ []) ∷ raise 0 ∷ []) ∷
       on Up Cast 1 (common (binary Equal (local 1) (element 1 (local 0))))
-          (assign 1 (local 0) (binary Add (local 1) (number 1)) ∷ sends Up Cast (local 0) (message 0) 0 [] ∷ []) ∷ [];
+      (assign 1 (local 0) (binary Add (local 1) (number 1)) ∷ sends Up Cast (local 0) (message 0) 0 [] ∷ []) ∷ [];
 }
 
 -- Each message carries the number 1.
@@ -75,9 +75,9 @@ bottom = record {
       on Down Cast 0 always (sends Down Cast (local 0) (message 0) 1 (number 1 ∷ []) ∷ []) ∷
       on Down Send 0 always (sends Down Send (local 0) (message 0) 1 (number 1 ∷ []) ∷ []) ∷
       on Up Cast 1 (common (binary Equal (local 1) (number 1)))
-          (branch likely.First (binary Equal (local 1) (number 1)) (block (sends Up Cast (local 0) (message 0) 0 [] ∷ [])) none ∷ []) ∷
+      (branch likely.First (binary Equal (local 1) (number 1)) (block (sends Up Cast (local 0) (message 0) 0 [] ∷ [])) none ∷ []) ∷
       on Up Send 1 (common (binary Equal (local 1) (number 1)))
-          (branch likely.First (binary Equal (local 1) (number 1)) (block (sends Up Send (local 0) (message 0) 0 [] ∷ [])) none ∷ []) ∷ [];
+      (branch likely.First (binary Equal (local 1) (number 1)) (block (sends Up Send (local 0) (message 0) 0 [] ∷ [])) none ∷ []) ∷ [];
 }
 
 -- A cast comes back to its sender too.
@@ -93,15 +93,15 @@ total = record {
   headers = with_fields (codes "num") 2 ∷ with_fields (codes "ask") 0 ∷ [];
   handlers =
       on Down Cast 0 always (branch likely.First (binary Equal me (number 0))
-          (block (sends Down Cast (local 0) (message 0) 1 (me ∷ cell 0 ∷ []) ∷ raise 0 ∷ []))
-          (block (sends Down Send (number 0) (message 0) 2 [] ∷ [])) ∷ []) ∷
+      (block (sends Down Cast (local 0) (message 0) 1 (me ∷ cell 0 ∷ []) ∷ raise 0 ∷ []))
+      (block (sends Down Send (number 0) (message 0) 2 [] ∷ [])) ∷ []) ∷
       on Up Send 2 always (branch likely.First (binary Equal me (number 0))
-          (block (sends Down Cast me (message 0) 1 (local 0 ∷ cell 0 ∷ []) ∷ raise 0 ∷ [])) none ∷ []) ∷
+      (block (sends Down Cast me (message 0) 1 (local 0 ∷ cell 0 ∷ []) ∷ raise 0 ∷ [])) none ∷ []) ∷
       on Up Cast 1 (common (binary Equal (local 2) (cell 1))) (branch likely.First (binary Equal (local 2) (cell 1))
-          (block (assign 1 (number 0) (binary Add (cell 1) (number 1)) ∷ sends Up Cast (local 1) (message 0) 0 [] ∷ [])) none ∷ []) ∷ [];
+      (block (assign 1 (number 0) (binary Add (cell 1) (number 1)) ∷ sends Up Cast (local 1) (message 0) 0 [] ∷ [])) none ∷ []) ∷ [];
 }
 
--- What the messages of the layers above `mnak` in the samples have in the place of a message that isn't there.
+-- Rows with messages of the layers above. (What stands in for a missing one plays no part in the samples.)
 abbrev pub kept_rows : Carried
 kept_rows = whole []
 
@@ -123,9 +123,9 @@ waiting = rows 5 (local 0)
 abbrev pub turning : StatementTree
 turning = branch likely.First (binary NotEqual (item 5 (local 0) (number 0) 0) (element 3 (local 0)))
     (block (take 5 (local 0) (record { numbers = 4 ∷ []; message = Some (1, kept_rows) })
-        (block (branch likely.First (binary Greater (local 4) (element 3 (local 0)))
-            (block (push 5 (local 0) 16 (record { numbers = local 4 ∷ []; message = Some (message 1) }) none ∷ [])) none ∷ []))
-        none ∷ []))
+    (block (branch likely.First (binary Greater (local 4) (element 3 (local 0)))
+    (block (push 5 (local 0) 16 (record { numbers = local 4 ∷ []; message = Some (message 1) }) none ∷ [])) none ∷ []))
+    none ∷ []))
     none
 
 -- The first that waits goes up, if it is the next.
@@ -133,19 +133,19 @@ abbrev pub catching_up : StatementTree
 catching_up = branch likely.First
     (binary And (binary Greater waiting (number 0)) (binary Equal (item 5 (local 0) (number 0) 0) (element 3 (local 0))))
     (block (take 5 (local 0) (record { numbers = 4 ∷ []; message = Some (1, kept_rows) })
-        (block (assign 3 (local 0) (binary Add (local 4) (number 1)) ∷ sends Up Cast (local 0) (message 1) 0 [] ∷ []))
-        none ∷ []))
+    (block (assign 3 (local 0) (binary Add (local 4) (number 1)) ∷ sends Up Cast (local 0) (message 1) 0 [] ∷ []))
+    none ∷ []))
     none
 
 -- The next cast of a sender goes up, and those that waited for it; a later one waits.
 abbrev pub ordering : List StatementTree
 ordering = branch likely.First (binary Equal (local 1) (element 3 (local 0)))
     (block (assign 3 (local 0) (binary Add (local 1) (number 1)) ∷ sends Up Cast (local 0) (message 0) 0 [] ∷
-        branch likely.Else (binary Greater waiting (number 0))
-            (block (each 2 waiting 16 (block (each 3 waiting 16 (block (turning ∷ [])) ∷ catching_up ∷ [])) ∷ [])) none ∷ []))
+    branch likely.Else (binary Greater waiting (number 0))
+    (block (each 2 waiting 16 (block (each 3 waiting 16 (block (turning ∷ [])) ∷ catching_up ∷ [])) ∷ [])) none ∷ []))
     (block (branch likely.First (binary Greater (local 1) (element 3 (local 0)))
-        (block (push 5 (local 0) 16 (record { numbers = local 1 ∷ []; message = Some (message 0) }) none ∷
-            sends Down Send (local 0) nothing 2 (element 3 (local 0) ∷ local 1 ∷ []) ∷ [])) none ∷ [])) ∷ []
+    (block (push 5 (local 0) 16 (record { numbers = local 1 ∷ []; message = Some (message 0) }) none ∷
+    sends Down Send (local 0) nothing 2 (element 3 (local 0) ∷ local 1 ∷ []) ∷ [])) none ∷ [])) ∷ []
 
 -- Each cast is kept and numbered, and casts that come too early wait: the casts of `mnak`.
 abbrev pub mnak : LayerTree
@@ -183,8 +183,8 @@ repeater = bare_layer (codes "rep")
 abbrev pub joiner : ℕ → LayerTree
 joiner inner = bare_layer (codes "joiner")
     (on Down Cast 0 always (each 1 (number 3) 3
-        (block (each 2 (size (join (message 0) (message 0))) inner
-            (block (sends Down Cast (local 0) (join (message 0) (join (message 0) (message 0))) 0 [] ∷ [])) ∷ [])) ∷ []) ∷ [])
+    (block (each 2 (size (join (message 0) (message 0))) inner
+    (block (sends Down Cast (local 0) (join (message 0) (join (message 0) (message 0))) 0 [] ∷ [])) ∷ [])) ∷ []) ∷ [])
 
 -- A cast isn't expected at all.
 abbrev pub surprised : LayerTree
@@ -194,10 +194,43 @@ surprised = bare_layer (codes "surprised") (on Down Cast 0 rare (sends Down Cast
 abbrev pub late : LayerTree
 late = record {
   name = codes "late";
-  cells = named (codes "kept") (queue 4 (record { numbers = []; message = Some (codes "m", whole []) })) ∷ [];
+  cells = named (codes "kept") (queue 4 (record { numbers = []; message = Some (codes "m", kept_rows) })) ∷ [];
   headers = [];
   handlers = on Down Cast 0 always
       (push 0 (number 0) 4 (record { numbers = []; message = Some (message 0) }) none ∷
-      take 0 (number 0) (record { numbers = []; message = Some (1, whole []) })
-          (block (sends Down Cast (local 0) (message 1) 0 [] ∷ each 1 (number 1) 1 none ∷ [])) none ∷ []) ∷ [];
+      take 0 (number 0) (record { numbers = []; message = Some (1, kept_rows) })
+      (block (sends Down Cast (local 0) (message 1) 0 [] ∷ each 1 (number 1) 1 none ∷ [])) none ∷ []) ∷ [];
 }
+
+-- A cast comes back up with the headers with which it came down, and another one that was kept before in its place.
+abbrev pub mirror : LayerTree
+mirror = bare_layer (codes "mirror")
+    (on Down Cast 0 always (sends Up Cast (local 0) (tail (message 0) (number 0)) 0 [] ∷ []) ∷ [])
+
+abbrev pub memory : LayerTree
+memory = record {
+  name = codes "memory";
+  cells = named (codes "kept") (queue 4 (record { numbers = []; message = Some (codes "m", kept_rows) })) ∷ [];
+  headers = [];
+  handlers = on Down Cast 0 always (sends Up Cast (local 0) (held 0 (number 0) (number 0) kept_rows) 0 [] ∷ []) ∷ [];
+}
+
+-- A cast that comes up with the first header is answered with the second one.
+abbrev pub answering : LayerTree
+answering = record {
+  name = codes "answering";
+  cells = [];
+  headers = with_fields (codes "ask") 0 ∷ with_fields (codes "answer") 0 ∷ [];
+  handlers =
+      on Up Cast 1 always (sends Down Cast (local 0) (message 0) 2 [] ∷ []) ∷
+      on Up Cast 2 always (sends Up Cast (local 0) (message 0) 0 [] ∷ []) ∷ [];
+}
+
+-- A cast becomes two.
+abbrev pub doubler : LayerTree
+doubler = bare_layer (codes "doubler")
+    (on Down Cast 0 always (sends Down Cast (local 0) (message 0) 0 [] ∷ sends Down Cast (local 0) (message 0) 0 [] ∷ []) ∷ [])
+
+-- A layer with a header and without handlers.
+abbrev pub silent : LayerTree
+silent = record { name = codes "silent"; cells = []; headers = with_fields (codes "word") 1 ∷ []; handlers = [] }

@@ -1,14 +1,14 @@
 -- The shape of an entry: which visits and outputs follow from it where all goes as predicted, told by the layers' texts alone.
 -- (After the common paths of the SOSP 1999 paper.)
-use Rattle.std.specs.Prelude.{ℕ, ◌+◌, ◌-◌, nat_lt, if◌then◌else◌, List, [], ◌∷◌, map, length, Option, Some, None, Result, Ok, Err}
+use Rattle.std.specs.Prelude.{ℕ, ◌+◌, ◌-◌, nat_lt, if◌then◌else◌, List, [], ◌∷◌, map, length, Option, Some, Result, Ok, Err}
 use Rattle.std.specs.Option.{option_map_or}
 use Rattle.layer_ast.specs.declared.tokens.Dir.{Dir}
 use Rattle.layer_ast.specs.declared.tokens.Dir.TheVariants.{Up, Down}
 use Rattle.layer_ast.specs.declared.tokens.Kind.{Kind}
 use Rattle.layer_ast.specs.declared.tokens.Kind.TheVariants.{Cast, Send}
 use Rattle.layer_mean.specs.Tree.{LayerTree}
-use Rattle.layer_mean.specs.Queue.{Task, Turn, Player, Line, run_for, layer_at}
-use Rattle.layer_mean.specs.Marked.{Source, Logged, Log, Marked, marked, marked_start}
+use Rattle.layer_mean.specs.Queue.{Task, Turn, Player, run_for, layer_at}
+use Rattle.layer_mean.specs.Marked.{Source, Logged, Log, marked, marked_start}
 use Rattle.stack_mean.specs.Acceptance.{weight_limit}
 use Rattle.stack_mean.specs.NoShape as no_shape
 use Rattle.stack_mean.specs.NoShape.{NoShape, drawn_from}

@@ -1,0 +1,151 @@
+-- Stacks that are judged, drawn and planned by computing.
+use Rattle.std.specs.Prelude.{◌≡◌, ℕ, List, [], ◌∷◌, ◌++◌, map, replicate, Option, Some, None, Result, Ok, Err, codes}
+use Rattle.msg_core.specs.Chain.{Content}
+use Rattle.layer_ast.specs.declared.tokens.Dir.{Dir}
+use Rattle.layer_ast.specs.declared.tokens.Dir.TheVariants.{Up, Down}
+use Rattle.layer_ast.specs.declared.tokens.Kind.TheVariants.{Cast, Send, Timer}
+use Rattle.layer_mean.specs.declared.run.Event.{Event}
+use Rattle.layer_mean.specs.Tree.{LayerTree}
+use Rattle.layer_mean.specs.Effect.{unusual}
+use Rattle.layer_mean.specs.Visit.{Visited, fresh, step}
+use Rattle.layer_mean.specs.Marked.{Source}
+use Rattle.stack_mean.specs.Acceptance.{cycle, too_many, too_many_joins, accepted, largest_weight, largest_joins, rows_of}
+use Rattle.stack_mean.specs.NoShape as no_shape
+use Rattle.stack_mean.specs.NoShape.{NoShape, drawn_from}
+use Rattle.stack_mean.specs.Drawn.{DrawnHeader}
+use Rattle.stack_mean.specs.Shape.{app_cast, app_send, packet_entry, ShapeVisit, ShapeOut, Shape, shape}
+use Rattle.stack_mean.specs.Plans.{plans_of}
+use Rattle.stack_mean.specs.SampleLayers.{counter, bottom, mnak, local_copy, total, echo, fan, repeater, joiner, surprised, late, mirror, memory, answering, doubler, silent}
+
+-- Two layers that send each cast back to each other go on forever; one alone doesn't.
+abbrev pub TwoEchoes : Type 0
+TwoEchoes = (accepted (echo ∷ echo ∷ []) ≡ Err (cycle 0 Cast)) × (accepted (echo ∷ []) ≡ Ok (echo ∷ []))
+
+-- Each layer makes sixteen of one; four are too many.
+abbrev pub fans : ℕ → List LayerTree
+fans n = replicate n fan
+
+abbrev pub FanWeights : Type 0
+FanWeights = map (λ n. largest_weight (fans n)) (1 ∷ 2 ∷ 3 ∷ 4 ∷ []) ≡ 17 ∷ 273 ∷ 4369 ∷ 69905 ∷ []
+
+abbrev pub FourFans : Type 0
+FourFans = (accepted (fans 4) ≡ Err (too_many 69905)) × (accepted (fans 3) ≡ Ok (fans 3))
+
+-- The joins of a loop's bound count outside it: three times one and, in a loop of 32, two; a layer above does this as often as it sends.
+abbrev pub NestedJoins : Type 0
+NestedJoins =
+    (largest_joins (joiner 32 ∷ []) ≡ 195) × (accepted (joiner 32 ∷ []) ≡ Ok (joiner 32 ∷ [])) ×
+    (accepted (joiner 32 ∷ joiner 32 ∷ []) ≡ Err too_many_joins)
+
+-- A message that comes back with its headers can't be answered again and again; one that isn't known may have any header.
+abbrev pub ReturnedHeaders : Type 0
+ReturnedHeaders =
+    (accepted (mirror ∷ answering ∷ []) ≡ Ok (mirror ∷ answering ∷ [])) ×
+    (accepted (memory ∷ answering ∷ []) ≡ Err (cycle 0 Cast))
+
+-- A queue of 64 messages, and one of 16 for each of five members.
+abbrev pub MessageRows : Type 0
+MessageRows = rows_of (bottom ∷ mnak ∷ []) 5 ≡ 144
+
+-- Loops, rare handlers and messages that were stored can't be drawn; the first of them counts.
+abbrev pub NotDrawn : Type 0
+NotDrawn =
+    (shape (repeater ∷ []) app_cast ≡ Err (no_shape.loop 0)) × (shape (repeater ∷ []) app_send ≡ Err (no_shape.loop 0)) ×
+    (shape (bottom ∷ surprised ∷ late ∷ []) app_cast ≡ Err (no_shape.stored 2)) ×
+    (shape (late ∷ surprised ∷ bottom ∷ []) app_cast ≡ Err (no_shape.rare 1))
+
+-- How long a shape is, without its visits.
+abbrev pub length_of : Result Shape NoShape → Result ℕ NoShape
+length_of = drawn_from (λ s. Ok s.length)
+
+-- Nine layers of which each but the highest doubles a cast make 256 visits and as many outputs; one more is too long.
+abbrev pub LongShapes : Type 0
+LongShapes =
+    (length_of (shape (replicate 8 doubler ++ silent ∷ []) app_cast) ≡ Ok 766) ×
+    (shape (replicate 8 doubler ++ silent ∷ silent ∷ []) app_cast ≡ Err no_shape.long)
+
+-- A header as shapes show it.
+abbrev pub header : ℕ → List (Option ℕ) → DrawnHeader
+header tag fields = record { tag = tag; fields = fields }
+
+abbrev pub made_by : ℕ → ℕ → Option Source
+made_by visit emission = Some (record { visit = visit; emission = emission })
+
+abbrev pub visit : ℕ → Dir → ℕ → Option Source → ShapeVisit
+visit place dir tag maker = record { place = place; dir = dir; kind = Cast; tag = tag; made_by = maker }
+
+abbrev pub out : Dir → List DrawnHeader → Option Source → ShapeOut
+out dir headers maker = record { dir = dir; kind = Cast; headers = headers; made_by = maker }
+
+-- A numbered cast goes out, and comes back to its sender behind that.
+abbrev pub ordered : List LayerTree
+ordered = bottom ∷ local_copy ∷ total ∷ []
+
+abbrev pub OrderedShape : Type 0
+OrderedShape = shape ordered app_cast ≡ Ok (record {
+  visits = visit 2 Down 0 None ∷ visit 1 Down 1 (made_by 0 0) ∷ visit 0 Down 0 (made_by 1 0) ∷ visit 2 Up 1 (made_by 1 1) ∷ [];
+  outs =
+      out Down (header 1 (Some 1 ∷ []) ∷ header 0 [] ∷ header 1 (None ∷ None ∷ []) ∷ []) (made_by 2 0) ∷
+      out Up [] (made_by 3 0) ∷ [];
+  length = 15;
+})
+
+-- The same over a layer that keeps what it sends: the cast comes back first.
+abbrev pub kept : List LayerTree
+kept = bottom ∷ mnak ∷ local_copy ∷ total ∷ []
+
+abbrev pub KeptShape : Type 0
+KeptShape = shape kept app_cast ≡ Ok (record {
+  visits =
+      visit 3 Down 0 None ∷ visit 2 Down 1 (made_by 0 0) ∷ visit 1 Down 0 (made_by 1 0) ∷ visit 3 Up 1 (made_by 1 1) ∷
+      visit 0 Down 1 (made_by 2 0) ∷ [];
+  outs =
+      out Up [] (made_by 3 0) ∷
+      out Down (header 1 (Some 1 ∷ []) ∷ header 1 (None ∷ []) ∷ header 0 [] ∷ header 1 (None ∷ None ∷ []) ∷ []) (made_by 4 0) ∷ [];
+  length = 20;
+})
+
+-- The plans of both stacks: the lowest layer's number is constant.
+abbrev pub OrderedPlans : Type 0
+OrderedPlans = plans_of ordered ≡
+    record { kind = Cast; tags = 1 ∷ 0 ∷ 1 ∷ []; fields = Some 1 ∷ None ∷ None ∷ [] } ∷
+    record { kind = Send; tags = 1 ∷ 0 ∷ 0 ∷ []; fields = Some 1 ∷ [] } ∷ []
+
+abbrev pub KeptPlans : Type 0
+KeptPlans = plans_of kept ≡
+    record { kind = Cast; tags = 1 ∷ 1 ∷ 0 ∷ 1 ∷ []; fields = Some 1 ∷ None ∷ None ∷ None ∷ [] } ∷
+    record { kind = Send; tags = 1 ∷ 0 ∷ 0 ∷ 0 ∷ []; fields = Some 1 ∷ [] } ∷ []
+
+-- The shapes of the counter's four entries: its own cast and send, and the packets of both.
+abbrev pub CounterLengths : Type 0
+CounterLengths = map (λ k. length_of (shape (counter ∷ []) k))
+    (app_cast ∷ app_send ∷ packet_entry Cast (1 ∷ []) ∷ packet_entry Send (0 ∷ []) ∷ []) ≡ Ok 4 ∷ Ok 1 ∷ Ok 4 ∷ Ok 1 ∷ []
+
+-- An event for a layer without handlers, and what it makes of it at place 3.
+abbrev pub cast_of : Content → Event
+cast_of m = record { kind = Cast; peer = 1; a = 0; b = 0; message = Some m }
+
+abbrev pub at_silent : Dir → Event → Visited
+at_silent dir event = step 3 silent (fresh silent 0 2 0) dir event
+
+abbrev pub passed : Dir → Event → Visited
+passed dir event = record { state = fresh silent 0 2 0; sent = (dir, event) ∷ []; decided = [] }
+
+-- A message with a header of this tag at place 3, before the letter x.
+abbrev pub tagged : ℕ → List ℕ → Content
+tagged tag fields = record { headers = record { layer = 3; tag = tag; fields = fields } ∷ []; body = codes "x" }
+
+abbrev pub untagged : Content
+untagged = record { headers = []; body = codes "x" }
+
+abbrev pub tick : Event
+tick = record { kind = Timer; peer = 0; a = 5; b = 0; message = None }
+
+-- An event without a message passes, a message passes going down behind `none`, and going up where that was popped; behind another
+-- header it is dropped, which isn't predicted.
+abbrev pub MissingHandlers : Type 0
+MissingHandlers =
+    (at_silent Up tick ≡ passed Up tick) × (at_silent Down tick ≡ passed Down tick) ×
+    (at_silent Down (cast_of untagged) ≡ passed Down (cast_of (tagged 0 []))) ×
+    (at_silent Up (cast_of (tagged 0 [])) ≡ passed Up (cast_of untagged)) ×
+    (at_silent Up (cast_of (tagged 1 (7 ∷ []))) ≡ record { state = fresh silent 0 2 0; sent = []; decided = unusual ∷ [] })
