@@ -1,0 +1,56 @@
+-- Plans of short packets: which packets have the same headers but for a few numbers (that constant fields are left out of a packet,
+-- and a number stands for them, is the SOSP 1999 paper's).
+use Rattle.std.specs.Prelude.{ℕ, Bool, true, false, ◌==◌, ◌&&◌, bytes_eq, List, [], ◌∷◌, map, flat_map, position, Option, Some, None}
+use denote.Enum.Bare.{sameb}
+use Rattle.msg_core.specs.Chain.{Content}
+use Rattle.msg_core.specs.declared.packet.Dest.{Dest}
+use Rattle.msg_core.specs.declared.packet.Dest.TheVariants as dest
+use Rattle.msg_core.specs.declared.packet.Packet.{Packet}
+use Rattle.layer_ast.specs.contracts.tokens.Kind as kind_row
+use Rattle.layer_ast.specs.declared.tokens.Kind.{Kind}
+use Rattle.layer_ast.specs.declared.tokens.Kind.TheVariants.{Cast, Send}
+
+-- A plan: a kind, the tags of the headers, and the fields of all headers, from the lowest layer up, of which the variable ones are
+-- None. Plans are numbered from 0 in their list.
+pub record Plan : Type 0 where
+  pub kind : Kind
+  pub tags : List ℕ
+  pub fields : List (Option ℕ)
+
+-- The kind of a packet, by its destination: to all it is a Cast, to a rank a Send.
+abbrev pub kind_of : Dest → Kind
+kind_of dest.All = Cast
+kind_of (dest.Rank rank) = Send
+
+-- The tags of a message's headers, and their fields, all in a row, from the lowest layer up.
+abbrev pub tags_of : Content → List ℕ
+tags_of message = map (λ h. h.tag) message.headers
+
+abbrev pub fields_of : Content → List ℕ
+fields_of message = flat_map (λ h. h.fields) message.headers
+
+-- Numbers are as many as planned, and the constants among these are the planned ones.
+abbrev pub agree : (planned : List (Option ℕ)) (numbers : List ℕ) → Bool
+agree [] [] = true
+agree (Some constant ∷ planned) (v ∷ numbers) = (v == constant) && agree planned numbers
+agree (None ∷ planned) (v ∷ numbers) = agree planned numbers
+agree _ _ = false
+
+-- The numbers that are planned as variable.
+abbrev pub variable : (planned : List (Option ℕ)) (numbers : List ℕ) → List ℕ
+variable (Some constant ∷ planned) (v ∷ numbers) = variable planned numbers
+variable (None ∷ planned) (v ∷ numbers) = v ∷ variable planned numbers
+variable _ _ = []
+
+-- A packet fits a plan where its kind, its tags and its constant fields are the plan's.
+abbrev pub fits : Plan → Packet → Bool
+fits plan packet = sameb kind_row.the_type plan.kind (kind_of packet.dest) && bytes_eq plan.tags (tags_of packet.message)
+    && agree plan.fields (fields_of packet.message)
+
+-- The number of the least plan that a packet fits, if there is one.
+abbrev pub least_fit : List Plan → Packet → Option ℕ
+least_fit plans packet = position (λ plan. fits plan packet) plans
+
+-- The fields of a packet that a plan leaves variable, from the lowest layer up.
+abbrev pub variable_fields : Plan → Packet → List ℕ
+variable_fields plan packet = variable plan.fields (fields_of packet.message)

@@ -1,0 +1,140 @@
+-- How a packet is read: readers that take what they read off the front of the bytes.
+use Rattle.std.specs.Prelude.{ℕ, zero, suc, ◌==◌, if◌then◌else◌, List, [], ◌∷◌, length, take, drop, nat_le, slice_get, Option, Some, None, option_and_then}
+use Rattle.std.specs.Int.{w32, from_be_bytes}
+use denote.Enum.Bare.{sameb}
+use Rattle.msg_core.specs.declared.message.Header.{Header}
+use Rattle.msg_core.specs.declared.packet.Dest.{Dest}
+use Rattle.msg_core.specs.declared.packet.Dest.TheVariants.{All, Rank}
+use Rattle.msg_core.specs.declared.packet.View.{View}
+use Rattle.layer_ast.specs.contracts.tokens.Kind as kind_row
+use Rattle.layer_mean.specs.Tree.{LayerTree}
+use Rattle.packet_mean.specs.Chained.{declared}
+use Rattle.packet_mean.specs.Plan.{Plan, kind_of}
+use Rattle.packet_mean.specs.Spelling.{full_form, everyone}
+
+-- A reader gives what it read and the bytes behind, or nothing where the bytes don't begin with such a thing.
+abbrev pub Reader : Type 0 → Type 0
+Reader A = List ℕ → Option (A × List ℕ)
+
+infixl 10 ◌>>=◌
+-- One reader, and then the next on the bytes behind.
+abbrev pub ◌>>=◌ : {A B : Type 0} → Reader A → (A → Reader B) → Reader B
+(reader >>= next) bytes = option_and_then (λ read. next read.0 read.1) (reader bytes)
+
+-- Nothing is taken off, and this is what was read.
+abbrev pub given : {A : Type 0} → A → Reader A
+given x bytes = Some (x, bytes)
+
+-- The same, if there is a value.
+abbrev pub known : {A : Type 0} → Option A → Reader A
+known None bytes = None
+known (Some x) bytes = Some (x, bytes)
+
+-- One byte.
+abbrev pub byte : Reader ℕ
+byte [] = None
+byte (b ∷ behind) = Some (b, behind)
+
+-- A number: four bytes, the highest first.
+abbrev pub number : Reader ℕ
+number (a ∷ b ∷ c ∷ d ∷ behind) = Some (from_be_bytes w32 (a ∷ b ∷ c ∷ d ∷ []), behind)
+number _ = None
+
+-- So many numbers.
+abbrev pub numbers : ℕ → Reader (List ℕ)
+numbers zero = given []
+numbers (suc k) = do
+  n ← number
+  more ← numbers k
+  given (n ∷ more)
+
+-- What stands in front of a datagram.
+pub record Preamble : Type 0 where
+  pub form : ℕ
+  pub group : ℕ
+  pub stamp : ℕ
+  pub view : View
+  pub sender : ℕ
+  pub dest : Dest
+
+-- The destination that a byte names.
+abbrev pub dest_of : ℕ → Dest
+dest_of b = if b == everyone then All else Rank b
+
+-- The preamble, 19 bytes.
+abbrev pub preamble : Reader Preamble
+preamble = do
+  form ← byte
+  group ← number
+  stamp ← number
+  ltime ← number
+  mask ← number
+  sender ← byte
+  dest ← byte
+  given record {
+    form = form;
+    group = group;
+    stamp = stamp;
+    view = record { ltime = ltime; mask = mask };
+    sender = sender;
+    dest = dest_of dest;
+  }
+
+-- The plan of this number, if it is one of the destination's kind.
+abbrev pub plan_for : List Plan → Dest → ℕ → Option Plan
+plan_for plans dest k =
+    option_and_then (λ plan. if sameb kind_row.the_type plan.kind (kind_of dest) then Some plan else None) (slice_get plans k)
+
+-- The plan that a short spelling names; a full one names none.
+abbrev pub named_plan : List Plan → Preamble → Reader (Option Plan)
+named_plan plans p = if p.form == full_form then given None else do
+  k ← byte
+  plan ← known (plan_for plans p.dest k)
+  given (Some plan)
+
+-- The headers of the layers from a place on, each its tag and as many fields as it declares, through the first that ends the chain.
+abbrev pub chain : List LayerTree → (place : ℕ) → Reader (List Header)
+chain [] place = given []
+chain (layer ∷ above) place = do
+  tag ← byte
+  d ← known (declared layer tag)
+  fields ← numbers d.fields
+  others ← if d.ends then given [] else chain above (suc place)
+  given (record { layer = place; tag = tag; fields = fields } ∷ others)
+
+-- Planned fields: a constant is known, and a variable one is a number that is read.
+abbrev pub planned : List (Option ℕ) → Reader (List ℕ)
+planned [] = given []
+planned (Some constant ∷ fields) = do
+  more ← planned fields
+  given (constant ∷ more)
+planned (None ∷ fields) = do
+  n ← number
+  more ← planned fields
+  given (n ∷ more)
+
+-- The first so many of a list of numbers, as a reader of that list.
+abbrev pub first : ℕ → Reader (List ℕ)
+first k fields = if nat_le k (length fields) then Some (take k fields, drop k fields) else None
+
+-- The headers of the layers from a place on that have these tags, as a reader of the list of their fields.
+abbrev pub dealt : List LayerTree → (place : ℕ) → (tags : List ℕ) → Reader (List Header)
+dealt [] place [] = given []
+dealt (layer ∷ above) place (tag ∷ tags) = do
+  d ← known (declared layer tag)
+  fields ← first d.fields
+  others ← if d.ends then dealt [] (suc place) tags else dealt above (suc place) tags
+  given (record { layer = place; tag = tag; fields = fields } ∷ others)
+dealt _ place tags = known None
+
+-- What was read, if nothing is left.
+abbrev pub whole : {A : Type 0} → Option (A × List ℕ) → Option A
+whole (Some (x, [])) = Some x
+whole _ = None
+
+-- The headers of a datagram: all are read, or the plan's tags and constants are filled in.
+abbrev pub headers : List LayerTree → Option Plan → Reader (List Header)
+headers stack None = chain stack 0
+headers stack (Some plan) = do
+  fields ← planned plan.fields
+  known (whole (dealt stack 0 plan.tags fields))
