@@ -9,7 +9,13 @@ use Rattle.msg_core.specs.declared.packet.Packet.{Packet}
 use Rattle.layer_ast.specs.contracts.tokens.Kind as kind_row
 use Rattle.layer_ast.specs.declared.tokens.Kind.{Kind}
 use Rattle.layer_ast.specs.declared.tokens.Kind.TheVariants.{Cast, Send}
-use Rattle.stack_mean.specs.Plan.{Plan}
+
+-- A plan: a kind, the tags of the headers, and the fields of all headers, from the lowest layer up, of which the variable ones are
+-- None. Plans are numbered from 0 in their list.
+pub record Plan : Type 0 where
+  pub kind : Kind
+  pub tags : List ℕ
+  pub fields : List (Option ℕ)
 
 -- The kind of a packet, by its destination: to all it is a Cast, to a rank a Send.
 abbrev pub kind_of : Dest → Kind

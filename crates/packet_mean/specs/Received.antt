@@ -11,7 +11,7 @@ use Rattle.msg_core.specs.declared.packet.Stray.{Stray}
 use Rattle.msg_core.specs.declared.packet.Stray.TheVariants as cause
 use Rattle.msg_core.specs.declared.packet.View.{View}
 use Rattle.layer_mean.specs.Tree.{LayerTree}
-use Rattle.stack_mean.specs.Plan.{Plan}
+use Rattle.packet_mean.specs.Plan.{Plan}
 use Rattle.packet_mean.specs.Spelling.{full_form, short_form}
 use Rattle.packet_mean.specs.Reading.{Preamble, preamble, named_plan, headers}
 use Rattle.packet_mean.specs.declared.here.Here.{Here}
