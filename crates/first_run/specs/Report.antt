@@ -15,7 +15,8 @@ use Rattle.script_mean.specs.declared.event.ScriptEvent.TheVariants as script
 use Rattle.script_mean.specs.declared.script.Script.{Script}
 use Rattle.script_mean.specs.Event.{member_of}
 use Rattle.first_run.specs.World.{World, member_at, Did, took, refused, absent, shown, unbuilt, Happening, happens, first_world}
-use Rattle.first_run.specs.Text.{hex_text, chain_text}
+use Rattle.script_mean.specs.EventText.{hex_text}
+use Rattle.first_run.specs.Text.{chain_text}
 
 -- `deliver M cast P HEX`: a delivery at member M from rank P.
 abbrev pub deliver_line : ℕ → Event → List ℕ

@@ -1,4 +1,4 @@
--- Plans of short packets: which packets have the same headers but for a few numbers (that constant fields are left out of a packet,
+-- Which packets fit a plan: those whose headers are as it says but for a few numbers (that constant fields are left out of a packet,
 -- and a number stands for them, is the SOSP 1999 paper's).
 use Rattle.std.specs.Prelude.{ℕ, Bool, true, false, ◌==◌, ◌&&◌, bytes_eq, List, [], ◌∷◌, map, flat_map, position, Option, Some, None}
 use denote.Enum.Bare.{sameb}
@@ -9,13 +9,7 @@ use Rattle.msg_core.specs.declared.packet.Packet.{Packet}
 use Rattle.layer_ast.specs.contracts.tokens.Kind as kind_row
 use Rattle.layer_ast.specs.declared.tokens.Kind.{Kind}
 use Rattle.layer_ast.specs.declared.tokens.Kind.TheVariants.{Cast, Send}
-
--- A plan: a kind, the tags of the headers, and the fields of all headers, from the lowest layer up, of which the variable ones are
--- None. Plans are numbered from 0 in their list.
-pub record Plan : Type 0 where
-  pub kind : Kind
-  pub tags : List ℕ
-  pub fields : List (Option ℕ)
+use Rattle.stack_mean.specs.Plan.{Plan}
 
 -- The kind of a packet, by its destination: to all it is a Cast, to a rank a Send.
 abbrev pub kind_of : Dest → Kind

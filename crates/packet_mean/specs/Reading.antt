@@ -9,7 +9,8 @@ use Rattle.msg_core.specs.declared.packet.View.{View}
 use Rattle.layer_ast.specs.contracts.tokens.Kind as kind_row
 use Rattle.layer_mean.specs.Tree.{LayerTree}
 use Rattle.packet_mean.specs.Chained.{declared}
-use Rattle.packet_mean.specs.Plan.{Plan, kind_of}
+use Rattle.packet_mean.specs.Plan.{kind_of}
+use Rattle.stack_mean.specs.Plan.{Plan}
 use Rattle.packet_mean.specs.Spelling.{full_form, everyone}
 
 -- A reader gives what it read and the bytes behind, or nothing where the bytes don't begin with such a thing.

@@ -1,8 +1,8 @@
 -- What a member makes of a datagram: the packet that it spells, or the first cause for which it is refused.
 use Rattle.std.specs.Prelude.{◌≡◌, ℕ, ◌<◌, ◌≢◌, ◌==◌, ◌&&◌, ◌||◌, not, nat_lt, nat_le, Bool, true, if◌then◌else◌, List, length, Option, Result, Ok, Err, ok_or}
 use Rattle.std.specs.Result.{result_ok, result_err}
-use Rattle.std.specs.Int.Count.{ones}
 use Rattle.msg_core.specs.Parts.{longest_body}
+use Rattle.msg_core.specs.View.{member_count}
 use Rattle.msg_core.specs.declared.message.Header.{Header}
 use Rattle.msg_core.specs.declared.packet.Dest.{Dest}
 use Rattle.msg_core.specs.declared.packet.Dest.TheVariants as dest
@@ -11,14 +11,10 @@ use Rattle.msg_core.specs.declared.packet.Stray.{Stray}
 use Rattle.msg_core.specs.declared.packet.Stray.TheVariants as cause
 use Rattle.msg_core.specs.declared.packet.View.{View}
 use Rattle.layer_mean.specs.Tree.{LayerTree}
-use Rattle.packet_mean.specs.Plan.{Plan}
+use Rattle.stack_mean.specs.Plan.{Plan}
 use Rattle.packet_mean.specs.Spelling.{full_form, short_form}
 use Rattle.packet_mean.specs.Reading.{Preamble, preamble, named_plan, headers}
 use Rattle.packet_mean.specs.declared.here.Here.{Here}
-
--- How many members a view has: the bits that are set in its mask.
-abbrev pub member_count : View → ℕ
-member_count view = ones view.mask
 
 abbrev pub same_view : View → View → Bool
 same_view v w = (v.ltime == w.ltime) && (v.mask == w.mask)

@@ -7,7 +7,7 @@ use Rattle.msg_core.specs.declared.packet.Packet.{Packet}
 use Rattle.msg_core.specs.declared.packet.Stray.{Stray}
 use Rattle.layer_ast.specs.declared.tokens.Kind.TheVariants.{Cast, Send}
 use Rattle.layer_mean.specs.Tree.{HeaderTree, LayerTree}
-use Rattle.packet_mean.specs.Plan.{Plan}
+use Rattle.stack_mean.specs.Plan.{Plan}
 use Rattle.packet_mean.specs.Received.{stray}
 use Rattle.packet_mean.specs.declared.here.Here.{Here}
 

@@ -8,7 +8,8 @@ use Rattle.msg_core.specs.declared.packet.Packet.{Packet}
 use Rattle.msg_core.specs.declared.packet.View.{View}
 use Rattle.layer_mean.specs.Tree.{LayerTree}
 use Rattle.packet_mean.specs.Chained.{IsChained}
-use Rattle.packet_mean.specs.Plan.{Plan, fits, variable_fields}
+use Rattle.packet_mean.specs.Plan.{fits, variable_fields}
+use Rattle.stack_mean.specs.Plan.{Plan}
 
 -- The first byte of a full spelling, of a short one, and the byte that stands for all members in place of a rank.
 abbrev pub full_form : ℕ

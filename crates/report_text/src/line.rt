@@ -2,7 +2,7 @@
 
 ghost use Rattle.std.specs.Prelude.{◌≡◌, ◌++◌, [], IfOk, OnOk};
 ghost use Rattle.std.specs.Fmt.{decimal};
-ghost use Rattle.first_run.specs.Text.{hex_text};
+ghost use Rattle.script_mean.specs.EventText.{hex_text};
 
 use itoa::Buffer;
 use msg_core::Memory;

@@ -18,7 +18,7 @@ use Rattle.run_mean.specs.Common.{with_plans, as_sent, wire}
 use Rattle.run_mean.specs.Lines.{line}
 use Rattle.run_mean.specs.Member.{Output, packet}
 use Rattle.run_mean.specs.Report.{Annex, lines_of_outputs, Moment, moments, lines_of, first_number, end_line}
-use Rattle.run_mean.specs.View.{ids}
+use Rattle.msg_core.specs.View.{ids}
 use Rattle.run_mean.specs.World.{Did, taken, first_world}
 
 -- What a member hears when it asks the network: a datagram, nothing, or that it failed.

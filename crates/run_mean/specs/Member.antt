@@ -23,7 +23,8 @@ use Rattle.packet_mean.specs.Plan.{kind_of}
 use Rattle.stack_mean.specs.Plan.{Plan}
 use Rattle.packet_mean.specs.Received.{received}
 use Rattle.packet_mean.specs.declared.here.Here.{Here}
-use Rattle.run_mean.specs.View.{ids, rank, next_view}
+use Rattle.msg_core.specs.View.{member_count, rank}
+use Rattle.run_mean.specs.View.{next_view}
 
 -- A member is in a view, with the states of its layers, lowest first, or it is out.
 pub data Member : Type 0 where
@@ -33,7 +34,7 @@ pub data Member : Type 0 where
 -- A member of this id that has just come into a view: its layers are fresh. One whose id the view hasn't is out.
 abbrev pub opened : List LayerTree → View → ℕ → Member
 opened stack view id = option_map_or
-    (λ me. inside view (map (λ layer. fresh layer me (length (ids view)) view.ltime) stack)) (rank view id) out
+    (λ me. inside view (map (λ layer. fresh layer me (member_count view) view.ltime) stack)) (rank view id) out
 
 -- What a member may be given: a cast or a send of its application, its wish to leave, a moment of its clock, or a datagram.
 pub data Input : Type 0 where
@@ -119,7 +120,7 @@ packet_to here dest e = record {
 
 -- Whether a rank is that of another member of the view.
 abbrev pub is_other : Here → ℕ → Output → Output
-is_other here peer sent = if nat_lt peer (length (ids here.view)) && not (peer == here.rank) then sent else nowhere
+is_other here peer sent = if nat_lt peer (member_count here.view) && not (peer == here.rank) then sent else nowhere
 
 -- What an event is at the upper edge, and at the lower one.
 abbrev pub above : Kind → Event → Output

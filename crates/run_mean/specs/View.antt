@@ -1,20 +1,9 @@
--- Views: which ids they have, and the view that a member installs (the agreed list of members, as Hayden has it).
-use Rattle.std.specs.Prelude.{ℕ, ◌+◌, ◌^◌, ◌-◌, ◌==◌, if◌then◌else◌, List, Option, Some, None}
-use Rattle.std.specs.List.{filter, position, range_with_len, enumerate_from, sum_by}
+-- The views of a run: the first, and the one that a member installs.
+use Rattle.std.specs.Prelude.{ℕ, ◌+◌, ◌^◌, ◌-◌, ◌==◌, if◌then◌else◌, Option, Some, None}
+use Rattle.std.specs.List.{enumerate_from, sum_by}
 use Rattle.std.specs.Int.{bit_at}
+use Rattle.msg_core.specs.View.{ids}
 use Rattle.msg_core.specs.declared.packet.View.{View}
-
--- The most members of a group; ids are below it.
-abbrev pub most_members : ℕ
-most_members = 32
-
--- The ids of a view, ascending: those whose bits are set in its mask.
-abbrev pub ids : View → List ℕ
-ids view = filter (λ id. bit_at view.mask id == 1) (range_with_len 0 most_members)
-
--- The rank of a member: how many smaller ids its view has.
-abbrev pub rank : View → ℕ → Option ℕ
-rank view id = position (λ other. other == id) (ids view)
 
 -- The first view of a group of so many members: all of them.
 abbrev pub first_view : ℕ → View

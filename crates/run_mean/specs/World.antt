@@ -11,7 +11,8 @@ use Rattle.script_mean.specs.declared.event.ScriptEvent.TheVariants as script
 use Rattle.stack_mean.specs.Plan.{Plan}
 use Rattle.packet_mean.specs.Spelling.{full_bytes}
 use Rattle.packet_mean.specs.declared.here.Here.{Here}
-use Rattle.run_mean.specs.View.{rank, first_view}
+use Rattle.msg_core.specs.View.{rank}
+use Rattle.run_mean.specs.View.{first_view}
 use Rattle.run_mean.specs.Member.{Member, inside, out, opened, Input, cast, send, leave, tick, datagram, Refusal, is_out, Entered, entered, Step, step_from, member_behind, packet_in}
 
 -- A group at a moment: its name and its stamp, its members by id, and every packet ever sent, in the order of output. The first packet
