@@ -5,6 +5,7 @@ pub mod Printed
 pub mod Samples
 pub mod Spelling
 pub mod Spells
+pub mod Stops
 pub mod Tree
 pub mod View
 pub mod WordBytes

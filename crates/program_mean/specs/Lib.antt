@@ -1,0 +1,4 @@
+pub mod Judged
+pub mod Output
+pub mod Second
+pub mod Headline

@@ -1,0 +1,35 @@
+-- Why the second file of a job is refused, or a stack that has too many rows for the job's members.
+use Rattle.std.specs.Prelude.{ℕ, nat_le, nat_lt, List, length, if◌then◌else◌, Option, Some, None, Result, Ok, Err}
+use Rattle.std.specs.List.{list_all}
+use Rattle.layer_mean.specs.Tree.{LayerTree}
+use Rattle.script_mean.specs.NodePlan.{node_plan}
+use Rattle.script_mean.specs.Script.{ScriptFault, no_member, script_of}
+use Rattle.script_mean.specs.declared.plan.NodePlan.{NodePlan}
+use Rattle.script_mean.specs.declared.script.Script.{Script}
+use Rattle.stack_mean.specs.Acceptance.{rows_of}
+use Rattle.job_mean.specs.Job.{Job, check, synth, replay, load, node}
+use Rattle.job_mean.specs.Status.{SecondFault, misspelled, too_many_rows}
+use Rattle.program_mean.specs.Output.{most_rows}
+
+-- The members of a stack have too many rows, in a group of so many.
+abbrev pub crowded : List LayerTree → ℕ → Option SecondFault
+crowded stack members = if nat_le (rows_of stack members) most_rows then None else Some too_many_rows
+
+-- A script is judged before the rows, and so is a plan, behind which come a node's own members.
+abbrev pub after_script : List LayerTree → Result Script ScriptFault → Option SecondFault
+after_script stack (Err fault) = Some (misspelled fault)
+after_script stack (Ok script) = crowded stack script.members
+
+-- A node's own members that the plan hasn't are refused as if its first line named them.
+abbrev pub after_plan : List LayerTree → List ℕ → Result NodePlan ScriptFault → Option SecondFault
+after_plan stack me (Err fault) = Some (misspelled fault)
+after_plan stack me (Ok plan) =
+    if list_all (λ id. nat_lt id (length plan.peers)) me then crowded stack (length plan.peers) else Some (misspelled (no_member 1))
+
+-- Why a job is refused for its second file or its members, whose stack is accepted and whose second file has these bytes.
+abbrev pub second_fault : Job → List LayerTree → List ℕ → Option SecondFault
+second_fault (check file) stack text = None
+second_fault (synth file) stack text = None
+second_fault (replay file script mode wire count) stack text = after_script stack (script_of text)
+second_fault (load file seed events members mode) stack text = crowded stack members
+second_fault (node file plan turns me mode) stack text = after_plan stack me (node_plan text)
