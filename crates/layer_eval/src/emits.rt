@@ -1,6 +1,6 @@
 //! The events that visits send.
 
-ghost use Rattle.std.specs.Prelude.{◌≡◌, ◌↔◌, [], ◌∷◌, ◌++◌, IsTrue, OnErr, OnOk, length};
+ghost use Rattle.std.specs.Prelude.{◌≡◌, [], ◌∷◌, ◌++◌, OnErr, OnOk, length};
 
 use layer_ast::Dir;
 use first_mean::Event;
@@ -40,12 +40,6 @@ impl Emits {
         self.events.len()
     }
 
-    pub fn is_empty(&self) -> bool
-        ensures { IsTrue result ↔ (self.now ≡ []) }
-    {
-        self.events.is_empty()
-    }
-
     pub fn slice(&self) -> &[(Dir, Event)]
         ensures { result.now ≡ self.now }
     {
@@ -65,12 +59,5 @@ impl Emits {
         ensures { self.new ≡ [] }
     {
         self.events.clear();
-    }
-
-    /// The events themselves, in order.
-    pub fn into_vec(self) -> Vec<(Dir, Event)>
-        ensures { result.items ≡ self }
-    {
-        self.events
     }
 }

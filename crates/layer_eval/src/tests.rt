@@ -105,6 +105,15 @@ fn cast(alloc: Global, peer: u32, body: &[u8]) -> Result<Event, Fail> {
     })
 }
 
+/// An event with the same peer and message, of this kind.
+fn same(alloc: Global, event: &Event, kind: Kind) -> Result<Event, Fail> {
+    Ok(Event {
+        kind,
+        peer: event.peer,
+        message: event.message.copy(alloc)?,
+    })
+}
+
 #[test]
 fn a_cast_is_counted_where_it_goes_and_where_it_comes(rt: HostRuntime) -> Result<(), Fail> {
     let alloc = rt.alloc();
@@ -114,14 +123,14 @@ fn a_cast_is_counted_where_it_goes_and_where_it_comes(rt: HostRuntime) -> Result
     let mut out = Emits::none(alloc);
     sender.take(alloc, Dir::Down, cast(alloc, 0, b"no")?, &mut out)?;
     out.clear();
-    assert!(rt; out.is_empty());
+    assert_eq!(rt; out.len(), 0);
     sender.take(alloc, Dir::Down, cast(alloc, 0, b"hi")?, &mut out)?;
     assert_eq!(rt; out.len(), 1);
     assert_eq!(rt; sender.cells().numbers(0), [2].as_slice());
     assert_eq!(rt; sender.cells().numbers(1), [0, 0, 0].as_slice());
-    for (dir, event) in out.into_vec() {
+    for (dir, event) in out.slice() {
         let header = event.message.header(0).ok_or("no header")?;
-        assert_eq!(rt; (dir, event.kind, event.peer), (Dir::Down, Kind::Cast, 0));
+        assert_eq!(rt; (*dir, event.kind, event.peer), (Dir::Down, Kind::Cast, 0));
         assert_eq!(rt;
             (
                 header.layer,
@@ -132,7 +141,7 @@ fn a_cast_is_counted_where_it_goes_and_where_it_comes(rt: HostRuntime) -> Result
             (0, 1, 1, 1)
         );
         let mut given = Emits::none(alloc);
-        receiver.take(alloc, Dir::Up, event, &mut given)?;
+        receiver.take(alloc, Dir::Up, same(alloc, event, event.kind)?, &mut given)?;
         assert_eq!(rt; receiver.cells().numbers(1), [2, 0, 0].as_slice());
         for (dir, event) in given.slice() {
             assert_eq!(rt; (*dir, event.kind, event.peer), (Dir::Up, Kind::Cast, 0));
@@ -154,18 +163,17 @@ fn an_event_without_a_handler_passes_behind_none(rt: HostRuntime) -> Result<(), 
     let mut send = cast(alloc, 1, b"hi")?;
     send.kind = Kind::Send;
     below.take(alloc, Dir::Down, send, &mut out)?;
-    for (dir, event) in out.into_vec() {
+    for (dir, event) in out.slice() {
         let header = event.message.header(0).ok_or("no header")?;
-        assert_eq!(rt; (dir, event.kind, event.peer), (Dir::Down, Kind::Send, 1));
+        assert_eq!(rt; (*dir, event.kind, event.peer), (Dir::Down, Kind::Send, 1));
         assert_eq!(rt; (header.layer, header.tag, header.fields.len()), (4, 0, 0));
-        below.take(alloc, Dir::Up, event, &mut passed)?;
+        below.take(alloc, Dir::Up, same(alloc, event, event.kind)?, &mut passed)?;
     }
     assert_eq!(rt; passed.len(), 1);
     let mut counted = Emits::none(alloc);
     below.take(alloc, Dir::Down, cast(alloc, 0, b"hi")?, &mut counted)?;
-    for (_, mut event) in counted.into_vec() {
-        event.kind = Kind::Send;
-        below.take(alloc, Dir::Up, event, &mut passed)?;
+    for (_, event) in counted.slice() {
+        below.take(alloc, Dir::Up, same(alloc, event, Kind::Send)?, &mut passed)?;
     }
     assert_eq!(rt; passed.len(), 1, "a header that nobody handles is dropped");
     Ok(())

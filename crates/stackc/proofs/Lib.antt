@@ -1,3 +1,4 @@
 pub mod Gaining
 pub mod Stories
 pub mod Held
+pub mod Complete

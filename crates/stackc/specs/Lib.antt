@@ -5,5 +5,7 @@ pub mod Meaning
 pub mod Fetched
 pub mod File
 pub mod Ended
+pub mod Complete
+pub mod Sample
 pub mod Run
 pub mod Words

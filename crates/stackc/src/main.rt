@@ -7,6 +7,7 @@ mod job;
 mod play;
 mod replay;
 mod run;
+mod sample;
 #[cfg(test)]
 mod tests;
 
@@ -14,6 +15,7 @@ pub use fault::Fault;
 use outside::{FileShelf, StdSink};
 pub use run::run;
 use run::say;
+pub use sample::sample_is_good;
 use std::process::ExitCode;
 use std::{env, io};
 

@@ -3,6 +3,7 @@
 ghost use Rattle.std.specs.Prelude.{◌≡◌, map};
 ghost use Rattle.std.specs.String.{string_bytes};
 ghost use Rattle.stackc.specs.Job.{job};
+ghost use Rattle.stackc.specs.Complete.{Completes};
 ghost use Rattle.stackc.specs.Ended as ended;
 ghost use Rattle.stackc.specs.Run.{around, errors};
 
@@ -16,7 +17,8 @@ use std::alloc::Global;
 ///
 /// With status 0 `out` gained the report of the definitions, byte for byte; 1, 2 and 3 come exactly
 /// where the file, the words or the script are refused, 4 and 5 only where the shelf or `out` counted a
-/// fault in this call, and 7 where memory ran out.
+/// fault in this call, and 7 where memory ran out. A job that is good by what the shelf tells, on which
+/// no put of `out` failed, ends with 0 or 7.
 pub fn run<S: Shelf, O: Sink, E: Sink>(
     alloc: Global,
     words: &[String],
@@ -24,10 +26,13 @@ pub fn run<S: Shelf, O: Sink, E: Sink>(
     out: &mut O,
     err: &mut E,
 ) -> u8
-    ensures { ended.Replayed (job (map string_bytes words.now))
+    ensures replayed { ended.Replayed (job (map string_bytes words.now))
         (around (S.told shelf.old) (S.faults shelf.old) (S.faults shelf.new)
         (O.contents out.old) (O.contents out.new) (O.faults out.old) (O.faults out.new))
         (errors (E.contents err.old) (E.contents err.new) (E.faults err.old) (E.faults err.new) result) }
+    ensures complete { Completes (job (map string_bytes words.now))
+        (around (S.told shelf.old) (S.faults shelf.old) (S.faults shelf.new)
+        (O.contents out.old) (O.contents out.new) (O.faults out.old) (O.faults out.new)) result }
 {
     match replay(alloc, words, shelf, out) {
         Ok(()) => 0,
