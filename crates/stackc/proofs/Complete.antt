@@ -3,11 +3,11 @@ use Rattle.std.proofs.Common.{◌≡◌, ℕ, ◌<◌, ◌≤◌, List, length, 
 use Rattle.std.specs.Prelude.{Some, None, Ok, Err, IfSome, IsSomeAnd}
 use Rattle.std.specs.Option.{option_map}
 use Rattle.outside.specs.Shelf.{Shelved, found_in, after_read}
-use Rattle.layer_mean.specs.Tree.{LayerTree}
+use Rattle.first_mean.specs.Tree.{LayerTree}
 use Rattle.layer_laws.proofs.Once.{spelled_once}
 use Rattle.layer_resolve.specs.Stack.{stack_of}
 use Rattle.script_mean.specs.declared.script.Script.{Script}
-use Rattle.run_mean.specs.Report.{report}
+use Rattle.first_run.specs.Report.{report}
 use Rattle.stackc.specs.Job.{Replay}
 use Rattle.stackc.specs.Wrote.{Gains}
 use Rattle.stackc.specs.File.{Means, IsTooLarge, IsNoStack, IsStack, most_file}

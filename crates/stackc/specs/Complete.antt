@@ -2,9 +2,9 @@
 use Rattle.std.specs.Prelude.{◌≡◌, ℕ, ◌≤◌, ◌⊎◌, List, length, Option, Some, Ok}
 use Rattle.outside.specs.Shelf.{Shelved, found_in, after_read}
 use Rattle.outside.specs.Count.{Rose}
-use Rattle.layer_mean.specs.Tree.{LayerTree}
+use Rattle.first_mean.specs.Tree.{LayerTree}
 use Rattle.script_mean.specs.declared.script.Script.{Script}
-use Rattle.run_mean.specs.Report.{report}
+use Rattle.first_run.specs.Report.{report}
 use Rattle.stackc.specs.Job.{Replay}
 use Rattle.stackc.specs.Wrote.{Gains}
 use Rattle.stackc.specs.File.{Means, most_file}
