@@ -34,8 +34,8 @@ abbrev mutual
       placed (function_sign function) at ∷ plain sign.LeftParen ∷ expression operand (plain sign.RightParen ∷ k)
   expression (tree.pick at condition first second) k =
       placed sign.Pick at ∷ plain sign.LeftParen
-      ∷ expression condition (
-      plain sign.Comma ∷ expression first (plain sign.Comma ∷ expression second (plain sign.RightParen ∷ k)))
+      ∷ expression condition (plain sign.Comma
+      ∷ expression first (plain sign.Comma ∷ expression second (plain sign.RightParen ∷ k)))
 
   -- the tokens of a queue
   pub queue : QueueTree → List Printed → List Printed
@@ -126,40 +126,30 @@ abbrev mutual
       placed sign.Set at ∷ name n ∷ index i (plain sign.Assign ∷ expression value (plain sign.Semicolon ∷ k))
   statement (tree.set_square at n i j value) k =
       placed sign.Set at ∷ name n ∷ plain sign.LeftBracket
-      ∷ expression i (
-      plain sign.RightBracket ∷ plain sign.LeftBracket
+      ∷ expression i (plain sign.RightBracket ∷ plain sign.LeftBracket
       ∷ expression j (plain sign.RightBracket ∷ plain sign.Assign ∷ expression value (plain sign.Semicolon ∷ k)))
   statement (tree.push at q items otherwise) k =
       placed sign.Push at
-      ∷ queue q (
-      plain sign.LeftParen
-      ∷ arguments items (
-      plain sign.RightParen ∷ plain sign.Else ∷ plain sign.LeftBrace
+      ∷ queue q (plain sign.LeftParen
+      ∷ arguments items (plain sign.RightParen ∷ plain sign.Else ∷ plain sign.LeftBrace
       ∷ statements otherwise (plain sign.RightBrace ∷ k)))
   statement (tree.take at q ns first otherwise) k =
       placed sign.Take at
-      ∷ queue q (
-      plain sign.LeftParen
-      ∷ names ns (
-      plain sign.RightParen ∷ plain sign.LeftBrace
-      ∷ statements first (
-      plain sign.RightBrace ∷ plain sign.Else ∷ plain sign.LeftBrace
+      ∷ queue q (plain sign.LeftParen
+      ∷ names ns (plain sign.RightParen ∷ plain sign.LeftBrace
+      ∷ statements first (plain sign.RightBrace ∷ plain sign.Else ∷ plain sign.LeftBrace
       ∷ statements otherwise (plain sign.RightBrace ∷ k))))
   statement (tree.when at l condition first) k =
       placed sign.If at
       ∷ likely l (expression condition (plain sign.LeftBrace ∷ statements first (plain sign.RightBrace ∷ k)))
   statement (tree.choose at l condition first otherwise) k =
       placed sign.If at
-      ∷ likely l (
-      expression condition (
-      plain sign.LeftBrace
-      ∷ statements first (
-      plain sign.RightBrace ∷ plain sign.Else ∷ plain sign.LeftBrace
+      ∷ likely l (expression condition (plain sign.LeftBrace
+      ∷ statements first (plain sign.RightBrace ∷ plain sign.Else ∷ plain sign.LeftBrace
       ∷ statements otherwise (plain sign.RightBrace ∷ k))))
   statement (tree.each at n below most body) k =
       placed sign.Each at ∷ name n ∷ plain sign.Below
-      ∷ expression below (
-      plain sign.Max ∷ size most ∷ plain sign.LeftBrace ∷ statements body (plain sign.RightBrace ∷ k))
+      ∷ expression below (plain sign.Max ∷ size most ∷ plain sign.LeftBrace ∷ statements body (plain sign.RightBrace ∷ k))
   statement (tree.emit at direction what es p) k =
       placed (direction_sign direction) at ∷ kind what ∷ plain sign.LeftParen
       ∷ arguments es (plain sign.RightParen ∷ pushed p (plain sign.Semicolon ∷ k))

@@ -18,7 +18,8 @@ use Rattle.layer_ast.specs.Cut.{cut}
 use Rattle.layer_ast.specs.Print.{file}
 use Rattle.layer_ast.specs.Printed.{marks}
 use Rattle.layer_ast.specs.Spells.{Spells}
-use Rattle.layer_ast.specs.Tree.{number, me, members, named, item, rows, size, binary, apply, queue, bare, held, value, content, fixed, sized, bind, set_square, push, take, when, choose, each, emit, none, more, always, common, HandlerTree, param, int, rows_cell, header, FileTree}
+use Rattle.layer_ast.specs.Tree.{ExpressionTree, NamesTree, ArgumentsTree, StatementTree, number, me, members, named, item, rows, size, binary, apply, queue, bare, held, value, content, fixed, sized, bind, set_square, push, take, when, choose, each, emit, none, always, common, HandlerTree, param, int, rows_cell, header, FileTree}
+use Rattle.layer_ast.specs.View.{trees}
 
 -- a token at a line and a column
 abbrev pub token_at : Token → ℕ → ℕ → Lexed
@@ -89,6 +90,42 @@ sample_text =
     ++ codes "}\n"
     ++ codes "stack { a(keep = 8); a; }\n"
 
+-- a name alone
+abbrev pub one_name : Name → NamesTree
+one_name n = record { first = n; rest = [] }
+
+-- an argument alone, which is a number or a bare name
+abbrev pub one_value : ExpressionTree → ArgumentsTree
+one_value e = record { first = value e; rest = [] }
+
+-- its push, with what is done where there is no room
+abbrev pub sample_push : StatementTree
+sample_push =
+    push (at 7 5) (queue (name_at (codes "q") 7 10)) (one_value (named (name_at (codes "m") 7 13)))
+    (trees (take (at 7 23) (queue (name_at (codes "q") 7 28)) (one_name (name_at (codes "old") 7 31))
+    (trees (push (at 7 38) (queue (name_at (codes "q") 7 43)) (one_value (named (name_at (codes "m") 7 46))) none ∷ []))
+    none ∷ []))
+
+-- its rare condition, with a loop inside
+abbrev pub sample_loop : StatementTree
+sample_loop =
+    when (at 8 5) Else (binary (at 8 13) (rows (at 8 14) (queue (name_at (codes "q") 8 18))) Greater (number (at 8 23) 2))
+    (trees (each (at 8 28) (name_at (codes "i") 8 33) (members (at 8 41)) (fixed (at 8 47) 4)
+    (trees (set_square (at 8 51) (name_at (codes "sum") 8 55) (named (name_at (codes "i") 8 59)) (me (at 8 62))
+    (item (at 8 68) (queue (name_at (codes "q") 8 71)) (named (name_at (codes "i") 8 74)) (name_at (codes "m") 8 77)) ∷ []))
+    ∷ []))
+
+-- its emission on the way down, with a header
+abbrev pub sample_send : StatementTree
+sample_send =
+    emit (at 9 5) Down kind.Send record {
+      first = value (named (name_at (codes "p") 9 15));
+      rest = content (held (at 9 18) (queue (name_at (codes "q") 9 23)) (number (at 9 26) 0)) ∷ [];
+    } (Some record {
+      name = name_at (codes "num") 9 35;
+      fields = Some (one_value (size (at 9 39) (bare (name_at (codes "m") 9 44))));
+    })
+
 -- its handler of casts on their way down
 abbrev pub sample_down : HandlerTree
 sample_down =
@@ -99,33 +136,18 @@ sample_down =
       names = record { first = name_at (codes "p") 6 13; rest = name_at (codes "m") 6 16 ∷ [] };
       popped = None;
       expected = always;
-      block =
-          more (
-          push (at 7 5) (queue (name_at (codes "q") 7 10)) record { first = value (named (name_at (codes "m") 7 13)); rest = [] } (
-          more (
-          take (at 7 23) (queue (name_at (codes "q") 7 28)) record { first = name_at (codes "old") 7 31; rest = [] } (
-          more (push (at 7 38) (queue (name_at (codes "q") 7 43)) record { first = value (named (name_at (codes "m") 7 46)); rest = [] } none) none)
-          none)
-          none))
-          (more (
-          when (at 8 5) Else (binary (at 8 13) (rows (at 8 14) (queue (name_at (codes "q") 8 18))) Greater (number (at 8 23) 2)) (
-          more (
-          each (at 8 28) (name_at (codes "i") 8 33) (members (at 8 41)) (fixed (at 8 47) 4) (
-          more (
-          set_square (at 8 51) (name_at (codes "sum") 8 55) (named (name_at (codes "i") 8 59)) (me (at 8 62))
-          (item (at 8 68) (queue (name_at (codes "q") 8 71)) (named (name_at (codes "i") 8 74)) (name_at (codes "m") 8 77)))
-          none))
-          none))
-          (more (
-          emit (at 9 5) Down kind.Send record {
-            first = value (named (name_at (codes "p") 9 15));
-            rest = content (held (at 9 18) (queue (name_at (codes "q") 9 23)) (number (at 9 26) 0)) ∷ [];
-          } (Some record {
-            name = name_at (codes "num") 9 35;
-            fields = Some record { first = value (size (at 9 39) (bare (name_at (codes "m") 9 44))); rest = [] };
-          }))
-          none));
+      block = trees (sample_push ∷ sample_loop ∷ sample_send ∷ []);
     }
+
+-- its condition with two ways
+abbrev pub sample_choice : StatementTree
+sample_choice =
+    choose (at 11 47) First (named (name_at (codes "v") 11 50))
+    (trees (emit (at 11 54) Up kind.Cast record {
+      first = value (named (name_at (codes "o") 11 62));
+      rest = value (named (name_at (codes "m") 11 65)) ∷ [];
+    } None ∷ []))
+    (trees (bind (at 11 78) (name_at (codes "x") 11 82) (apply (at 11 86) Not (named (name_at (codes "v") 11 90))) ∷ []))
 
 -- its handler of casts on their way up
 abbrev pub sample_up : HandlerTree
@@ -135,19 +157,9 @@ sample_up =
       direction = Up;
       kind = kind.Cast;
       names = record { first = name_at (codes "o") 11 11; rest = name_at (codes "m") 11 14 ∷ [] };
-      popped = Some record { name = name_at (codes "num") 11 22; fields = Some record { first = name_at (codes "v") 11 26; rest = [] } };
+      popped = Some record { name = name_at (codes "num") 11 22; fields = Some (one_name (name_at (codes "v") 11 26)) };
       expected = common (binary (at 11 36) (named (name_at (codes "v") 11 37)) Equal (number (at 11 42) 1));
-      block =
-          more (
-          choose (at 11 47) First (named (name_at (codes "v") 11 50)) (
-          more (
-          emit (at 11 54) Up kind.Cast record {
-            first = value (named (name_at (codes "o") 11 62));
-            rest = value (named (name_at (codes "m") 11 65)) ∷ [];
-          } None)
-          none)
-          (more (bind (at 11 78) (name_at (codes "x") 11 82) (apply (at 11 86) Not (named (name_at (codes "v") 11 90)))) none))
-          none;
+      block = trees (sample_choice ∷ []);
     }
 
 -- the file that it spells
@@ -164,8 +176,9 @@ sample_file =
                   first = record { name = name_at (codes "m") 3 27; sort = Msg };
                   rest = [];
                 }
-                ∷ int (at 4 3) (name_at (codes "sum") 4 13) Square (Some (binary (at 4 24) (me (at 4 25)) Add (number (at 4 30) 1)))
-                ∷ header (at 5 3) (name_at (codes "num") 5 10) (Some record { first = name_at (codes "v") 5 14; rest = [] }) Passes
+                ∷ int (at 4 3) (name_at (codes "sum") 4 13) Square (Some (binary (at 4 24) (me (at 4 25)) Add
+                (number (at 4 30) 1)))
+                ∷ header (at 5 3) (name_at (codes "num") 5 10) (Some (one_name (name_at (codes "v") 5 14))) Passes
                 ∷ [];
             handlers = sample_down ∷ sample_up ∷ [];
           }
