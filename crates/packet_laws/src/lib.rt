@@ -1,0 +1,35 @@
+//! Laws of the spellings of packets, each the contract of a function that does nothing.
+#![tactic(auto)]
+
+ghost use Rattle.packet_laws.specs.Once.{OneFullSpelling, OneShortSpelling, SpelledOnce};
+ghost use Rattle.packet_laws.specs.Strays.{ReceivedAsMeant, StrayOrSpelled, TakenAsSpelled};
+
+/// Bytes spell at most one packet.
+pub fn spelled_once()
+    ensures { SpelledOnce }
+{}
+
+/// A packet has one full spelling.
+pub fn one_full_spelling()
+    ensures { OneFullSpelling }
+{}
+
+/// A packet has one short spelling under each plan that it fits.
+pub fn one_short_spelling()
+    ensures { OneShortSpelling }
+{}
+
+/// The form in which a packet came plays no part in what a member makes of it.
+pub fn received_as_meant()
+    ensures { ReceivedAsMeant }
+{}
+
+/// A member takes bytes as a packet exactly where they spell it and it is for the member.
+pub fn taken_as_spelled()
+    ensures { TakenAsSpelled }
+{}
+
+/// Bytes aren't stray exactly where they spell a packet that is for the member.
+pub fn stray_or_spelled()
+    ensures { StrayOrSpelled }
+{}
