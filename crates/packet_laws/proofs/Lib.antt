@@ -6,3 +6,4 @@ pub mod Planned
 pub mod Whole
 pub mod Once
 pub mod Strays
+pub mod Lengths

@@ -119,7 +119,7 @@ whole_read (Some (y, [])) x is = ap (λ z. Some (z, [])) (same_read is)
 whole_read (Some (y, n ∷ ns)) x is = absurd (cc is)
 whole_read None x is = absurd (cc is)
 
-each_at : {A : Type 0} (P : A → Type 0) (xs : List A) (k : ℕ) (x : A) → Each P xs → slice_get xs k ≡ Some x → P x
+pub each_at : {A : Type 0} (P : A → Type 0) (xs : List A) (k : ℕ) (x : A) → Each P xs → slice_get xs k ≡ Some x → P x
 each_at P [] k x h is = absurd (cc is)
 each_at P (y ∷ ys) zero x h is = subst P (same_read is) h.0
 each_at P (y ∷ ys) (suc k) x h is = each_at P ys k x h.1 is

@@ -1,6 +1,7 @@
 //! Laws of the spellings of packets, each the contract of a function that does nothing.
 #![tactic(auto)]
 
+ghost use Rattle.packet_laws.specs.Lengths.{DatagramsFit, PreambleIs19};
 ghost use Rattle.packet_laws.specs.Once.{OneFullSpelling, OneShortSpelling, SpelledOnce};
 ghost use Rattle.packet_laws.specs.Strays.{ReceivedAsMeant, StrayOrSpelled, TakenAsSpelled};
 
@@ -32,4 +33,14 @@ pub fn taken_as_spelled()
 /// Bytes aren't stray exactly where they spell a packet that is for the member.
 pub fn stray_or_spelled()
     ensures { StrayOrSpelled }
+{}
+
+/// A preamble is missing exactly where there are fewer than 19 bytes.
+pub fn preamble_is_19()
+    ensures { PreambleIs19 }
+{}
+
+/// Datagrams of a stack within the limits are at most 8,619 bytes.
+pub fn datagrams_fit()
+    ensures { DatagramsFit }
 {}
