@@ -7,3 +7,4 @@ pub mod Whole
 pub mod Once
 pub mod Strays
 pub mod Lengths
+pub mod Grown

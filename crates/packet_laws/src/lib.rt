@@ -1,6 +1,7 @@
-//! Laws of the spellings of packets, each the contract of a function that does nothing.
+//! Laws of packets and their spellings, each the contract of a function that does nothing.
 #![tactic(auto)]
 
+ghost use Rattle.packet_laws.specs.Chains.{NoneAboveTheTop, PoppedGoesOn, PushedIsChained};
 ghost use Rattle.packet_laws.specs.Lengths.{DatagramsFit, PreambleIs19};
 ghost use Rattle.packet_laws.specs.Once.{OneFullSpelling, OneShortSpelling, SpelledOnce};
 ghost use Rattle.packet_laws.specs.Strays.{ReceivedAsMeant, StrayOrSpelled, TakenAsSpelled};
@@ -43,4 +44,19 @@ pub fn preamble_is_19()
 /// Datagrams of a stack within the limits are at most 8,619 bytes.
 pub fn datagrams_fit()
     ensures { DatagramsFit }
+{}
+
+/// A message with a header of a place pushed on it is chained from there.
+pub fn pushed_is_chained()
+    ensures { PushedIsChained }
+{}
+
+/// A message that is chained from a place has a header of that place, and goes on behind it.
+pub fn popped_goes_on()
+    ensures { PoppedGoesOn }
+{}
+
+/// Above the top place a chained message has no headers.
+pub fn none_above_the_top()
+    ensures { NoneAboveTheTop }
 {}
