@@ -7,7 +7,8 @@ use Rattle.msg_core.specs.declared.message.Header.{Header}
 use Rattle.msg_core.specs.declared.packet.Packet.{Packet}
 use Rattle.layer_mean.specs.Tree.{HeaderTree, LayerTree}
 use Rattle.packet_mean.specs.Chained.{header_none, declared, IsChain}
-use Rattle.packet_mean.specs.Plan.{Plan, variable, variable_fields}
+use Rattle.packet_mean.specs.Plan.{variable, variable_fields}
+use Rattle.stack_mean.specs.Plan.{Plan}
 use Rattle.packet_mean.specs.Reading.{Reader, ◌>>=◌, given, byte, number, preamble}
 use Rattle.packet_mean.specs.Spelling.{number_bytes, full_bytes, short_bytes, SpellsShort}
 use Rattle.packet_laws.specs.Lengths.{PreambleIs19, DatagramsFit}

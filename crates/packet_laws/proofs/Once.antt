@@ -3,7 +3,7 @@ use Rattle.std.proofs.Common.{◌≡◌, ℕ, ◌⊎◌, inl, inr, List, Option,
 use Rattle.std.specs.Prelude.{slice_get, option_and_then}
 use Rattle.msg_core.specs.declared.packet.Packet.{Packet}
 use Rattle.layer_mean.specs.Tree.{LayerTree}
-use Rattle.packet_mean.specs.Plan.{Plan}
+use Rattle.stack_mean.specs.Plan.{Plan}
 use Rattle.packet_mean.specs.Reading.{preamble, named_plan, headers}
 use Rattle.packet_mean.specs.Received.{packet_of}
 use Rattle.packet_mean.specs.Spelling.{full_form, short_form, full_bytes, short_bytes, SpellsShort}

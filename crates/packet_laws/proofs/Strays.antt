@@ -9,9 +9,10 @@ use Rattle.msg_core.specs.declared.packet.Stray.{Stray}
 use Rattle.msg_core.specs.declared.packet.Stray.TheVariants as cause
 use Rattle.msg_core.specs.declared.packet.View.{View}
 use Rattle.layer_mean.specs.Tree.{LayerTree}
-use Rattle.packet_mean.specs.Plan.{Plan}
+use Rattle.stack_mean.specs.Plan.{Plan}
 use Rattle.packet_mean.specs.Reading.{preamble_of, preamble, named_plan, headers}
-use Rattle.packet_mean.specs.Received.{◌>>=◌, unless, member_count, same_view, is_for, meant_for, packet_of, received, IsFor}
+use Rattle.msg_core.specs.View.{member_count}
+use Rattle.packet_mean.specs.Received.{◌>>=◌, unless, same_view, is_for, meant_for, packet_of, received, IsFor}
 use Rattle.packet_mean.specs.Spelling.{full_form, short_form, AreBytes, SpellsPacket}
 use Rattle.packet_mean.specs.declared.here.Here.{Here}
 use Rattle.packet_laws.specs.Strays.{AreNumbered, ReceivedAsMeant, TakenAsSpelled, StrayOrSpelled}

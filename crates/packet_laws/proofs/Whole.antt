@@ -11,7 +11,8 @@ use Rattle.msg_core.specs.declared.packet.Packet.{Packet}
 use Rattle.layer_ast.specs.contracts.tokens.Kind as kind_row
 use Rattle.layer_mean.specs.Tree.{LayerTree}
 use Rattle.packet_mean.specs.Chained.{IsChain}
-use Rattle.packet_mean.specs.Plan.{Plan, kind_of, agree, variable, variable_fields, fits}
+use Rattle.packet_mean.specs.Plan.{kind_of, agree, variable, variable_fields, fits}
+use Rattle.stack_mean.specs.Plan.{Plan}
 use Rattle.packet_mean.specs.Reading as reading
 use Rattle.packet_mean.specs.Reading.{Preamble, preamble_of, byte, given, known, plan_for, named_plan, planned, dealt, whole, headers}
 use Rattle.packet_mean.specs.Received.{packet_of}

@@ -2,7 +2,8 @@
 use Rattle.std.specs.Prelude.{◌≡◌, ℕ, ◌<◌, true, List, slice_get, Some}
 use Rattle.msg_core.specs.declared.packet.Packet.{Packet}
 use Rattle.layer_mean.specs.Tree.{LayerTree}
-use Rattle.packet_mean.specs.Plan.{Plan, fits}
+use Rattle.packet_mean.specs.Plan.{fits}
+use Rattle.stack_mean.specs.Plan.{Plan}
 use Rattle.packet_mean.specs.Spelling.{full_form, short_form, full_bytes, short_bytes, IsSpellable, SpellsPacket}
 
 -- Bytes spell at most one packet.

@@ -2,7 +2,7 @@
 use Rattle.std.specs.Prelude.{◌≡◌, ℕ, ◌<◌, ◌^◌, ◌↔◌, All, IfSome, List, None, Some, Ok}
 use Rattle.msg_core.specs.declared.packet.Packet.{Packet}
 use Rattle.layer_mean.specs.Tree.{LayerTree}
-use Rattle.packet_mean.specs.Plan.{Plan}
+use Rattle.stack_mean.specs.Plan.{Plan}
 use Rattle.packet_mean.specs.Reading.{preamble_of}
 use Rattle.packet_mean.specs.Received.{◌>>=◌, meant_for, received, stray, packet_spelled, IsFor}
 use Rattle.packet_mean.specs.Spelling.{full_form, AreBytes, SpellsPacket}
