@@ -1,5 +1,6 @@
 pub mod Declared
 pub mod Earliest
+pub mod EarliestOf
 pub mod ExpressionFaults
 pub mod Faults
 pub mod FileFault
