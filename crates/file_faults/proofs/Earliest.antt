@@ -1,13 +1,14 @@
 -- The earlier of faults, in any order of taking two.
-use Rattle.std.proofs.Common.{◌≡◌, ℕ, Bool, true, false, List, [], ◌∷◌, ◌++◌, Some, refl, sym, ap, ◌∙◌, fold, append-nil}
+use Rattle.std.proofs.Common.{◌≡◌, ℕ, zero, suc, ◌<◌, length, arith, Contains, slice_index_or, subst, Bool, true, false, List, [], ◌∷◌, Some, refl, sym, ap, ◌∙◌, fold, append-nil}
 use Rattle.std.specs.Cmp.{IsTotalOrder}
+use Rattle.std.specs.List.{AllByRecursion}
 use Rattle.std.specs.Cmp.Lexicographic.{slice_cmp, nat_list_cmp_total}
 use Rattle.std.specs.declared.cmp.Ordering.{Ordering}
 use Rattle.std.specs.Ordering.{is_lt, nat_cmp, ordering_reverse}
 use Rattle.std.specs.declared.cmp.Ordering.TheVariants.{Less, Equal, Greater}
 use Rattle.std.proofs.lemmas.List.Sums.{fold-append}
-use Rattle.file_faults.specs.Earliest.{earlier_of, earlier, earliest}
-use Rattle.file_faults.specs.EarliestOf.{IsByParts}
+use Rattle.file_faults.specs.Earliest.{earlier_of, earliest, precedes}
+use Rattle.file_faults.specs.EarliestOf.{IsByParts, IsFirst, IsThere}
 
 -- what is less than one that isn't greater than another is less than the other
 less-through : {K : Type 0} {C : K → K → Ordering} → IsTotalOrder C → (f g h : K) → C h f ≡ Less → is_lt (C g f) ≡ false → C h g ≡ Less
@@ -58,3 +59,72 @@ module _ {F : Type 0} (key : F → List ℕ) where
   by_parts (x ∷ xs) [] = ap (earliest key) (append-nil (x ∷ xs))
   by_parts (x ∷ xs) (y ∷ ys) =
       ap Some (fold-append (earlier_of key) x xs (y ∷ ys) ∙ from_first (fold (earlier_of key) x xs) y ys)
+
+contains-behind : {X : Type 0} (x : X) (xs : List X) (v : X) → Contains xs v → Contains (x ∷ xs) v
+contains-behind x xs v c = (suc c.0, omega (arith, c.1), c.2)
+
+contains-between : {X : Type 0} (x y : X) (ys : List X) (v : X) → Contains (x ∷ ys) v → Contains (x ∷ y ∷ ys) v
+contains-between {X} x y ys v c = by c.0 c.1 c.2
+  where
+    by : (k : ℕ) → k < length (x ∷ ys) → slice_index_or (x ∷ ys) k v ≡ v → Contains (x ∷ y ∷ ys) v
+    by zero lt e = (0, omega arith, e)
+    by (suc k) lt e = (suc (suc k), omega (arith, lt), e)
+
+module _ {F : Type 0} (key : F → List ℕ) where
+  -- a fault isn't before itself
+  not-itself : (f : F) → precedes key f f ≡ false
+  not-itself f = by (slice_cmp nat_cmp (key f) (key f)) (nat_list_cmp_total.antisymm (key f) (key f))
+    where
+      by : (r : Ordering) → r ≡ ordering_reverse r → is_lt r ≡ false
+      by Less e = absurd (cc)
+      by Equal e = refl
+      by Greater e = refl
+
+  -- none of two comes before the earlier one
+  not-first : (x y : F) → (precedes key x (earlier_of key x y) ≡ false) × (precedes key y (earlier_of key x y) ≡ false)
+  not-first x y = by (precedes key y x) refl
+    where
+      by : (b : Bool) → precedes key y x ≡ b →
+          (precedes key x (earlier_of key x y) ≡ false) × (precedes key y (earlier_of key x y) ≡ false)
+      by true e = rw e (asymmetric (slice_cmp nat_cmp (key x) (key y)) refl e, not-itself y)
+        where
+          asymmetric : (r : Ordering) → slice_cmp nat_cmp (key x) (key y) ≡ r → precedes key y x ≡ true → is_lt r ≡ false
+          asymmetric Less d t =
+              let less : slice_cmp nat_cmp (key x) (key x) ≡ Less = nat_list_cmp_total.trans (key x) (key y) (key x) d (is_lt-Less _ t) in
+              let no = not-itself x in
+              absurd (cc)
+          asymmetric Equal d t = refl
+          asymmetric Greater d t = refl
+      by false e = rw e (not-itself x, e)
+
+  -- the least of a list that begins with x
+  least : (x : F) (ys : List F) → AllByRecursion (λ g. precedes key g (fold (earlier_of key) x ys) ≡ false) (x ∷ ys)
+  least x [] = (not-itself x, tt)
+  least x (y ∷ ys) =
+      let ih = least (earlier_of key x y) ys in
+      let r = fold (earlier_of key) (earlier_of key x y) ys in
+      let two = not-first x y in (
+        not-through nat_list_cmp_total (key r) (key (earlier_of key x y)) (key x) ih.0 two.0,
+        (not-through nat_list_cmp_total (key r) (key (earlier_of key x y)) (key y) ih.0 two.1, ih.1),
+      )
+
+  among : (x : F) (ys : List F) → Contains (x ∷ ys) (fold (earlier_of key) x ys)
+  among x [] = (0, omega arith, refl)
+  among x (y ∷ ys) = by (precedes key y x) refl (among y ys) (among x ys)
+    where
+      by : (b : Bool) → precedes key y x ≡ b → Contains (y ∷ ys) (fold (earlier_of key) y ys) →
+          Contains (x ∷ ys) (fold (earlier_of key) x ys) → Contains (x ∷ y ∷ ys) (fold (earlier_of key) x (y ∷ ys))
+      by true e second one = rw e (contains-behind x (y ∷ ys) (fold (earlier_of key) y ys) second)
+      by false e second one = rw e (contains-between x y ys (fold (earlier_of key) x ys) one)
+
+  pub first : IsFirst key
+  first [] f e = absurd (cc)
+  first (x ∷ xs) f e =
+      let same : fold (earlier_of key) x xs ≡ f = cc in (
+        subst (λ v. Contains (x ∷ xs) v) same (among x xs),
+        subst (λ v. AllByRecursion (λ g. precedes key g v ≡ false) (x ∷ xs)) same (least x xs),
+      )
+
+  pub there : IsThere key
+  there [] e = refl
+  there (x ∷ xs) e = absurd (cc)

@@ -9,9 +9,13 @@ use Rattle.layer_ast.specs.declared.names.At.{At}
 abbrev pub key_at : At → ℕ → List ℕ
 key_at at rank = at.line ∷ at.col ∷ rank ∷ []
 
--- The one of two faults that has the lesser key; the first of two with the same.
+-- Whether a fault comes before another: its key is less.
+abbrev pub precedes : {F : Type 0} → (F → List ℕ) → F → F → Bool
+precedes key f g = is_lt (slice_cmp nat_cmp (key f) (key g))
+
+-- The one of two faults that comes before the other; the first, if neither does.
 abbrev pub earlier_of : {F : Type 0} → (F → List ℕ) → F → F → F
-earlier_of key f g = if is_lt (slice_cmp nat_cmp (key g) (key f)) then g else f
+earlier_of key f g = if precedes key g f then g else f
 
 -- The fault with the least key: the first, if there are several.
 abbrev pub earliest : {F : Type 0} → (F → List ℕ) → List F → Option F
