@@ -17,6 +17,7 @@ pub mod Samples
 pub mod SamplesVisible
 pub mod SamplesTwice
 pub mod SamplesLimits
+pub mod SamplesHandlers
 pub mod SamplesKinds
 pub mod SamplesCounts
 pub mod SamplesEmissions
