@@ -1,5 +1,5 @@
 -- The earlier of faults, in any order of taking two.
-use Rattle.std.proofs.Common.{◌≡◌, ℕ, zero, suc, ◌<◌, length, arith, Contains, slice_index_or, subst, Bool, true, false, List, [], ◌∷◌, Some, refl, sym, ap, ◌∙◌, fold, append-nil}
+use Rattle.std.proofs.Common.{◌≡◌, ℕ, zero, suc, ◌<◌, length, arith, Contains, slice_index_or, subst, Bool, true, false, List, [], ◌∷◌, ◌++◌, Option, Some, None, refl, sym, ap, ◌∙◌, fold, append-nil}
 use Rattle.std.specs.Cmp.{IsTotalOrder}
 use Rattle.std.specs.List.{AllByRecursion}
 use Rattle.std.specs.Cmp.Lexicographic.{slice_cmp, nat_list_cmp_total}
@@ -7,8 +7,8 @@ use Rattle.std.specs.declared.cmp.Ordering.{Ordering}
 use Rattle.std.specs.Ordering.{is_lt, nat_cmp, ordering_reverse}
 use Rattle.std.specs.declared.cmp.Ordering.TheVariants.{Less, Equal, Greater}
 use Rattle.std.proofs.lemmas.List.Sums.{fold-append}
-use Rattle.file_faults.specs.Earliest.{earlier_of, earliest, precedes}
-use Rattle.file_faults.specs.EarliestOf.{IsByParts, IsFirst, IsThere}
+use Rattle.file_faults.specs.Earliest.{earlier, earlier_of, earliest, precedes}
+use Rattle.file_faults.specs.EarliestOf.{IsFirst, IsInOrder, IsThere}
 
 -- what is less than one that isn't greater than another is less than the other
 less-through : {K : Type 0} {C : K → K → Ordering} → IsTotalOrder C → (f g h : K) → C h f ≡ Less → is_lt (C g f) ≡ false → C h g ≡ Less
@@ -54,11 +54,22 @@ module _ {F : Type 0} (key : F → List ℕ) where
   from_first f x (y ∷ ys) =
       ap (λ z. fold (earlier_of key) z ys) (regroup f x y) ∙ from_first f (earlier_of key x y) ys
 
-  pub by_parts : IsByParts key
+  by_parts : (xs ys : List F) → earliest key (xs ++ ys) ≡ earlier key (earliest key xs) (earliest key ys)
   by_parts [] ys = refl
   by_parts (x ∷ xs) [] = ap (earliest key) (append-nil (x ∷ xs))
   by_parts (x ∷ xs) (y ∷ ys) =
       ap Some (fold-append (earlier_of key) x xs (y ∷ ys) ∙ from_first (fold (earlier_of key) x xs) y ys)
+
+  -- the earlier of three faults that there may be
+  regroup_some : (a b c : Option F) → earlier key (earlier key a b) c ≡ earlier key a (earlier key b c)
+  regroup_some None b c = refl
+  regroup_some (Some f) None c = refl
+  regroup_some (Some f) (Some g) None = refl
+  regroup_some (Some f) (Some g) (Some h) = ap Some (regroup f g h)
+
+  pub in_order : IsInOrder key
+  in_order found xs ys =
+      regroup_some found (earliest key xs) (earliest key ys) ∙ ap (earlier key found) (sym (by_parts xs ys))
 
 contains-behind : {X : Type 0} (x : X) (xs : List X) (v : X) → Contains xs v → Contains (x ∷ xs) v
 contains-behind x xs v c = (suc c.0, omega (arith, c.1), c.2)

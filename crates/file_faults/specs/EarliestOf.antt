@@ -1,11 +1,14 @@
 -- What the first fault of a list is.
-use Rattle.std.specs.Prelude.{◌≡◌, ℕ, false, List, [], ◌++◌, Contains, Some, None}
+use Rattle.std.specs.Prelude.{◌≡◌, ℕ, false, List, [], ◌++◌, Contains, Option, Some, None}
 use Rattle.std.specs.List.{AllByRecursion}
 use Rattle.file_faults.specs.Earliest.{earlier, earliest, precedes}
 
--- The first fault of one list with another behind it follows from the first of each, so a file may be judged part by part.
-abbrev pub IsByParts : {F : Type 0} → (F → List ℕ) → Type 0
-IsByParts {F} key = (xs ys : List F) → earliest key (xs ++ ys) ≡ earlier key (earliest key xs) (earliest key ys)
+-- Whatever was found before, the first fault of one list and then that of another come to that of both in a row, so a file may
+-- be judged part by part.
+abbrev pub IsInOrder : {F : Type 0} → (F → List ℕ) → Type 0
+IsInOrder {F} key =
+    (found : Option F) (xs ys : List F) →
+    earlier key (earlier key found (earliest key xs)) (earliest key ys) ≡ earlier key found (earliest key (xs ++ ys))
 
 -- The first fault of a list is one of the list, and none of the list comes before it.
 abbrev pub IsFirst : {F : Type 0} → (F → List ℕ) → Type 0

@@ -1,11 +1,11 @@
 //! Laws of the first fault. Nothing runs here.
-ghost use Rattle.file_faults.specs.EarliestOf.{IsByParts, IsFirst, IsThere};
+ghost use Rattle.file_faults.specs.EarliestOf.{IsFirst, IsInOrder, IsThere};
 ghost use Rattle.file_faults.specs.Faults.{name_key, type_key};
 
-/// The first fault of two lists is the earlier of the first ones of each.
-pub fn by_parts()
-    ensures names { IsByParts name_key }
-    ensures types { IsByParts type_key }
+/// What was found before, and then in one list and in another, comes to what is found in both in a row.
+pub fn in_order()
+    ensures names { IsInOrder name_key }
+    ensures types { IsInOrder type_key }
 {}
 
 /// The first fault of a list is one of the list, none of the list comes before it, and there is one where there are faults.
