@@ -1,0 +1,4 @@
+pub mod Walk
+pub mod Bare
+pub mod Outline
+pub mod Law
