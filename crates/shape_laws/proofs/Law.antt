@@ -1,18 +1,22 @@
 -- A predicted run has the shape of its entry.
-use Rattle.std.proofs.Common.{◌≡◌, ℕ, List, [], ◌∷◌, map, Option, Some, None, refl, sym, ap, subst, ◌∙◌}
+use Rattle.std.proofs.Common.{◌≡◌, ℕ, true, List, [], ◌∷◌, map, Option, Some, None, refl, sym, ap, subst, ◌∙◌}
 use Rattle.std.specs.Prelude.{◌-◌, length, Result, Ok, Err, option_map}
 use Rattle.std.specs.Option.{option_map_or}
 use Rattle.layer_mean.specs.declared.run.Event.{Event}
-use Rattle.layer_mean.specs.Queue.{run_for}
+use Rattle.layer_mean.specs.Queue.{Task, run_for, run, layers, is_predicted}
 use Rattle.layer_mean.specs.Marked.{Logged, marked, marked_start}
 use Rattle.stack_mean.specs.Acceptance.{weight_limit}
 use Rattle.stack_mean.specs.NoShape.{NoShape, drawn_from}
 use Rattle.stack_mean.specs.Drawn.{DrawnHeader, DrawnEvent}
-use Rattle.stack_mean.specs.Shape.{Progress, ShapeVisit, Shape, first_tag, shape_with, entry_task, shaper, shape_visit, shape_out, shape_of, shape}
-use Rattle.shape_laws.specs.Outline.{Outline, drawn_tags, event_outline, drawn_outline, logged_outline}
-use Rattle.shape_laws.specs.Law.{OutOutline, first_of_tags, run_start, marked_run, as_visit, as_out, shape_out_outline, HasShape, PredictedRunsHaveTheShape}
+use Rattle.stack_mean.specs.Shape.{Known, Progress, ShapeVisit, Shape, first_tag, shape_with, entry_task, shaper, shape_visit, shape_out, shape_of, shape}
+use Rattle.shape_laws.specs.Bare.{BareRun}
+use Rattle.shape_laws.specs.Outline.{Outline, drawn_tags, event_outline, drawn_outline, logged_outline, task_outline}
+use Rattle.shape_laws.specs.Law.{OutOutline, first_of_tags, run_start, as_visit, as_out, shape_out_outline, HasShape, PredictedRunsHaveTheShape}
 use Rattle.shape_laws.proofs.Predicted.{AllUsual}
+use Rattle.shape_laws.proofs.Marks.{logs_tell_runs}
 use Rattle.shape_laws.proofs.Runs.{DrawnLine, RunLine, InStep, runs_in_step}
+use Rattle.layer_mean.specs.Tree.{LayerTree}
+use Rattle.layer_mean.specs.State.{State}
 
 map_twice : {A B C : Type 0} (f : A → B) (g : B → C) (xs : List A) → map g (map f xs) ≡ map (λ x. g (f x)) xs
 map_twice f g [] = refl
@@ -76,15 +80,24 @@ has_shape z r s made step usual = go z.world.world made step where
             ∙ sym (map_twice shape_out shape_out_outline z.world.outs);
       })
 
-pub predicted_runs_have_the_shape : PredictedRunsHaveTheShape
-unfolding shape
-predicted_runs_have_the_shape stack k s states task made begins bare predicted =
+-- the law after any number of turns
+shape_after : (most : ℕ) (stack : List LayerTree) (k : Known) (s : Shape) (states : List State) (task : Task Event) →
+    shape_of (run_for (length stack) (marked (shaper stack)) most
+    (marked_start (Ok (record { visits = 0; length = 0 })) (entry_task stack k))).world ≡ Ok s →
+    task_outline event_outline task ≡ task_outline drawn_outline (entry_task stack k) →
+    BareRun stack (run_start states task) → is_predicted (run most stack states task).world ≡ true →
+    HasShape s (run_for (length stack) (marked (layers stack)) most (run_start states task)).world
+shape_after most stack k s states task made begins bare predicted =
     let z : DrawnLine = marked_start (Ok (record { visits = 0; length = 0 })) (entry_task stack k) in
     let r : RunLine = run_start states task in
-    has_shape (run_for (length stack) (marked (shaper stack)) weight_limit z) (marked_run stack states task) s made
-    (runs_in_step stack weight_limit z r (λ usual. record {
+    has_shape (run_for (length stack) (marked (shaper stack)) most z) (run_for (length stack) (marked (layers stack)) most r) s made
+    (runs_in_step stack most z r (λ usual. record {
       tasks = ap (λ t. record { at = t.at; dir = t.dir; event = record { event = t.event; made_by = None } } ∷ []) (sym begins);
       visits = refl;
       outs = refl;
     }) bare)
-    predicted
+    (subst (λ w. AllUsual w.decided) (sym (logs_tell_runs stack states task most).world) predicted)
+
+pub predicted_runs_have_the_shape : PredictedRunsHaveTheShape
+unfolding shape
+predicted_runs_have_the_shape stack k s states task = shape_after weight_limit stack k s states task

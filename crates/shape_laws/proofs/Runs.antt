@@ -245,7 +245,7 @@ stays : {W E : Type 0} (places : ℕ) (play : Player W E) (k : ℕ) (w : W) →
 stays places play zero w = refl
 stays places play (suc k) w = refl
 
-first_turn : {W E : Type 0} (places : ℕ) (play : Player W E) (k : ℕ) (tasks : List (Task E)) (w : W) →
+pub first_turn : {W E : Type 0} (places : ℕ) (play : Player W E) (k : ℕ) (tasks : List (Task E)) (w : W) →
     run_for places play (suc k) (record { world = w; tasks = tasks }) ≡ run_for places play k (next_of places play tasks w)
 first_turn places play k [] w = sym (stays places play k w)
 first_turn places play k (t ∷ rest) w = refl

@@ -6,7 +6,7 @@ use Rattle.layer_ast.specs.declared.tokens.Kind.{Kind}
 use Rattle.layer_mean.specs.declared.run.Event.{Event}
 use Rattle.layer_mean.specs.Tree.{LayerTree}
 use Rattle.layer_mean.specs.State.{State}
-use Rattle.layer_mean.specs.Queue.{Task, Line, Work, layers, run_for, unstarted, is_predicted}
+use Rattle.layer_mean.specs.Queue.{Task, Line, Work, layers, run_for, run, unstarted, is_predicted}
 use Rattle.layer_mean.specs.Marked.{Source, Log, Logged, Marked, marked, marked_start}
 use Rattle.stack_mean.specs.Acceptance.{weight_limit}
 use Rattle.stack_mean.specs.Shape.{Known, ShapeVisit, ShapeOut, Shape, entry_task, shape}
@@ -64,5 +64,5 @@ PredictedRunsHaveTheShape =
     shape stack k ≡ Ok s →
     task_outline event_outline task ≡ task_outline drawn_outline (entry_task stack k) →
     BareRun stack (run_start states task) →
-    is_predicted (marked_run stack states task).world.world ≡ true →
+    is_predicted (run weight_limit stack states task).world ≡ true →
     HasShape s (marked_run stack states task).world
