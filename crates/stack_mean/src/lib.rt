@@ -14,6 +14,7 @@ ghost use Rattle.stack_mean.specs.Samples.{
   MissingHandlers,
   NestedJoins,
   NotDrawn,
+  OrderedAccepted,
   OrderedPlans,
   OrderedShape,
   ReturnedHeaders,
@@ -68,6 +69,11 @@ pub fn ordered_shape()
 /// A stack that orders and keeps casts, drawn.
 pub fn kept_shape()
     ensures { KeptShape }
+{}
+
+/// Both stacks are accepted.
+pub fn ordered_accepted()
+    ensures { OrderedAccepted }
 {}
 
 /// The plans of the first.
