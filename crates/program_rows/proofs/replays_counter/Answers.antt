@@ -1,0 +1,54 @@
+use Rattle.std.proofs.Common.{refl, omega, arith}
+use Rattle.std.specs.Fmt.{digits}
+use lib.Count.{ones, ones_in, count_trailing_zeros}
+use Rattle.hex.proofs.OnLiterals.{hex_on_literals}
+use Rattle.layer_ast.specs.Cut.{piece}
+use Rattle.layer_ast.specs.Spelling.{reserved, kinds, word_token, symbols, symbol_at}
+use Rattle.layer_ast.proofs.Laid.{fits_laid}
+use Rattle.layer_lib.specs.Library.{library}
+use Rattle.layer_mean.specs.Visit.{step}
+use Rattle.layer_mean.specs.Queue.{run}
+use Rattle.stack_mean.specs.Shape.{shape}
+use Rattle.packet_mean.specs.Received.{received}
+use Rattle.file_mean.specs.Layers.{handler_of, layer_of}
+use Rattle.file_mean.specs.Stack.{stack_of}
+use Rattle.run_mean.specs.World.{happens}
+use Rattle.run_mean.specs.Report.{report_lines, output_in}
+use Rattle.std.specs.Prelude.{[], ◌∷◌, codes}
+use Rattle.script_mean.specs.declared.event.ScriptEvent.TheVariants as script
+use Rattle.file_mean.specs.CounterFile as counter
+use Rattle.program_rows.proofs.replays_counter.Goals as goal
+
+pub returns : goal.returns
+unfolding piece reserved kinds word_token symbols symbol_at library stack_of layer_of handler_of output_in report_lines happens received shape run step digits ones ones_in count_trailing_zeros hex_on_literals
+returns c = (record {
+  stack = stack_of counter.file;
+  means = record {
+    small = omega arith;
+    file = counter.file;
+    is_file = record {
+      spelled = record { good = refl; fits = fits_laid _ _ refl; within = tt; placed = λ none. cc };
+      library = tt;
+    };
+    accepted = refl;
+  };
+  script = record { group = 1; stamp = 7; members = 3; events = script.Cast 0 (codes "hi") ∷ script.Give 1 1 ∷ [] };
+  spelled = refl;
+  room = omega arith;
+  written = refl;
+}, record {
+  stack = stack_of counter.file;
+  means = record {
+    small = omega arith;
+    file = counter.file;
+    is_file = record {
+      spelled = record { good = refl; fits = fits_laid _ _ refl; within = tt; placed = λ none. cc };
+      library = tt;
+    };
+    accepted = refl;
+  };
+  script = record { group = 1; stamp = 7; members = 3; events = script.Cast 0 (codes "hi") ∷ script.Give 1 1 ∷ [] };
+  spelled = refl;
+  room = omega arith;
+  written = refl;
+})

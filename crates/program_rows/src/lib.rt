@@ -1,0 +1,33 @@
+//! What the program does with small files, worked out from their bytes by the definitions alone.
+#![tactic(auto)]
+
+ghost use Rattle.program_rows.specs.Refused.{RefusesBadByte, RefusesCycle, RefusesEmpty, RefusesUnknown, RefusesWeight};
+ghost use Rattle.program_rows.specs.Written.{ChecksLibrary, ReplaysCounter, ReplaysShort};
+
+/// Files that are refused, with their causes.
+pub fn refuses()
+    ensures unknown { RefusesUnknown }
+    ensures cycle { RefusesCycle }
+    ensures weight { RefusesWeight }
+{}
+
+/// Texts that spell no file.
+pub fn refuses_texts()
+    ensures bad_byte { RefusesBadByte }
+    ensures empty { RefusesEmpty }
+{}
+
+/// A replay of the counter layer, in both modes.
+pub fn replays_counter()
+    ensures { ReplaysCounter }
+{}
+
+/// The same with bypasses, with the packet's bytes and the number of visits.
+pub fn replays_short()
+    ensures { ReplaysShort }
+{}
+
+/// The judging of the whole library.
+pub fn checks_library()
+    ensures { ChecksLibrary }
+{}
