@@ -5,3 +5,4 @@ pub mod Law
 pub mod Parts
 pub mod Marks
 pub mod Samples
+pub mod Constants

@@ -2,6 +2,7 @@
 //! nothing.
 #![tactic(auto)]
 
+ghost use Rattle.shape_laws.specs.Constants.{ConstantsAreValues};
 ghost use Rattle.shape_laws.specs.Law.{PredictedRunsHaveTheShape};
 ghost use Rattle.shape_laws.specs.Marks.{LogsTellRuns};
 ghost use Rattle.shape_laws.specs.Parts.{RunsWithoutParts};
@@ -21,6 +22,11 @@ pub fn runs_without_parts()
 /// The log of visits, outputs and makers changes nothing of a run.
 pub fn logs_tell_runs()
     ensures { LogsTellRuns }
+{}
+
+/// A field that is drawn as constant has that number in every run.
+pub fn constants_are_values()
+    ensures { ConstantsAreValues }
 {}
 
 /// A cast over four layers, played: what its shape says, by evaluation.
