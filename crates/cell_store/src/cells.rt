@@ -117,8 +117,8 @@ fn size_of(count: u32, form: Form) -> u32
 #[cfg(test)]
 mod tests {
     use super::*;
-    use layer_ast::Word;
     use first_mean::Cell;
+    use layer_ast::Word;
     use std::test::Fail;
 
     fn cell(name: Word, form: Form) -> Cell {

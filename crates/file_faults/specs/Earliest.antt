@@ -1,5 +1,5 @@
 -- Which of several faults comes first.
-use Rattle.std.specs.Prelude.{ℕ, Bool, if◌then◌else◌, List, [], ◌∷◌, Option}
+use Rattle.std.specs.Prelude.{ℕ, Bool, if◌then◌else◌, List, [], ◌∷◌, Option, Some, None}
 use Rattle.std.specs.Cmp.Lexicographic.{slice_cmp}
 use Rattle.std.specs.List.{reduce}
 use Rattle.std.specs.Ordering.{is_lt, nat_cmp}
@@ -9,9 +9,23 @@ use Rattle.layer_ast.specs.declared.names.At.{At}
 abbrev pub key_at : At → ℕ → List ℕ
 key_at at rank = at.line ∷ at.col ∷ rank ∷ []
 
--- The fault with the least key.
+-- Whether a fault comes before another: its key is less.
+abbrev pub precedes : {F : Type 0} → (F → List ℕ) → F → F → Bool
+precedes key f g = is_lt (slice_cmp nat_cmp (key f) (key g))
+
+-- The one of two faults that comes before the other; the first, if neither does.
+abbrev pub earlier_of : {F : Type 0} → (F → List ℕ) → F → F → F
+earlier_of key f g = if precedes key g f then g else f
+
+-- The fault with the least key: the first, if there are several.
 abbrev pub earliest : {F : Type 0} → (F → List ℕ) → List F → Option F
-earliest key = reduce (λ first fault. if is_lt (slice_cmp nat_cmp (key fault) (key first)) then fault else first)
+earliest key = reduce (earlier_of key)
+
+-- The earlier of two faults that there may be.
+abbrev pub earlier : {F : Type 0} → (F → List ℕ) → Option F → Option F → Option F
+earlier key None g = g
+earlier key (Some f) None = Some f
+earlier key (Some f) (Some g) = Some (earlier_of key f g)
 
 -- A fault, unless something holds.
 abbrev pub unless : {F : Type 0} → Bool → F → List F

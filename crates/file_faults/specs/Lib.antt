@@ -1,5 +1,6 @@
 pub mod Declared
 pub mod Earliest
+pub mod EarliestOf
 pub mod ExpressionFaults
 pub mod Faults
 pub mod FileFault
@@ -16,6 +17,7 @@ pub mod Samples
 pub mod SamplesVisible
 pub mod SamplesTwice
 pub mod SamplesLimits
+pub mod SamplesHandlers
 pub mod SamplesKinds
 pub mod SamplesCounts
 pub mod SamplesEmissions

@@ -1,5 +1,5 @@
 -- The first fault of a file's names, in text order.
-use Rattle.std.specs.Prelude.{ℕ, Bool, ◌&&◌, if◌then◌else◌, List, [], ◌∷◌, ◌++◌, map, flat_map, filter, drop, bytes_eq, Option, Some, None}
+use Rattle.std.specs.Prelude.{ℕ, Bool, true, false, ◌&&◌, if◌then◌else◌, List, [], ◌∷◌, ◌++◌, map, flat_map, filter, drop, bytes_eq, Option, Some, None}
 use Rattle.std.specs.List.{list_any}
 use Rattle.std.specs.Option.{option_map_or}
 use denote.Enum.Bare.{sameb}
@@ -83,8 +83,9 @@ declared_faults layer =
 
 -- Whether two written headers are the same: none is one, and each name another.
 abbrev pub same_popped : Option PoppedTree → Option PoppedTree → Bool
-same_popped None other = option_map_or (λ p. Bool.false) other Bool.true
-same_popped (Some p) other = option_map_or (λ q. same_word p.name q.name) other Bool.false
+same_popped None None = true
+same_popped (Some p) (Some q) = same_word p.name q.name
+same_popped _ _ = false
 
 -- Whether two handlers are of the same direction, kind and header.
 abbrev pub same_events : HandlerTree → HandlerTree → Bool
@@ -121,18 +122,17 @@ layer_name_faults layer =
     ++ map (λ h. too_many h.at) (drop 64 layer.handlers)
     ++ flat_map (handler_name_faults layer) layer.handlers
 
--- The faults of a place that names this layer: what it gives are params of the layer, and each size that is a param is within its
--- limit with the param's value there.
+-- The faults of a place that names this layer: it gives no param twice, what it gives are params of the layer, and each size that
+-- is a param is within its limit with the param's value there.
 abbrev pub place_faults_in : PlaceTree → LayerTree → List NameFault
 place_faults_in place layer =
-    flat_map (λ g. unless (declared_as is_param layer g.name.word) (unknown g.name.at)) place.given
+    twice_among [] (map (λ g. g.name) place.given)
+    ++ flat_map (λ g. unless (declared_as is_param layer g.name.word) (unknown g.name.at)) place.given
     ++ flat_map (λ l. unless (is_within_at layer place l.size l.most) (too_many place.name.at)) (sizes_in layer)
 
--- The faults of a place: its layer is one of the file or of the library, and it gives no param twice.
+-- The faults of a place: its layer is one of the file or of the library. What a place of another layer gives isn't judged.
 abbrev pub place_faults : FileTree → PlaceTree → List NameFault
-place_faults file place =
-    twice_among [] (map (λ g. g.name) place.given)
-    ++ option_map_or (place_faults_in place) (layer_at file place) (unknown place.name.at ∷ [])
+place_faults file place = option_map_or (place_faults_in place) (layer_at file place) (unknown place.name.at ∷ [])
 
 -- All faults of a file's names: a file has at most 64 layers, with no name twice, and at most 24 places.
 abbrev pub name_faults : FileTree → List NameFault

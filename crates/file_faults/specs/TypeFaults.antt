@@ -35,13 +35,13 @@ declaration_type_faults layer (rows_cell at name capacity items) = size_type_fau
 declaration_type_faults layer (rows_array at name capacity items) = size_type_faults layer at capacity
 declaration_type_faults layer _ = []
 
--- Whether a header may stand at an event of this direction and kind: `with` pushes on the way down, and takes off on the way up.
+-- Whether headers are put on in this direction: on the way down, as they are taken off on the way up.
 abbrev pub pushes : Dir → Bool
 pushes Down = true
 pushes Up = false
 
--- Whether the message of an emission may be of this sort: a part goes down alone, under a header that ends; a message of the
--- layers above goes under one that passes.
+-- Whether a message of this sort may be sent in this direction under a header that ends or passes: a part goes down alone, and
+-- under a header that ends, and a message of the layers above goes down under one that passes.
 abbrev pub suits : Dir → Bool → Sort → Bool
 suits Up ends Part = false
 suits Down false Part = false

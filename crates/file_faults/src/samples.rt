@@ -6,6 +6,7 @@ ghost use Rattle.file_faults.specs.SamplesTwice.{LayerTwice, CellAndParam, Local
 ghost use Rattle.file_faults.specs.SamplesLimits.{FiveFields, FifthTwice, MessageInside, CapacityOutside, GivenOutside, MaximumOutside, NotPlaced, PlacesBeyond};
 ghost use Rattle.file_faults.specs.SamplesKinds.{NumberAsMessage, ArrayAsNumber, TailOfPart, JoinOfMessages, QueueSet, HeldOfNumbers, PartPushed, CellAsSize};
 ghost use Rattle.file_faults.specs.SamplesEmissions.{ArgumentMissing, FieldMissing, HeaderUp, FieldMissingUp, MessageEnds, PartPasses, PartUp, InitialOfCell, InitialOfArray, NamesFirst, Counter};
+ghost use Rattle.file_faults.specs.SamplesHandlers.{HandlerArity, FieldsArity, TakesOffDown, TakesOffTimer, CellTakenOff, CellPutOn, RowArity, ConditionOfField};
 
 /// Which names are visible where.
 pub fn visible()
@@ -72,6 +73,18 @@ pub fn emissions()
     ensures initial_of_array { InitialOfArray }
     ensures names_first { NamesFirst }
     ensures counter { Counter }
+{}
+
+/// Handlers and what they take off.
+pub fn handlers()
+    ensures handler_arity { HandlerArity }
+    ensures fields_arity { FieldsArity }
+    ensures takes_off_down { TakesOffDown }
+    ensures takes_off_timer { TakesOffTimer }
+    ensures cell_taken_off { CellTakenOff }
+    ensures cell_put_on { CellPutOn }
+    ensures row_arity { RowArity }
+    ensures condition_of_field { ConditionOfField }
 {}
 
 /// As many things as a limit allows, and one more.

@@ -41,7 +41,8 @@ down_cast = record {
   block = trees (
       set (at 7 5) (name "e" 7 9) (Some (binary (at 7 11) (named_at "k" 7 12) BitAnd (number (at 7 16) 1))) (number (at 7 22) 5)
       ∷ set (at 8 5) (name "k" 8 9) None (binary (at 8 13) (named_at "k" 8 14) Add (number (at 8 18) 1))
-      ∷ choose (at 9 5) First (binary (at 9 8) (element (name "e" 9 9) (number (at 9 11) 0)) Equal (number (at 9 17) 5)) (trees (
+      ∷ choose (at 9 5) First (binary (at 9 8) (element (name "e" 9 9) (number (at 9 11) 0)) Equal (number (at 9 17) 5))
+      (trees (
       emit (at 9 22) Down kind.Cast (arguments (value (named_at "p" 9 32)) (value (named_at "m" 9 35) ∷ []))
       (pushed_as (name "a" 9 43) [])
       ∷ [])) (trees (
@@ -101,10 +102,12 @@ stack =
             numbers = 0;
             messages = 0;
             block =
-                mean.more (mean.assign 1 (mean.binary BitAnd (mean.element 0 (mean.number 0)) (mean.number 1)) (mean.number 5)) (
+                mean.more (mean.assign 1 (mean.binary BitAnd (mean.element 0 (mean.number 0)) (mean.number 1)) (mean.number 5))
+                (
                 mean.more (mean.assign 0 (mean.number 0) (mean.binary Add (mean.element 0 (mean.number 0)) (mean.number 1))) (
                 mean.more (
-                mean.branch First (mean.binary Equal (mean.element 1 (mean.number 0)) (mean.number 5)) (cast_with 1) (cast_with 2))
+                mean.branch First (mean.binary Equal (mean.element 1 (mean.number 0)) (mean.number 5)) (cast_with 1)
+                (cast_with 2))
                 mean.none));
           }
           ∷ [];

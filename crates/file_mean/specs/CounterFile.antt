@@ -56,7 +56,8 @@ up_cast_num = record {
   popped = popped_as (name "num" 9 22) (name "seq" 9 26 ∷ []);
   expected = expected.common (binary (at 9 38) (named_at "seq" 9 39) Equal (element (name "e" 9 46) (named_at "o" 9 48)));
   block = trees (
-      set (at 10 5) (name "e" 10 9) (Some (named_at "o" 10 11)) (binary (at 10 16) (named_at "seq" 10 17) Add (number (at 10 23) 1))
+      set (at 10 5) (name "e" 10 9) (Some (named_at "o" 10 11))
+      (binary (at 10 16) (named_at "seq" 10 17) Add (number (at 10 23) 1))
       ∷ emit (at 11 5) Up kind.Cast (arguments (value (named_at "o" 11 13)) (value (named_at "m" 11 16) ∷ [])) None
       ∷ []);
 }

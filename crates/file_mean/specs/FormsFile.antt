@@ -46,9 +46,12 @@ up_ack = record {
   expected = expected.common (binary (at 7 23) (named_at "c" 7 24) Greater (number (at 7 28) 0));
   block = trees (
       each (at 8 5) (name "i" 8 10) (members (at 8 18)) (sized (name "most" 8 24)) (trees (
-      set_square (at 8 31) (name "sum" 8 35) (named_at "o" 8 39) (named_at "i" 8 42) (pick (at 8 47) (binary (at 8 52) (named_at "i" 8 53) Equal (me (at 8 58))) (apply (at 8 63) Bit (named_at "c" 8 67)) (square (name "sum" 8 71) (named_at "i" 8 75) (named_at "o" 8 78)))
+      set_square (at 8 31) (name "sum" 8 35) (named_at "o" 8 39) (named_at "i" 8 42)
+      (pick (at 8 47) (binary (at 8 52) (named_at "i" 8 53) Equal (me (at 8 58))) (apply (at 8 63) Bit (named_at "c" 8 67))
+      (square (name "sum" 8 71) (named_at "i" 8 75) (named_at "o" 8 78)))
       ∷ []))
-      ∷ emit (at 9 5) Up kind.Ack (arguments (value (named_at "o" 9 12)) (value (apply (at 9 15) Count (named_at "c" 9 21)) ∷ [])) None
+      ∷ emit (at 9 5) Up kind.Ack
+      (arguments (value (named_at "o" 9 12)) (value (apply (at 9 15) Count (named_at "c" 9 21)) ∷ [])) None
       ∷ []);
 }
 
@@ -67,7 +70,9 @@ down_cast = record {
       (pushed_as (name "last" 12 46) [])
       ∷ [])) none
       ∷ push (at 13 5) (queue (name "kept" 13 10))
-      (arguments (content (join (at 13 16) (built (cut (at 13 21) (bare (name "m" 13 25)) (number (at 13 28) 0) (named_at "most" 13 31))) (built (tail (at 13 38) (bare (name "m" 13 43)) (named_at "most" 13 46))))) []) (trees (
+      (arguments (content (join (at 13 16)
+      (built (cut (at 13 21) (bare (name "m" 13 25)) (number (at 13 28) 0) (named_at "most" 13 31)))
+      (built (tail (at 13 38) (bare (name "m" 13 43)) (named_at "most" 13 46))))) []) (trees (
       emit (at 13 61) Down kind.Send (arguments (value (named_at "p" 13 71)) (content (nothing (at 13 74)) ∷ []))
       (pushed_as (name "some" 13 88) [])
       ∷ []))
@@ -82,7 +87,8 @@ layer = record {
   declarations =
       param (at 2 3) (name "most" 2 9) 3
       ∷ int (at 3 3) (name "sum" 3 13) Square (Some (binary (at 3 24) (named_at "most" 3 25) Add (ltime (at 3 32))))
-      ∷ rows_cell (at 4 3) (name "kept" 4 15) (fixed (at 4 20) 1) record { first = record { name = name "m" 4 27; sort = sort.Msg }; rest = [] }
+      ∷ rows_cell (at 4 3) (name "kept" 4 15) (fixed (at 4 20) 1) record
+      { first = record { name = name "m" 4 27; sort = sort.Msg }; rest = [] }
       ∷ header (at 5 3) (name "last" 5 10) None Passes
       ∷ header (at 6 3) (name "some" 6 10) None Ends
       ∷ [];

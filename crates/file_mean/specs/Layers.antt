@@ -1,5 +1,5 @@
 -- The layer that a layer of a file is at a place of its stack.
-use Rattle.std.specs.Prelude.{ℕ, ◌-◌, List, [], ◌∷◌, ◌++◌, map, length, filter_map, Bool, true, false, is_some, Option, Some, None, option_to_list}
+use Rattle.std.specs.Prelude.{ℕ, ◌-◌, List, [], ◌++◌, map, length, filter_map, Bool, true, false, is_some, Option, Some, None, option_to_list}
 use Rattle.std.specs.Option.{option_map_or, option_zip}
 use Rattle.layer_ast.specs.declared.names.Name.{Name}
 use Rattle.layer_ast.specs.declared.syntax.Ending.{Ending}
@@ -8,9 +8,9 @@ use Rattle.layer_ast.specs.Tree as ast
 use Rattle.layer_mean.specs.Event.{carries}
 use Rattle.layer_mean.specs.Tree.{number, Expected, always, common, rare, HandlerTree, ItemsTree, numbers, queue, queues, CellTree, HeaderTree, LayerTree}
 use Rattle.file_faults.specs.Declared.{names_in}
-use Rattle.file_mean.specs.Names.{Placed, Names, own_names, with_numbers, with_messages, tag_of, size_value, numbers_among, message_among, carried_in}
+use Rattle.file_mean.specs.Names.{Placed, Names, own_names, with_numbers, with_messages, tag_of, size_value, numbers_among, message_among, items_in, carried_in}
 use Rattle.file_mean.specs.Values.{number_of}
-use Rattle.file_mean.specs.Statements.{all_names, behind_all, statements_of}
+use Rattle.file_mean.specs.Statements.{behind_all, statements_of}
 
 -- The header that a handler takes off, by its tag and the names of its fields: without one it is `none`, which has tag 0.
 abbrev pub popped_tag : Placed → Option ast.PoppedTree → ℕ
@@ -23,8 +23,8 @@ popped_names popped = option_map_or (λ h. names_in h.fields) popped []
 abbrev pub handler_names : Placed → ast.HandlerTree → Names
 handler_names p h =
     let has_message = carries h.kind in
-    with_messages (option_to_list (message_among has_message (all_names h.names)))
-    (with_numbers (numbers_among has_message (all_names h.names) ++ popped_names h.popped) (own_names p))
+    with_messages (option_to_list (message_among has_message (names_in (Some h.names))))
+    (with_numbers (numbers_among has_message (names_in (Some h.names)) ++ popped_names h.popped) (own_names p))
 
 -- When a handler goes as predicted.
 abbrev pub expected_of : Names → ast.Expected → Expected
@@ -62,9 +62,9 @@ abbrev pub cell_in : Placed → ast.DeclarationTree → Option CellTree
 cell_in p (ast.int at name shape initial) =
     Some (record { name = name.word; form = numbers shape (option_map_or (number_of (own_names p)) initial (number 0)) })
 cell_in p (ast.rows_cell at name capacity items) =
-    Some (record { name = name.word; form = queue (size_value p capacity) (row_items p (items.first ∷ items.rest)) })
+    Some (record { name = name.word; form = queue (size_value p capacity) (row_items p (items_in items)) })
 cell_in p (ast.rows_array at name capacity items) =
-    Some (record { name = name.word; form = queues (size_value p capacity) (row_items p (items.first ∷ items.rest)) })
+    Some (record { name = name.word; form = queues (size_value p capacity) (row_items p (items_in items)) })
 cell_in p _ = None
 
 -- Whether a header closes the chain.

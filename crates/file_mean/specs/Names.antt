@@ -8,7 +8,7 @@ use Rattle.layer_ast.specs.declared.names.Name.{Name}
 use Rattle.layer_ast.specs.declared.names.Word.{Word}
 use Rattle.layer_ast.specs.declared.syntax.Sort.{Sort}
 use Rattle.layer_ast.specs.declared.syntax.Sort.TheVariants.{Int, Msg, Part}
-use Rattle.layer_ast.specs.Tree.{DeclarationTree, param, rows_cell, rows_array, ItemTree, LayerTree, GivenTree, SizeTree, fixed, sized}
+use Rattle.layer_ast.specs.Tree.{DeclarationTree, param, rows_cell, rows_array, ItemTree, ItemsTree, LayerTree, GivenTree, SizeTree, fixed, sized}
 use Rattle.layer_mean.specs.Tree.{Carried, part, whole}
 use Rattle.file_faults.specs.Declared.{declaration_of, cell_number, header_tag}
 
@@ -43,10 +43,14 @@ cell_of p name = unwrap_or (cell_number p.layer name.word) 0
 abbrev pub tag_of : Placed → Name → ℕ
 tag_of p name = unwrap_or (header_tag p.layer name.word) 0
 
+-- The items of a row.
+abbrev pub items_in : ItemsTree → List ItemTree
+items_in items = items.first ∷ items.rest
+
 -- The items of the rows of a queue, and its capacity; what is no queue has none.
 abbrev pub items_declared : DeclarationTree → List ItemTree
-items_declared (rows_cell at name capacity items) = items.first ∷ items.rest
-items_declared (rows_array at name capacity items) = items.first ∷ items.rest
+items_declared (rows_cell at name capacity items) = items_in items
+items_declared (rows_array at name capacity items) = items_in items
 items_declared _ = []
 
 abbrev pub capacity_declared : Placed → DeclarationTree → ℕ
@@ -74,7 +78,8 @@ carried_in p items = option_and_then (λ i. carried_as p.blank i.sort) (last_or 
 abbrev pub item_number : List ItemTree → Name → ℕ
 item_number items label = unwrap_or (position (λ i. bytes_eq i.name.word label.word) items) 0
 
--- Where a message comes last among things, if there is one: all others are of numbers.
+-- Of things that stand for numbers, and the last of them for a message if there is one: those of the numbers, and that of the
+-- message.
 abbrev pub numbers_among : {A : Type 0} → Bool → List A → List A
 numbers_among true xs = take (length xs - 1) xs
 numbers_among false xs = xs

@@ -51,7 +51,8 @@ layer = record {
   declarations =
       param (at 2 3) (name "keep" 2 9) 4
       ∷ int (at 3 3) (name "low" 3 13) One (Some (binary (at 3 19) (named_at "keep" 3 20) Add (me (at 3 27))))
-      ∷ rows_cell (at 4 3) (name "wait" 4 15) (sized (name "keep" 4 20)) record { first = record { name = name "t" 4 30; sort = sort.Int }; rest = [] }
+      ∷ rows_cell (at 4 3) (name "wait" 4 15) (sized (name "keep" 4 20)) record
+      { first = record { name = name "t" 4 30; sort = sort.Int }; rest = [] }
       ∷ [];
   handlers = down_timer ∷ [];
 }
@@ -60,7 +61,8 @@ layer = record {
 abbrev pub file : FileTree
 file = record {
   layers = layer ∷ [];
-  places = record { name = name "pace" 10 9; given = record { name = name "keep" 10 14; value = 8 } ∷ [] } ∷ record { name = name "pace" 10 25; given = [] } ∷ [];
+  places = record { name = name "pace" 10 9; given = record { name = name "keep" 10 14; value = 8 } ∷ [] } ∷ record
+      { name = name "pace" 10 25; given = [] } ∷ [];
   library = [];
 }
 

@@ -42,7 +42,8 @@ up_cast_num = record {
   popped = popped_as (name "num" 6 22) (name "seq" 6 26 ∷ []);
   expected = expected.rare;
   block = trees (
-      push (at 7 5) (queue_at (name "early" 7 10) (named_at "o" 7 16)) (arguments (value (named_at "seq" 7 20)) (value (named_at "m" 7 25) ∷ [])) (trees (
+      push (at 7 5) (queue_at (name "early" 7 10) (named_at "o" 7 16))
+      (arguments (value (named_at "seq" 7 20)) (value (named_at "m" 7 25) ∷ [])) (trees (
       push (at 7 35) (queue (name "parts" 7 40))
       (arguments (content (cut (at 7 47) (bare (name "m" 7 51)) (number (at 7 54) 0) (number (at 7 57) 8))) []) none
       ∷ []))
@@ -52,9 +53,14 @@ up_cast_num = record {
       bind (at 8 52) (name "s" 8 56) (rows (at 8 60) (queue (name "parts" 8 64)))
       ∷ []))
       ∷ when (at 9 5) Else (binary (at 9 13) (size (at 9 14) (bare (name "m" 9 19))) Greater (number (at 9 24) 8)) (trees (
-      emit (at 9 29) Up kind.Send (arguments (value (item (at 9 37) (queue_at (name "early" 9 40) (named_at "o" 9 46)) (number (at 9 50) 0) (name "seq" 9 53))) (content (held (at 9 58) (queue_at (name "early" 9 63) (named_at "o" 9 69)) (number (at 9 73) 0)) ∷ [])) None
+      emit (at 9 29) Up kind.Send
+      (arguments (value (item (at 9 37) (queue_at (name "early" 9 40) (named_at "o" 9 46)) (number (at 9 50) 0)
+      (name "seq" 9 53))) (content (held (at 9 58) (queue_at (name "early" 9 63) (named_at "o" 9 69)) (number (at 9 73) 0))
+      ∷ [])) None
       ∷ []))
-      ∷ emit (at 10 5) Down kind.Cast (arguments (value (named_at "o" 10 15)) (content (held (at 10 18) (queue (name "parts" 10 23)) (number (at 10 30) 1)) ∷ []))
+      ∷ emit (at 10 5) Down kind.Cast
+      (arguments (value (named_at "o" 10 15))
+      (content (held (at 10 18) (queue (name "parts" 10 23)) (number (at 10 30) 1)) ∷ []))
       (pushed_as (name "piece" 10 39) [])
       ∷ []);
 }
@@ -65,8 +71,13 @@ layer = record {
   at = at 1 1;
   name = name "hold" 1 7;
   declarations =
-      rows_array (at 2 3) (name "early" 2 15) (fixed (at 2 24) 16) record { first = record { name = name "seq" 2 32; sort = sort.Int }; rest = record { name = name "m" 2 42; sort = sort.Msg } ∷ [] }
-      ∷ rows_cell (at 3 3) (name "parts" 3 15) (fixed (at 3 21) 4) record { first = record { name = name "p" 3 28; sort = sort.Part }; rest = [] }
+      rows_array (at 2 3) (name "early" 2 15) (fixed (at 2 24) 16) record {
+        first = record { name = name "seq" 2 32; sort = sort.Int };
+        rest = record { name = name "m" 2 42; sort = sort.Msg }
+            ∷ [];
+      }
+      ∷ rows_cell (at 3 3) (name "parts" 3 15) (fixed (at 3 21) 4) record
+      { first = record { name = name "p" 3 28; sort = sort.Part }; rest = [] }
       ∷ header (at 4 3) (name "num" 4 10) (Some (names (name "seq" 4 14) [])) Passes
       ∷ header (at 5 3) (name "piece" 5 10) None Ends
       ∷ [];

@@ -1,4 +1,4 @@
--- The stack that a file means, and what the library brings to it.
+-- The stack that a file means.
 use Rattle.std.specs.Prelude.{ℕ, ◌+◌, ◌-◌, List, ◌++◌, map, length, find, bytes_eq, Option}
 use Rattle.std.specs.List.{enumerate_from, range_with_len}
 use Rattle.std.specs.Option.{option_map_or}

@@ -8,16 +8,14 @@ use Rattle.layer_ast.specs.declared.tokens.Kind.{Kind}
 use Rattle.layer_ast.specs.Tree as ast
 use Rattle.layer_mean.specs.Event.{carries}
 use Rattle.layer_mean.specs.Tree.{ExpressionTree, number, EmissionTree, RowTree, TakenTree, StatementTree, bind, assign, assign_square, push, take, branch, each, emit, StatementTrees, none, more}
+use Rattle.file_faults.specs.Declared.{names_in}
 use Rattle.file_mean.specs.Names.{Names, cell_of, tag_of, capacity_of, size_value, numbers_among, message_among, with_numbers, with_messages}
 use Rattle.file_mean.specs.Values.{number_of, queue_name, queue_carries, queue_cell, queue_index, argument_number, argument_message}
 
--- The arguments of a list that may be missing, and the names of one that may not.
+-- The arguments of a list that may be missing.
 abbrev pub arguments_in : Option ast.ArgumentsTree → List ast.ArgumentTree
 arguments_in None = []
 arguments_in (Some arguments) = arguments.first ∷ arguments.rest
-
-abbrev pub all_names : ast.NamesTree → List Name
-all_names names = names.first ∷ names.rest
 
 -- The tag and the fields of the header that an emission puts on: without one it is `none`, which has tag 0.
 abbrev pub pushed_tag : Names → Option ast.PushedTree → ℕ
@@ -73,7 +71,7 @@ abbrev mutual
   behind (ast.bind at name value) names = with_numbers (name ∷ []) names
   behind (ast.push at q items otherwise) names = after_block names (behind_all otherwise names)
   behind (ast.take at q new block otherwise) names =
-      after_block names (behind_all otherwise (after_block names (behind_all block (with_taken q (all_names new) names))))
+      after_block names (behind_all otherwise (after_block names (behind_all block (with_taken q (names_in (Some new)) names))))
   behind (ast.when at likely condition block) names = after_block names (behind_all block names)
   behind (ast.choose at likely condition block otherwise) names =
       after_block names (behind_all otherwise (after_block names (behind_all block names)))
@@ -98,10 +96,10 @@ abbrev mutual
   statement_of names (ast.set_square at name row column value) = assign_square (cell_of names.place name)
       (number_of names row) (number_of names column) (number_of names value)
   statement_of names (ast.push at q items otherwise) = push (queue_cell names q) (queue_index names q)
-      (capacity_of names.place (queue_name q)) (pushed_row names q (items.first ∷ items.rest)) (statements_of names otherwise)
+      (capacity_of names.place (queue_name q)) (pushed_row names q (arguments_in (Some items))) (statements_of names otherwise)
   statement_of names (ast.take at q new block otherwise) =
-      let inner = with_taken q (all_names new) names in
-      take (queue_cell names q) (queue_index names q) (taken_row names q (all_names new)) (statements_of inner block)
+      let inner = with_taken q (names_in (Some new)) names in
+      take (queue_cell names q) (queue_index names q) (taken_row names q (names_in (Some new))) (statements_of inner block)
       (statements_of (after_block names (behind_all block inner)) otherwise)
   statement_of names (ast.when at likely condition block) =
       branch likely (number_of names condition) (statements_of names block) none
@@ -111,7 +109,7 @@ abbrev mutual
   statement_of names (ast.each at name below most block) = each names.taken.numbers (number_of names below)
       (size_value names.place most) (statements_of (with_numbers (name ∷ []) names) block)
   statement_of names (ast.emit at direction kind arguments pushed) =
-      emit (emission_of names direction kind (arguments.first ∷ arguments.rest) pushed)
+      emit (emission_of names direction kind (arguments_in (Some arguments)) pushed)
 
   -- The statements of a block, in order.
   pub statements_of : Names → ast.StatementTrees → StatementTrees

@@ -10,8 +10,8 @@ use crate::emits::Emits;
 use crate::entered::Entered;
 use crate::value::number;
 use cell_store::Cells;
-use layer_ast::{Dir, Kind};
 use first_mean::{Event, FieldExpressions, Statement};
+use layer_ast::{Dir, Kind};
 use msg_core::{Fields, Header, Memory, Message};
 use std::alloc::Global;
 

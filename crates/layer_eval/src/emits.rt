@@ -2,8 +2,8 @@
 
 ghost use Rattle.std.specs.Prelude.{◌≡◌, [], ◌∷◌, ◌++◌, OnErr, OnOk, length};
 
-use layer_ast::Dir;
 use first_mean::Event;
+use layer_ast::Dir;
 use msg_core::Memory;
 use std::alloc::Global;
 use std::marker::Model;

@@ -1,9 +1,9 @@
 use crate::{Emits, FileLayer};
-use layer_ast::{Dir, Kind, Word};
 use first_mean::{
     Cell, Event, Expression, FieldExpressions, Form, Handler, HeaderForm, Layer, Operator,
     Statement,
 };
+use layer_ast::{Dir, Kind, Word};
 use msg_core::Message;
 use std::alloc::Global;
 use std::rc::Rc;

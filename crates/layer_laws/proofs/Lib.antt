@@ -7,3 +7,4 @@ pub mod Once
 pub mod Signs
 pub mod Statements
 pub mod Together
+pub mod Beginnings

@@ -3,6 +3,7 @@
 #![tactic(auto)]
 
 ghost use Rattle.layer_laws.specs.Once.{PrintedOnce, SpelledOnce};
+ghost use Rattle.layer_laws.specs.Stopped.{BadByteStops, EmptyStops};
 
 /// A text spells at most one file, for each layers that the library brings.
 pub fn spelled_once()
@@ -13,4 +14,14 @@ pub fn spelled_once()
 /// them the same layers.
 pub fn printed_once()
     ensures { PrintedOnce }
+{}
+
+/// The empty text is unexpected at its end.
+pub fn empty_stops()
+    ensures { EmptyStops }
+{}
+
+/// A text whose first byte is bad has a bad token there.
+pub fn bad_byte_stops()
+    ensures { BadByteStops }
 {}

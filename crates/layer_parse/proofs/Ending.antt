@@ -1,13 +1,13 @@
 -- The end of a file.
-use Rattle.std.proofs.Common.{◌≡◌, ℕ, suc, nat_eq, true, false, List, [], ◌∷◌, length, Option, Some, None, refl, true≢false, sym, ap, ◌∙◌, ◌<◌, arith, eqb-true}
+use Rattle.std.proofs.Common.{All, ◌≡◌, ℕ, suc, nat_eq, true, false, List, [], ◌∷◌, length, Option, Some, None, refl, true≢false, sym, ap, ◌∙◌, ◌<◌, arith, eqb-true}
 use Rattle.layer_ast.specs.declared.tokens.Lexed.{Lexed}
 use Rattle.layer_ast.specs.Depth.{room_behind}
-use Rattle.layer_ast.specs.declared.syntax.Place.{Place}
 use Rattle.layer_ast.specs.declared.tokens.Sign.TheVariants as sign
 use Rattle.layer_ast.specs.Print as print
-use Rattle.layer_ast.specs.Print.{plain}
+use Rattle.layer_ast.specs.Printed.{plain}
 use Rattle.layer_ast.specs.Spells.{Fits}
-use Rattle.layer_ast.specs.Tree.{LayerTree}
+use Rattle.layer_ast.specs.Tree.{LayerTree, PlaceTree}
+use Rattle.layer_parse.specs.FirstForm.{IsFirstFormLayer, IsFirstFormPlace}
 use Rattle.layer_parse.specs.Machine.{Symbol, one, layers, a_place, places, accepted, refused, step, run, start, Outcome}
 use Rattle.layer_parse.specs.Reading.{Reads, ReadsFlat, ReadsOpening, ReadsFile}
 
@@ -32,7 +32,7 @@ ends_later (t ∷ rest) room is = no_stack (room_behind t.token room) _ _
 
 -- the parts of a whole file, one behind the other
 module _ (tokens behind_layers behind_stack inside_stack behind_places rest : List Lexed) (inside : ℕ) (ls : List LayerTree)
-    (ps : List Place) (a : Reads print.layers (layers ∷ []) 100 tokens ls behind_layers)
+    (ps : List PlaceTree) (a : Reads print.layers (layers ∷ []) 100 tokens ls behind_layers)
     (b : ReadsFlat (λ p k. p ∷ k) (one sign.Stack ∷ []) (λ room. room) behind_layers (plain sign.Stack) behind_stack)
     (c : ReadsOpening sign.LeftBrace 100 behind_stack inside inside_stack)
     (d : ReadsFlat print.places (a_place ∷ places ∷ []) (λ room. room) inside_stack ps behind_places)
@@ -47,9 +47,11 @@ module _ (tokens behind_layers behind_stack inside_stack behind_places rest : Li
   pub file_refused : false ≡ nat_eq (length rest) 0 → run 100 start tokens ≡ refused (length rest)
   file_refused is = file_goes_on ∙ ends_later rest (suc inside) (sym is)
 
-  pub file_read : true ≡ nat_eq (length rest) 0 → 0 < length ps → ReadsFile tokens record { layers = ls; places = ps }
-  file_read is some = record {
+  pub file_read : true ≡ nat_eq (length rest) 0 → 0 < length ps → All IsFirstFormLayer ls → All IsFirstFormPlace ps →
+      ReadsFile tokens record { layers = ls; places = ps; library = [] }
+  file_read is some layers_formed places_formed = record {
     fits = a.spelled _ (b.spelled _ (c.spelled _ (d.spelled _ (e.spelled [] (nothing_fits rest (sym is))))));
     accepts = file_goes_on ∙ ends_here rest (suc inside) (sym is);
     placed = λ none. absurd (omega (arith, ap length none));
+    formed = record { layers = layers_formed; places = places_formed; library = refl };
   }

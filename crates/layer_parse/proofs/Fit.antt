@@ -1,7 +1,7 @@
 -- How tokens fit what is printed, one token after another.
 use Rattle.std.proofs.Common.{◌≡◌, List, ◌∷◌, IfSome}
 use Rattle.layer_ast.specs.declared.tokens.Lexed.{Lexed}
-use Rattle.layer_ast.specs.Print.{Printed}
+use Rattle.layer_ast.specs.Printed.{Printed}
 use Rattle.layer_ast.specs.Spells.{Fits}
 
 -- a token fits what is printed first, and the others fit the rest

@@ -1,8 +1,12 @@
 -- Part after part, a repetition is read.
-use Rattle.std.proofs.Common.{◌≡◌, ℕ, ◌≤◌, List, [], ◌∷◌, ◌++◌, length, map, refl, sym, ap, subst, ◌∙◌, arith}
+use Rattle.std.proofs.Common.{◌≡◌, ℕ, ◌≤◌, List, [], ◌∷◌, ◌++◌, length, map, All, refl, sym, ap, subst, ◌∙◌, arith}
+use Rattle.std.proofs.lemmas.List.{map-append}
+use Rattle.std.proofs.lemmas.List.Elements.{All-push}
 use Rattle.layer_ast.specs.declared.tokens.Lexed.{Lexed}
 use Rattle.layer_ast.specs.declared.tokens.Sign.TheVariants.{Comma}
 use Rattle.layer_ast.specs.declared.names.Name.{Name}
+use Rattle.layer_ast.specs.declared.syntax.Argument.{Argument}
+use Rattle.layer_ast.specs.declared.syntax.Argument.TheVariants.{Value}
 use Rattle.layer_ast.specs.declared.syntax.Declaration.{Declaration}
 use Rattle.layer_ast.specs.declared.syntax.Expression.{Expression}
 use Rattle.layer_ast.specs.declared.syntax.Handler.{Handler}
@@ -10,11 +14,23 @@ use Rattle.layer_ast.specs.declared.syntax.Layer.{Layer}
 use Rattle.layer_ast.specs.declared.syntax.Place.{Place}
 use Rattle.layer_ast.specs.declared.syntax.Statement.{Statement}
 use Rattle.layer_ast.specs.Print as print
-use Rattle.layer_ast.specs.Print.{Printed, plain}
+use Rattle.layer_ast.specs.Printed.{Printed, plain, name}
 use Rattle.layer_ast.specs.Spells.{Fits}
-use Rattle.layer_ast.specs.View.{expression_tree, statement_tree, statement_trees, handler_tree, declaration_tree, layer_tree}
+use Rattle.layer_ast.specs.View.{expression_tree, argument_tree, statement_tree, statement_trees, handler_tree, declaration_tree, layer_tree, place_tree}
+use Rattle.layer_parse.specs.FirstForm.{IsFirstFormStatement, IsFirstFormBlock}
 use Rattle.layer_parse.specs.Machine.{Symbol, a_name, an_expression, more_arguments, more_names, a_statement, statements, a_handler, handlers, a_declaration, declarations, a_layer, layers, a_place, places, run}
 use Rattle.layer_parse.specs.Reading.{Reads, ReadsFlat, Passes, Begins, Gathers, GathersFlat}
+
+-- one more part of the first form is gathered
+pub form_gathered : {A T : Type 0} (P : T → Type 0) (view : A → T) (all : List A) (x : A) → All P (map view all) → P (view x) →
+    All P (map view (all ++ x ∷ []))
+form_gathered P view all x so_far here =
+    subst (All P) (sym (map-append view all (x ∷ []))) (All-push P (map view all) (view x) so_far here)
+
+pub statement_formed : (all : List Statement) (s : Statement) → IsFirstFormBlock (statement_trees all) →
+    IsFirstFormStatement (statement_tree s) → IsFirstFormBlock (statement_trees (all ++ s ∷ []))
+statement_formed [] s so_far here = (here, tt)
+statement_formed (x ∷ all) s so_far here = (so_far.0, statement_formed all s so_far.1 here)
 
 -- one more part is gathered, where printing it behind the others is printing them all
 gathered : {L : Type 0} (print : L → List Printed → List Printed) (many : Symbol) (room : ℕ) (tokens rest last : List Lexed)
@@ -30,40 +46,40 @@ gathered print many room tokens rest last before after part same so_far spelled 
 }
 
 -- printing one more argument
-arguments-append : (all : List Expression) (e : Expression) (k : List Printed) →
-    print.more_arguments (map expression_tree (all ++ e ∷ [])) k
-    ≡ print.more_arguments (map expression_tree all) (plain Comma ∷ print.expression (expression_tree e) k)
+arguments-append : (all : List Argument) (e : Expression) (k : List Printed) →
+    print.more_arguments (map argument_tree (all ++ Value e ∷ [])) k
+    ≡ print.more_arguments (map argument_tree all) (plain Comma ∷ print.expression (expression_tree e) k)
 arguments-append [] e k = refl
 arguments-append (x ∷ all) e k =
-    ap (λ printed. plain Comma ∷ print.expression (expression_tree x) printed) (arguments-append all e k)
+    ap (λ printed. plain Comma ∷ print.argument (argument_tree x) printed) (arguments-append all e k)
 
 -- a comma and an expression are one more argument
-pub argument_gathered : (room : ℕ) (tokens rest behind last : List Lexed) (all : List Expression) (e : Expression) →
-    Gathers print.more_arguments more_arguments room tokens (map expression_tree all) rest → Passes Comma rest behind →
+pub argument_gathered : (room : ℕ) (tokens rest behind last : List Lexed) (all : List Argument) (e : Expression) →
+    Gathers print.more_arguments more_arguments room tokens (map argument_tree all) rest → Passes Comma rest behind →
     Reads print.expression (an_expression ∷ []) room behind (expression_tree e) last →
-    Gathers print.more_arguments more_arguments room tokens (map expression_tree (all ++ e ∷ [])) last
+    Gathers print.more_arguments more_arguments room tokens (map argument_tree (all ++ Value e ∷ [])) last
 argument_gathered room tokens rest behind last all e so_far comma read =
-    gathered print.more_arguments more_arguments room tokens rest last (map expression_tree all)
-    (map expression_tree (all ++ e ∷ [])) (λ k. plain Comma ∷ print.expression (expression_tree e) k)
+    gathered print.more_arguments more_arguments room tokens rest last (map argument_tree all)
+    (map argument_tree (all ++ Value e ∷ [])) (λ k. plain Comma ∷ print.expression (expression_tree e) k)
     (arguments-append all e) so_far (λ k h. comma.spelled _ (read.spelled k h))
     (λ stack. comma.steps room more_arguments stack ∙ read.goes_on (more_arguments ∷ stack))
     (omega (arith, comma.shorter, read.no_longer))
 
 -- printing one more name
 names-append : (all : List Name) (n : Name) (k : List Printed) →
-    print.more_names (all ++ n ∷ []) k ≡ print.more_names all (plain Comma ∷ print.name n ∷ k)
+    print.more_names (all ++ n ∷ []) k ≡ print.more_names all (plain Comma ∷ name n ∷ k)
 names-append [] n k = refl
-names-append (x ∷ all) n k = ap (λ printed. plain Comma ∷ print.name x ∷ printed) (names-append all n k)
+names-append (x ∷ all) n k = ap (λ printed. plain Comma ∷ name x ∷ printed) (names-append all n k)
 
 -- a comma and a name are one more name
 pub name_gathered : (tokens rest behind last : List Lexed) (all : List Name) (n : Name) →
     GathersFlat print.more_names (more_names ∷ []) more_names tokens all rest → Passes Comma rest behind →
-    ReadsFlat (λ t k. print.name t ∷ k) (a_name ∷ []) (λ room. room) behind n last →
+    ReadsFlat (λ t k. name t ∷ k) (a_name ∷ []) (λ room. room) behind n last →
     GathersFlat print.more_names (more_names ∷ []) more_names tokens (all ++ n ∷ []) last
 name_gathered tokens rest behind last all n so_far comma read = record {
   spelled = λ k h.
       subst (λ printed. Fits printed tokens) (sym (names-append all n k))
-      (so_far.spelled (plain Comma ∷ print.name n ∷ k) (comma.spelled (print.name n ∷ k) (read.spelled k h)));
+      (so_far.spelled (plain Comma ∷ name n ∷ k) (comma.spelled (name n ∷ k) (read.spelled k h)));
   goes_on = λ room stack.
       so_far.goes_on room stack ∙ (comma.steps room more_names stack ∙ read.goes_on room (more_names ∷ stack));
   no_longer = omega (arith, so_far.no_longer, comma.shorter, read.no_longer);
@@ -104,9 +120,10 @@ layers-append [] l k = refl
 layers-append (x ∷ all) l k = ap (print.layer (layer_tree x)) (layers-append all l k)
 
 places-append : (all : List Place) (p : Place) (k : List Printed) →
-    print.places (all ++ p ∷ []) k ≡ print.places all (print.place p k)
+    print.places (map place_tree (all ++ p ∷ [])) k
+    ≡ print.places (map place_tree all) (print.place (place_tree p) k)
 places-append [] p k = refl
-places-append (x ∷ all) p k = ap (print.place x) (places-append all p k)
+places-append (x ∷ all) p k = ap (print.place (place_tree x)) (places-append all p k)
 
 module _ (room : ℕ) (tokens rest last : List Lexed) where
   pub statement_gathered : (all : List Statement) (s : Statement) →
@@ -146,9 +163,9 @@ module _ (room : ℕ) (tokens rest last : List Lexed) where
 
 -- one more place of the stack
 pub place_gathered : (tokens rest last : List Lexed) (expected : List Symbol) (all : List Place) (p : Place) →
-    GathersFlat print.places expected places tokens all rest → Begins places (a_place ∷ places ∷ []) rest →
-    ReadsFlat print.place (a_place ∷ []) (λ room. room) rest p last →
-    GathersFlat print.places expected places tokens (all ++ p ∷ []) last
+    GathersFlat print.places expected places tokens (map place_tree all) rest → Begins places (a_place ∷ places ∷ []) rest →
+    ReadsFlat print.place (a_place ∷ []) (λ room. room) rest (place_tree p) last →
+    GathersFlat print.places expected places tokens (map place_tree (all ++ p ∷ [])) last
 place_gathered tokens rest last expected all p so_far begins read = record {
   spelled = λ k h.
       subst (λ printed. Fits printed tokens) (sym (places-append all p k)) (so_far.spelled _ (read.spelled k h));

@@ -5,11 +5,13 @@ use Rattle.layer_ast.specs.declared.tokens.Lexed.{Lexed}
 use Rattle.layer_ast.specs.declared.tokens.Token.{Token}
 use Rattle.layer_ast.specs.Cut.{cut}
 use Rattle.layer_ast.specs.Depth.{room_behind, WithRoom, IsWithin}
-use Rattle.layer_ast.specs.Print.{Printed, file}
+use Rattle.layer_ast.specs.Print.{file}
+use Rattle.layer_ast.specs.Printed.{Printed}
 use Rattle.layer_ast.specs.Spells.{Fits, HasPlace, Spells}
 use Rattle.layer_ast.specs.Tree.{FileTree}
 use Rattle.layer_parse.specs.Machine.{Symbol, feed, accepted, refused, step, run, start}
 use Rattle.layer_parse.specs.Answers.{IsNoFile}
+use Rattle.layer_parse.specs.FirstForm.{IsFirstForm}
 use Rattle.layer_parse.specs.Reading.{ReadsFile}
 use Rattle.layer_parse.proofs.Complete.{toks, accepts, accepts_behind, file_drives}
 
@@ -57,11 +59,11 @@ accepted_within [] room stack is = tt
 accepted_within (l ∷ lexed) room stack is =
     within_steps (room_behind l.token room) (feed stack l.token) _ lexed (accepted_within lexed) is
 
--- a file that fits the tokens and has a place is accepted where no bracket is too deep
-pub file_accepted : (f : FileTree) (lexed : List Lexed) → Fits (file f) lexed → IsWithin 100 (tokens_of lexed) → HasPlace f →
+-- a file of the first form that fits the tokens and has a place is accepted where no bracket is too deep
+pub file_accepted : (f : FileTree) (lexed : List Lexed) → IsFirstForm f → Fits (file f) lexed → IsWithin 100 (tokens_of lexed) → HasPlace f →
     run 100 start lexed ≡ accepted
-file_accepted f lexed fits within placed =
-    run_accepts lexed 100 start (ap (accepts start) (tokens_fit (file f) lexed fits) ∙ file_drives f placed) within
+file_accepted f lexed formed fits within placed =
+    run_accepts lexed 100 start (ap (accepts start) (tokens_fit (file f) lexed fits) ∙ file_drives f formed placed) within
 
 -- what the lexer cut of a text
 module _ (text : List ℕ) (tokens : List Lexed) (bad_at : Option At) (cuts : record { tokens = tokens; bad_at = bad_at } ≡ cut text)
@@ -78,10 +80,10 @@ module _ (text : List ℕ) (tokens : List Lexed) (bad_at : Option At) (cuts : re
       placed = read.placed;
     }
 
-    -- a text whose tokens the machine refuses spells nothing
+    -- a text whose tokens the machine refuses spells no file of the first form
     pub refused_spells_none : (n : ℕ) → run 100 start tokens ≡ refused n → IsNoFile text
     refused_spells_none n is = record {
-      none = λ f spells.
-          let accepts = file_accepted f (cut text).tokens spells.fits spells.within spells.placed in
+      none = λ f formed spells.
+          let accepts = file_accepted f (cut text).tokens formed spells.fits spells.within spells.placed in
           let refuses = rw same_tokens at is in cc;
     }

@@ -4,3 +4,4 @@ pub mod Fit
 pub mod Gathered
 pub mod Judge
 pub mod Signs
+pub mod Views

@@ -8,7 +8,7 @@ use Rattle.layer_ast.specs.declared.tokens.Sign.TheVariants.{LeftBrace, RightBra
 use Rattle.layer_ast.specs.declared.tokens.Token.{Token}
 use Rattle.layer_ast.specs.declared.tokens.Token.TheVariants as token
 use Rattle.layer_ast.specs.Depth.{room_inside, room_behind}
-use Rattle.layer_ast.specs.Print.{plain}
+use Rattle.layer_ast.specs.Printed.{plain}
 use Rattle.layer_parse.proofs.Fit.{fits_first}
 use Rattle.layer_parse.specs.Machine.{Symbol, one, is_sign, eats, refuses, moved, feed, step, run, Outcome}
 use Rattle.layer_parse.specs.Reading.{ReadsFlat, ReadsOpening, Passes, IsPlain, IsOpening, IsClosing}

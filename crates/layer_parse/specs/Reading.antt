@@ -7,11 +7,13 @@ use Rattle.layer_ast.specs.declared.tokens.Sign.{Sign}
 use Rattle.layer_ast.specs.declared.tokens.Sign.TheVariants.{LeftBrace, RightBrace, LeftParen, RightParen, LeftBracket, RightBracket, Comma, With, Common}
 use Rattle.layer_ast.specs.declared.tokens.Token.TheVariants as token
 use Rattle.layer_ast.specs.Depth.{room_behind}
-use Rattle.layer_ast.specs.Print.{Printed, plain, file}
+use Rattle.layer_ast.specs.Print.{file}
+use Rattle.layer_ast.specs.Printed.{Printed, plain}
 use Rattle.layer_ast.specs.Spells.{Fits, HasPlace}
 use Rattle.layer_ast.specs.Tree.{FileTree}
 use Rattle.layer_ast.specs.View.{file_tree}
 use Rattle.layer_ast.specs.declared.syntax.File.{File}
+use Rattle.layer_parse.specs.FirstForm.{IsFirstForm}
 use Rattle.layer_parse.specs.Machine.{Symbol, one, an_index, a_shape, more_arguments, more_names, a_pushed, a_popped, a_common, accepted, refused, feed, step, run, start}
 use Rattle.layer_parse.specs.declared.readers.Fault.{Fault}
 use Rattle.layer_parse.specs.declared.readers.Fault.TheVariants.{Refused, Memory}
@@ -175,11 +177,12 @@ IsClosing RightParen = Unit {0}
 IsClosing RightBracket = Unit {0}
 IsClosing _ = ⊥
 
--- a whole file was read
+-- a whole file of the first form was read
 pub record ReadsFile (tokens : List Lexed) (f : FileTree) : Type 0 where
   pub fits : Fits (file f) tokens
   pub accepts : run 100 start tokens ≡ accepted
   pub placed : HasPlace f
+  pub formed : IsFirstForm f
 
 -- what the reader of a whole file answers
 abbrev pub ParsesFile : List Lexed → Result File Fault → Type 0

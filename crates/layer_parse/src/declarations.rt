@@ -1,13 +1,14 @@
 //! Readers of declarations.
-ghost use Rattle.std.specs.Prelude.{◌≡◌, ◌<◌, ◌≤◌, [], ◌∷◌, length, map, IfOk};
+ghost use Rattle.std.specs.Prelude.{◌≡◌, ◌<◌, ◌≤◌, [], ◌∷◌, length, map, All, IfOk};
 ghost use Rattle.layer_ast.specs.Print as print;
 ghost use Rattle.layer_ast.specs.View.{declaration_tree};
+ghost use Rattle.layer_parse.specs.FirstForm.{IsFirstFormShape, IsFirstFormDeclaration};
 ghost use Rattle.layer_parse.specs.Machine.{a_shape, a_declaration, declarations as more_declarations};
 ghost use Rattle.layer_parse.specs.Reading.{Parses, SeesPart};
 
 use crate::names::some_names;
 use crate::readers::{Fault, close, name, open, past, read, room_inside, sign};
-use layer_ast::{Declaration, Lexed, Shape, Sign, Token};
+use layer_ast::{Declaration, Ending, Lexed, Shape, Sign, Token};
 use std::alloc::Global;
 
 /// Reads declarations as long as one begins.
@@ -16,7 +17,8 @@ pub fn declarations(
     room: u32,
     tokens: &[Lexed],
 ) -> Result<(Vec<Declaration>, &[Lexed]), Fault>
-    ensures { Parses print.declarations (λ v. map declaration_tree v.items) more_declarations room tokens.now result }
+    ensures read { Parses print.declarations (λ v. map declaration_tree v.items) more_declarations room tokens.now result }
+    ensures form { IfOk result (λ r. All IsFirstFormDeclaration (map declaration_tree r.0.items)) }
 {
     let mut all = Vec::new(alloc);
     let mut rest = tokens;
@@ -40,6 +42,7 @@ fn begins_declaration(tokens: &[Lexed]) -> bool
 
 fn declaration(alloc: Global, room: u32, tokens: &[Lexed]) -> Result<(Declaration, &[Lexed]), Fault>
     ensures read { Parses print.declaration declaration_tree a_declaration room tokens.now result }
+    ensures form { IfOk result (λ r. IsFirstFormDeclaration (declaration_tree r.0)) }
     ensures shorter { IfOk result (λ r. length r.1.now < length tokens.now) }
 {
     let Some((first, rest)) = tokens.split_first() else {
@@ -57,6 +60,7 @@ fn declaration(alloc: Global, room: u32, tokens: &[Lexed]) -> Result<(Declaratio
 fn cell(room: u32, first: Lexed, tokens: &[Lexed]) -> Result<(Declaration, &[Lexed]), Fault>
     requires { first.token ≡ Token.Sign Sign.State }
     ensures read { Parses print.declaration declaration_tree a_declaration room (first ∷ tokens.now) result }
+    ensures form { IfOk result (λ r. IsFirstFormDeclaration (declaration_tree r.0)) }
     ensures shorter { IfOk result (λ r. length r.1.now ≤ length tokens.now) }
 {
     let rest = sign(Sign::Int, tokens)?;
@@ -64,12 +68,22 @@ fn cell(room: u32, first: Lexed, tokens: &[Lexed]) -> Result<(Declaration, &[Lex
     let (shape, rest) = shape(room, rest)?;
     let rest = sign(Sign::Semicolon, rest)?;
     let at = first.at;
-    Ok((Declaration::Int { at, name, shape }, rest))
+    let initial = None;
+    Ok((
+        Declaration::Int {
+            at,
+            name,
+            shape,
+            initial,
+        },
+        rest,
+    ))
 }
 
 /// Reads what says that a cell is an array, where it does.
 fn shape(room: u32, tokens: &[Lexed]) -> Result<(Shape, &[Lexed]), Fault>
-    ensures { Parses print.shape (λ s. s) a_shape room tokens.now result }
+    ensures read { Parses print.shape (λ s. s) a_shape room tokens.now result }
+    ensures form { IfOk result (λ r. IsFirstFormShape r.0) }
 {
     let Some(rest) = past(Sign::LeftBracket, tokens) else {
         return Ok((Shape::One, tokens));
@@ -90,6 +104,7 @@ fn header(
 ) -> Result<(Declaration, &[Lexed]), Fault>
     requires { first.token ≡ Token.Sign Sign.Header }
     ensures read { Parses print.declaration declaration_tree a_declaration room (first ∷ tokens.now) result }
+    ensures form { IfOk result (λ r. IsFirstFormDeclaration (declaration_tree r.0)) }
     ensures shorter { IfOk result (λ r. length r.1.now ≤ length tokens.now) }
 {
     let (name, rest) = read!(name(tokens));
@@ -99,5 +114,14 @@ fn header(
     let rest = sign(Sign::Passes, rest)?;
     let rest = sign(Sign::Semicolon, rest)?;
     let at = first.at;
-    Ok((Declaration::Header { at, name, fields }, rest))
+    let ending = Ending::Passes;
+    Ok((
+        Declaration::Header {
+            at,
+            name,
+            fields,
+            ending,
+        },
+        rest,
+    ))
 }

@@ -1,13 +1,14 @@
 //! Readers of expressions, and of lists of them. Each is told how many brackets may still be opened.
-ghost use Rattle.std.specs.Prelude.{◌≡◌, [], ◌∷◌, map};
+ghost use Rattle.std.specs.Prelude.{◌≡◌, [], ◌∷◌, map, All, IfOk, IfSome};
 ghost use Rattle.std.specs.Option.{option_map};
 ghost use Rattle.layer_ast.specs.Print as print;
-ghost use Rattle.layer_ast.specs.View.{expression_tree, arguments_tree};
+ghost use Rattle.layer_ast.specs.View.{expression_tree, argument_tree, arguments_tree};
+ghost use Rattle.layer_parse.specs.FirstForm.{IsFirstFormExpression, IsFirstFormArgument, IsFirstFormArguments};
 ghost use Rattle.layer_parse.specs.Machine.{an_expression, an_index, more_arguments, some_arguments as one_or_no_arguments};
 ghost use Rattle.layer_parse.specs.Reading.{Parses, ParsesAll, SeesPart};
 
 use crate::readers::{Fault, close, operator, past, room_inside};
-use layer_ast::{Arguments, Expression, Lexed, Name, Sign, Token, Word};
+use layer_ast::{Argument, Arguments, Expression, Lexed, Name, Sign, Token, Word};
 use std::alloc::Global;
 
 /// Reads an expression.
@@ -18,7 +19,8 @@ pub fn expression(
     room: u32,
     tokens: &[Lexed],
 ) -> Result<(Expression, &[Lexed]), Fault>
-    ensures { Parses print.expression expression_tree an_expression room tokens.now result }
+    ensures read { Parses print.expression expression_tree an_expression room tokens.now result }
+    ensures form { IfOk result (λ r. IsFirstFormExpression (expression_tree r.0)) }
 {
     let Some((first, rest)) = tokens.split_first() else {
         return Err(Fault::Refused(0));
@@ -49,7 +51,8 @@ fn binary(
     tokens: &[Lexed],
 ) -> Result<(Expression, &[Lexed]), Fault>
     requires { first.token ≡ Token.Sign Sign.LeftParen }
-    ensures { Parses print.expression expression_tree an_expression room (first ∷ tokens.now) result }
+    ensures read { Parses print.expression expression_tree an_expression room (first ∷ tokens.now) result }
+    ensures form { IfOk result (λ r. IsFirstFormExpression (expression_tree r.0)) }
 {
     let inside = room_inside(room, tokens)?;
     let (left, rest) = expression(alloc, inside, tokens)?;
@@ -81,14 +84,15 @@ fn named(
     tokens: &[Lexed],
 ) -> Result<(Expression, &[Lexed]), Fault>
     requires { first.token ≡ Token.Name word }
-    ensures { Parses print.expression expression_tree an_expression room (first ∷ tokens.now) result }
+    ensures read { Parses print.expression expression_tree an_expression room (first ∷ tokens.now) result }
+    ensures form { IfOk result (λ r. IsFirstFormExpression (expression_tree r.0)) }
 {
     let name = Name { at: first.at, word };
     let (index, rest) = index(alloc, room, tokens)?;
-    let index = match index {
-        Some(index) => Some(Box::new(alloc, index)?),
-        None => None,
+    let Some(index) = index else {
+        return Ok((Expression::Named { name, index: None }, rest));
     };
+    let index = Some(Box::new(alloc, index)?);
     Ok((Expression::Named { name, index }, rest))
 }
 
@@ -99,7 +103,8 @@ pub fn index(
     room: u32,
     tokens: &[Lexed],
 ) -> Result<(Option<Expression>, &[Lexed]), Fault>
-    ensures { Parses print.index (option_map expression_tree) an_index room tokens.now result }
+    ensures read { Parses print.index (option_map expression_tree) an_index room tokens.now result }
+    ensures form { IfOk result (λ r. IfSome (option_map expression_tree r.0) IsFirstFormExpression) }
 {
     let Some(rest) = past(Sign::LeftBracket, tokens) else {
         return Ok((None, tokens));
@@ -115,14 +120,15 @@ pub fn more_arguments(
     alloc: Global,
     room: u32,
     tokens: &[Lexed],
-) -> Result<(Vec<Expression>, &[Lexed]), Fault>
-    ensures { Parses print.more_arguments (λ v. map expression_tree v.items) more_arguments room tokens.now result }
+) -> Result<(Vec<Argument>, &[Lexed]), Fault>
+    ensures read { Parses print.more_arguments (λ v. map argument_tree v.items) more_arguments room tokens.now result }
+    ensures form { IfOk result (λ r. All IsFirstFormArgument (map argument_tree r.0.items)) }
 {
     let mut all = Vec::new(alloc);
     let mut rest = tokens;
     while let Some(behind) = past(Sign::Comma, rest) {
         let (argument, behind) = expression(alloc, room, behind)?;
-        all.push(argument)?;
+        all.push(Argument::Value(argument))?;
         rest = behind;
     }
     Ok((all, rest))
@@ -130,9 +136,11 @@ pub fn more_arguments(
 
 /// Reads expressions with commas between them.
 pub fn arguments(alloc: Global, room: u32, tokens: &[Lexed]) -> Result<(Arguments, &[Lexed]), Fault>
-    ensures { ParsesAll print.arguments arguments_tree (an_expression ∷ more_arguments ∷ []) room tokens.now result }
+    ensures read { ParsesAll print.arguments arguments_tree (an_expression ∷ more_arguments ∷ []) room tokens.now result }
+    ensures form { IfOk result (λ r. IsFirstFormArguments (arguments_tree r.0)) }
 {
     let (first, rest) = expression(alloc, room, tokens)?;
+    let first = Argument::Value(first);
     let (more, rest) = more_arguments(alloc, room, rest)?;
     Ok((Arguments { first, rest: more }, rest))
 }
@@ -143,7 +151,8 @@ pub fn some_arguments(
     room: u32,
     tokens: &[Lexed],
 ) -> Result<(Option<Arguments>, &[Lexed]), Fault>
-    ensures { Parses print.some_arguments (option_map arguments_tree) one_or_no_arguments room tokens.now result }
+    ensures read { Parses print.some_arguments (option_map arguments_tree) one_or_no_arguments room tokens.now result }
+    ensures form { IfOk result (λ r. IfSome (option_map arguments_tree r.0) IsFirstFormArguments) }
 {
     if !begins_expression(tokens) {
         return Ok((None, tokens));

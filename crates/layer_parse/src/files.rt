@@ -1,7 +1,8 @@
 //! Readers of layers, of the places of a stack, and of whole files.
-ghost use Rattle.std.specs.Prelude.{◌≡◌, ◌<◌, ◌≤◌, [], ◌∷◌, length, map, IfOk};
+ghost use Rattle.std.specs.Prelude.{◌≡◌, ◌<◌, ◌≤◌, [], ◌∷◌, length, map, All, IfOk};
 ghost use Rattle.layer_ast.specs.Print as print;
-ghost use Rattle.layer_ast.specs.View.{layer_tree};
+ghost use Rattle.layer_ast.specs.View.{layer_tree, place_tree};
+ghost use Rattle.layer_parse.specs.FirstForm.{IsFirstFormLayer, IsFirstFormPlace};
 ghost use Rattle.layer_parse.specs.Machine.{a_layer, layers as more_layers, a_place, places as more_places};
 ghost use Rattle.layer_parse.specs.Reading.{Parses, ParsesFlat, ParsesAllFlat, ParsesFile, SeesPart};
 
@@ -16,7 +17,8 @@ const DEEPEST: u32 = 100;
 
 /// Reads layers as long as one begins.
 fn layers(alloc: Global, room: u32, tokens: &[Lexed]) -> Result<(Vec<Layer>, &[Lexed]), Fault>
-    ensures { Parses print.layers (λ v. map layer_tree v.items) more_layers room tokens.now result }
+    ensures read { Parses print.layers (λ v. map layer_tree v.items) more_layers room tokens.now result }
+    ensures form { IfOk result (λ r. All IsFirstFormLayer (map layer_tree r.0.items)) }
 {
     let mut all = Vec::new(alloc);
     let mut rest = tokens;
@@ -40,6 +42,7 @@ fn begins_layer(tokens: &[Lexed]) -> bool
 
 fn layer(alloc: Global, room: u32, tokens: &[Lexed]) -> Result<(Layer, &[Lexed]), Fault>
     ensures read { Parses print.layer layer_tree a_layer room tokens.now result }
+    ensures form { IfOk result (λ r. IsFirstFormLayer (layer_tree r.0)) }
     ensures shorter { IfOk result (λ r. length r.1.now < length tokens.now) }
 {
     let Some((first, rest)) = tokens.split_first() else {
@@ -61,6 +64,7 @@ fn layer_body(
 ) -> Result<(Layer, &[Lexed]), Fault>
     requires { first.token ≡ Token.Sign Sign.Layer }
     ensures read { Parses print.layer layer_tree a_layer room (first ∷ tokens.now) result }
+    ensures form { IfOk result (λ r. IsFirstFormLayer (layer_tree r.0)) }
     ensures shorter { IfOk result (λ r. length r.1.now ≤ length tokens.now) }
 {
     let (name, rest) = read!(name(tokens));
@@ -82,14 +86,15 @@ fn layer_body(
 
 /// Reads places as long as one begins, at least one.
 fn places(alloc: Global, tokens: &[Lexed]) -> Result<(Vec<Place>, &[Lexed]), Fault>
-    ensures read { ParsesAllFlat print.places (λ v. v.items) (a_place ∷ more_places ∷ []) tokens.now result }
+    ensures read { ParsesAllFlat print.places (λ v. map place_tree v.items) (a_place ∷ more_places ∷ []) tokens.now result }
+    ensures form { IfOk result (λ r. All IsFirstFormPlace (map place_tree r.0.items)) }
     ensures some { IfOk result (λ r. 0 < length r.0.items) }
 {
-    let (first, mut rest) = read!(place(tokens));
+    let (first, mut rest) = read!(place(alloc, tokens));
     let mut all = Vec::new(alloc);
     all.push(first)?;
     while begins_place(rest) {
-        let (next, behind) = read!(place(rest));
+        let (next, behind) = read!(place(alloc, rest));
         all.push(next)?;
         rest = behind;
     }
@@ -106,35 +111,44 @@ fn begins_place(tokens: &[Lexed]) -> bool
     matches!(first.token, Token::Name(_))
 }
 
-fn place(tokens: &[Lexed]) -> Result<(Place, &[Lexed]), Fault>
-    ensures read { ParsesFlat print.place (λ p. p) a_place tokens.now result }
+fn place(alloc: Global, tokens: &[Lexed]) -> Result<(Place, &[Lexed]), Fault>
+    ensures read { ParsesFlat print.place place_tree a_place tokens.now result }
+    ensures form { IfOk result (λ r. IsFirstFormPlace (place_tree r.0)) }
     ensures shorter { IfOk result (λ r. length r.1.now < length tokens.now) }
 {
     let Some((first, rest)) = tokens.split_first() else {
         return Err(Fault::Refused(0));
     };
     match first.token {
-        Token::Name(word) => place_of(word, *first, rest),
+        Token::Name(word) => place_of(alloc, word, *first, rest),
         _ => Err(Fault::Refused(tokens.len())),
     }
 }
 
 /// Reads a place from behind its name.
 #[tactic(auto, using(crate::proofs::Fit::fits_first))]
-fn place_of(word: Word, first: Lexed, tokens: &[Lexed]) -> Result<(Place, &[Lexed]), Fault>
+fn place_of(
+    alloc: Global,
+    word: Word,
+    first: Lexed,
+    tokens: &[Lexed],
+) -> Result<(Place, &[Lexed]), Fault>
     requires { first.token ≡ Token.Name word }
-    ensures read { ParsesFlat print.place (λ p. p) a_place (first ∷ tokens.now) result }
+    ensures read { ParsesFlat print.place place_tree a_place (first ∷ tokens.now) result }
+    ensures form { IfOk result (λ r. IsFirstFormPlace (place_tree r.0)) }
     ensures shorter { IfOk result (λ r. length r.1.now ≤ length tokens.now) }
 {
     let rest = sign(Sign::Semicolon, tokens)?;
     let name = Name { at: first.at, word };
-    Ok((Place { name }, rest))
+    let given = Vec::new(alloc);
+    Ok((Place { name, given }, rest))
 }
 
 /// Reads a whole file.
 pub fn file(alloc: Global, tokens: &[Lexed]) -> Result<File, Fault>
     ensures { ParsesFile tokens.now result }
 {
+    let library = Vec::new(alloc);
     let (layers, rest) = layers(alloc, DEEPEST, tokens)?;
     let rest = sign(Sign::Stack, rest)?;
     let (_, rest) = open(DEEPEST, Sign::LeftBrace, rest)?;
@@ -143,5 +157,9 @@ pub fn file(alloc: Global, tokens: &[Lexed]) -> Result<File, Fault>
     if !rest.is_empty() {
         return Err(Fault::Refused(rest.len()));
     }
-    Ok(File { layers, places })
+    Ok(File {
+        layers,
+        places,
+        library,
+    })
 }

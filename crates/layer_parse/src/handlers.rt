@@ -1,9 +1,10 @@
 //! Readers of handlers.
-ghost use Rattle.std.specs.Prelude.{◌≡◌, ◌<◌, ◌≤◌, [], ◌∷◌, length, map, IfOk};
+ghost use Rattle.std.specs.Prelude.{◌≡◌, ◌<◌, ◌≤◌, [], ◌∷◌, length, map, All, IfOk};
 ghost use Rattle.std.specs.Option.{option_map};
 ghost use Rattle.layer_ast.specs.Print as print;
-ghost use Rattle.layer_ast.specs.Print.{direction_sign};
-ghost use Rattle.layer_ast.specs.View.{expression_tree, popped_tree, handler_tree};
+ghost use Rattle.layer_ast.specs.Printed.{direction_sign};
+ghost use Rattle.layer_ast.specs.View.{expected_tree, popped_tree, handler_tree};
+ghost use Rattle.layer_parse.specs.FirstForm.{IsFirstFormExpected, IsFirstFormHandler};
 ghost use Rattle.layer_parse.specs.Machine.{a_popped, a_common, a_handler, handlers as more_handlers};
 ghost use Rattle.layer_parse.specs.Reading.{Parses, SeesPart};
 
@@ -11,7 +12,7 @@ use crate::expressions::expression;
 use crate::names::{names, some_names};
 use crate::readers::{Fault, close, kind, name, open, past, read};
 use crate::statements::block;
-use layer_ast::{Dir, Expression, Handler, Lexed, Popped, Sign, Token};
+use layer_ast::{Dir, Expected, Handler, Lexed, Popped, Sign, Token};
 use std::alloc::Global;
 
 /// Reads handlers as long as one begins.
@@ -20,7 +21,8 @@ pub fn handlers(
     room: u32,
     tokens: &[Lexed],
 ) -> Result<(Vec<Handler>, &[Lexed]), Fault>
-    ensures { Parses print.handlers (λ v. map handler_tree v.items) more_handlers room tokens.now result }
+    ensures read { Parses print.handlers (λ v. map handler_tree v.items) more_handlers room tokens.now result }
+    ensures form { IfOk result (λ r. All IsFirstFormHandler (map handler_tree r.0.items)) }
 {
     let mut all = Vec::new(alloc);
     let mut rest = tokens;
@@ -44,6 +46,7 @@ fn begins_handler(tokens: &[Lexed]) -> bool
 
 fn handler(alloc: Global, room: u32, tokens: &[Lexed]) -> Result<(Handler, &[Lexed]), Fault>
     ensures read { Parses print.handler handler_tree a_handler room tokens.now result }
+    ensures form { IfOk result (λ r. IsFirstFormHandler (handler_tree r.0)) }
     ensures shorter { IfOk result (λ r. length r.1.now < length tokens.now) }
 {
     let Some((first, rest)) = tokens.split_first() else {
@@ -67,6 +70,7 @@ fn handling(
 ) -> Result<(Handler, &[Lexed]), Fault>
     requires { first.token ≡ Token.Sign (direction_sign direction) }
     ensures read { Parses print.handler handler_tree a_handler room (first ∷ tokens.now) result }
+    ensures form { IfOk result (λ r. IsFirstFormHandler (handler_tree r.0)) }
     ensures shorter { IfOk result (λ r. length r.1.now ≤ length tokens.now) }
 {
     let (kind, rest) = kind(tokens)?;
@@ -74,7 +78,7 @@ fn handling(
     let (names, rest) = names(alloc, rest)?;
     let rest = close(Sign::RightParen, rest)?;
     let (popped, rest) = popped(alloc, room, rest)?;
-    let (common, rest) = common(alloc, room, rest)?;
+    let (expected, rest) = expected(alloc, room, rest)?;
     let (block, rest) = block(alloc, room, rest)?;
     let at = first.at;
     Ok((
@@ -84,7 +88,7 @@ fn handling(
             kind,
             names,
             popped,
-            common,
+            expected,
             block,
         },
         rest,
@@ -106,16 +110,13 @@ fn popped(alloc: Global, room: u32, tokens: &[Lexed]) -> Result<(Option<Popped>,
 }
 
 /// Reads what a handler says is common, where it does.
-fn common(
-    alloc: Global,
-    room: u32,
-    tokens: &[Lexed],
-) -> Result<(Option<Expression>, &[Lexed]), Fault>
-    ensures { Parses print.common (option_map expression_tree) a_common room tokens.now result }
+fn expected(alloc: Global, room: u32, tokens: &[Lexed]) -> Result<(Expected, &[Lexed]), Fault>
+    ensures read { Parses print.expected expected_tree a_common room tokens.now result }
+    ensures form { IfOk result (λ r. IsFirstFormExpected (expected_tree r.0)) }
 {
     let Some(rest) = past(Sign::Common, tokens) else {
-        return Ok((None, tokens));
+        return Ok((Expected::Always, tokens));
     };
-    let (value, rest) = expression(alloc, room, rest)?;
-    Ok((Some(value), rest))
+    let (condition, rest) = expression(alloc, room, rest)?;
+    Ok((Expected::Common(condition), rest))
 }

@@ -84,6 +84,8 @@ stack { cnt; }
         let file = parse(rt.alloc(), COUNTER)?;
         assert_eq!(rt; file.layers.len(), 1);
         assert_eq!(rt; file.places.len(), 1);
+        assert_eq!(rt; file.places[0].given.len(), 0);
+        assert_eq!(rt; file.library.len(), 0);
         assert_eq!(rt; file.layers[0].declarations.len(), 3);
         assert_eq!(rt; file.layers[0].handlers.len(), 2);
         Ok(())
@@ -91,13 +93,17 @@ stack { cnt; }
 
     #[test]
     fn refuses_what_spells_no_file(rt: HostRuntime) -> Result<(), Fail> {
-        let texts: [&[u8]; 6] = [
+        let texts: [&[u8]; 10] = [
             b"",
             b"stack { }",
             b"stack { layer; }",
             b"stack { a; } }",
             b"layer a { state int 012; } stack { a; }",
             b"stack { a; } # the end\n!",
+            b"stack { a(k = 1); }",
+            b"layer a { param k = 1; } stack { a; }",
+            b"layer a { header num(seq) ends; } stack { a; }",
+            b"layer a { down Cast(p, m) { let x = 1; } } stack { a; }",
         ];
         for text in texts {
             assert_eq!(rt; parse(rt.alloc(), text).err(), Some(ParseError::Later));

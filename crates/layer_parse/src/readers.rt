@@ -1,6 +1,7 @@
 //! Readers of single tokens, and what every reader says.
-ghost use Rattle.std.specs.Prelude.{◌≡◌, suc};
-ghost use Rattle.layer_ast.specs.Print.{plain, name as name_token, kind as kind_token, operator_sign};
+ghost use Rattle.std.specs.Prelude.{◌≡◌, suc, IfOk};
+ghost use Rattle.layer_ast.specs.Printed.{plain, name as name_token, kind as kind_token, operator_sign};
+ghost use Rattle.layer_parse.specs.FirstForm.{IsFirstFormOperator};
 ghost use Rattle.layer_parse.specs.Machine.{is_sign as has_sign, a_name, a_kind, an_operator};
 ghost use Rattle.layer_parse.specs.Reading.{ParsesOne, ParsesSign, ParsesOpening, SeesSign, EntersBracket, IsPlain, IsOpening, IsClosing};
 ghost use Rattle.layer_parse.specs.declared.readers.Fault.TheVariants.{Memory};
@@ -151,7 +152,8 @@ pub fn kind(tokens: &[Lexed]) -> Result<(Kind, &[Lexed]), Fault>
 /// Reads an operator.
 #[tactic(auto, unfolding(layer_ast::specs::Spells::Fits))]
 pub fn operator(tokens: &[Lexed]) -> Result<(Operator, &[Lexed]), Fault>
-    ensures { ParsesOne (λ o. plain (operator_sign o)) an_operator tokens.now result }
+    ensures read { ParsesOne (λ o. plain (operator_sign o)) an_operator tokens.now result }
+    ensures form { IfOk result (λ r. IsFirstFormOperator r.0) }
 {
     let Some((first, rest)) = tokens.split_first() else {
         return Err(Fault::Refused(0));

@@ -1,9 +1,10 @@
 //! Readers of statements and blocks.
-ghost use Rattle.std.specs.Prelude.{◌≡◌, ◌+◌, ◌<◌, ◌≤◌, [], ◌∷◌, length, IfOk};
+ghost use Rattle.std.specs.Prelude.{◌≡◌, ◌+◌, ◌<◌, ◌≤◌, [], ◌∷◌, length, IfOk, IfSome};
 ghost use Rattle.std.specs.Option.{option_map};
 ghost use Rattle.layer_ast.specs.Print as print;
-ghost use Rattle.layer_ast.specs.Print.{direction_sign};
+ghost use Rattle.layer_ast.specs.Printed.{direction_sign};
 ghost use Rattle.layer_ast.specs.View.{pushed_tree, statement_tree, statement_trees, block_tree};
+ghost use Rattle.layer_parse.specs.FirstForm.{IsFirstFormPushed, IsFirstFormStatement, IsFirstFormBlock};
 ghost use Rattle.layer_parse.specs.Machine.{a_pushed, a_statement, statements as more_statements, a_block};
 ghost use Rattle.layer_parse.specs.Reading.{Parses, ParsesAll, SeesPart};
 
@@ -14,7 +15,8 @@ use std::alloc::Global;
 
 /// Reads statements in braces.
 pub fn block(alloc: Global, room: u32, tokens: &[Lexed]) -> Result<(Block, &[Lexed]), Fault>
-    ensures { ParsesAll print.block block_tree a_block room tokens.now result }
+    ensures read { ParsesAll print.block block_tree a_block room tokens.now result }
+    ensures form { IfOk result (λ r. IsFirstFormBlock (block_tree r.0)) }
 {
     let (inside, rest) = open(room, Sign::LeftBrace, tokens)?;
     let (statements, rest) = statements(alloc, inside, rest)?;
@@ -28,7 +30,8 @@ fn statements(
     room: u32,
     tokens: &[Lexed],
 ) -> Result<(Vec<Statement>, &[Lexed]), Fault>
-    ensures { Parses print.statements (λ v. statement_trees v.items) more_statements room tokens.now result }
+    ensures read { Parses print.statements (λ v. statement_trees v.items) more_statements room tokens.now result }
+    ensures form { IfOk result (λ r. IsFirstFormBlock (statement_trees r.0.items)) }
 {
     let mut all = Vec::new(alloc);
     let mut rest = tokens;
@@ -52,6 +55,7 @@ fn begins_statement(tokens: &[Lexed]) -> bool
 
 fn statement(alloc: Global, room: u32, tokens: &[Lexed]) -> Result<(Statement, &[Lexed]), Fault>
     ensures read { Parses print.statement statement_tree a_statement room tokens.now result }
+    ensures form { IfOk result (λ r. IsFirstFormStatement (statement_tree r.0)) }
     ensures shorter { IfOk result (λ r. length r.1.now < length tokens.now) }
 {
     let Some((first, rest)) = tokens.split_first() else {
@@ -66,7 +70,7 @@ fn statement(alloc: Global, room: u32, tokens: &[Lexed]) -> Result<(Statement, &
 }
 
 /// Reads an assignment from behind its first word.
-#[tactic(auto, using(crate::proofs::Fit::fits_first))]
+#[tactic(auto, using(crate::proofs::Fit::fits_first, crate::proofs::Views::set_tree))]
 fn set(
     alloc: Global,
     room: u32,
@@ -75,6 +79,7 @@ fn set(
 ) -> Result<(Statement, &[Lexed]), Fault>
     requires { first.token ≡ Token.Sign Sign.Set }
     ensures read { Parses print.statement statement_tree a_statement room (first ∷ tokens.now) result }
+    ensures form { IfOk result (λ r. IsFirstFormStatement (statement_tree r.0)) }
     ensures shorter { IfOk result (λ r. length r.1.now ≤ length tokens.now) }
 {
     let (name, rest) = read!(name(tokens));
@@ -95,7 +100,7 @@ fn set(
 }
 
 /// Reads an emission from behind its first word.
-#[tactic(auto, using(crate::proofs::Fit::fits_first))]
+#[tactic(auto, using(crate::proofs::Fit::fits_first, crate::proofs::Views::emit_tree))]
 fn emission(
     alloc: Global,
     room: u32,
@@ -105,6 +110,7 @@ fn emission(
 ) -> Result<(Statement, &[Lexed]), Fault>
     requires { first.token ≡ Token.Sign (direction_sign direction) }
     ensures read { Parses print.statement statement_tree a_statement room (first ∷ tokens.now) result }
+    ensures form { IfOk result (λ r. IsFirstFormStatement (statement_tree r.0)) }
     ensures shorter { IfOk result (λ r. length r.1.now ≤ length tokens.now) }
 {
     let (kind, rest) = kind(tokens)?;
@@ -128,7 +134,8 @@ fn emission(
 
 /// Reads the header that an emission puts on, where it does.
 fn pushed(alloc: Global, room: u32, tokens: &[Lexed]) -> Result<(Option<Pushed>, &[Lexed]), Fault>
-    ensures { Parses print.pushed (option_map pushed_tree) a_pushed room tokens.now result }
+    ensures read { Parses print.pushed (option_map pushed_tree) a_pushed room tokens.now result }
+    ensures form { IfOk result (λ r. IfSome (option_map pushed_tree r.0) IsFirstFormPushed) }
 {
     let Some(rest) = past(Sign::With, tokens) else {
         return Ok((None, tokens));

@@ -11,8 +11,8 @@ ghost use Rattle.layer_resolve.specs.Answer.{Answers};
 
 use crate::error::ResolveError;
 use crate::words::{all_different, count, is_among, is_same, words};
-use layer_ast::{Declaration, Names, Shape, Word};
 use first_mean::{Cell, Form, HeaderForm};
+use layer_ast::{Declaration, Names, Shape, Word};
 use std::alloc::{AllocError, Global};
 use std::marker::Model;
 

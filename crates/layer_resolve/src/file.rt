@@ -10,8 +10,8 @@ use crate::declared::Declared;
 use crate::error::ResolveError;
 use crate::handler::{all_apart, handlers};
 use crate::words::is_same;
-use layer_ast::{File, Word};
 use first_mean::{Handler, Layer};
+use layer_ast::{File, Word};
 use std::alloc::Global;
 
 /// The most handlers of a layer.

@@ -16,8 +16,8 @@ use crate::number::number;
 use crate::scope::Scope;
 use crate::statement::{block, is_cast};
 use crate::words::count;
-use layer_ast::{Dir, Kind, Popped};
 use first_mean::{Expression, Handler};
+use layer_ast::{Dir, Kind, Popped};
 use std::alloc::Global;
 
 /// The tag of the header that a handler going up takes off.

@@ -9,8 +9,8 @@ ghost use Rattle.layer_resolve.specs.Answer.{Answers};
 
 use crate::error::ResolveError;
 use crate::scope::Scope;
-use layer_ast::Name;
 use first_mean::{Expression, Form, Operator};
+use layer_ast::Name;
 use std::alloc::Global;
 
 fn operator(written: layer_ast::Operator) -> Operator

@@ -10,8 +10,8 @@ ghost use Rattle.layer_resolve.specs.Answer.{Answers};
 use crate::error::ResolveError;
 use crate::number::number;
 use crate::scope::Scope;
-use layer_ast::{Arguments, Block, Dir, Kind, Name, Pushed};
 use first_mean::{Expression, FieldExpressions, Form, Statement};
+use layer_ast::{Arguments, Block, Dir, Kind, Name, Pushed};
 use std::alloc::Global;
 
 /// Whether a kind is the one that is built so far.

@@ -21,10 +21,14 @@ up_cast = record {
   popped = None;
   expected = expected.always;
   block = trees (
-      set (at 4 5) (name "got" 4 9) (Some (named_at "o" 4 13)) (binary (at 4 18) (element (name "got" 4 19) (named_at "o" 4 23)) Add (number (at 4 28) 1))
+      set (at 4 5) (name "got" 4 9) (Some (named_at "o" 4 13))
+      (binary (at 4 18) (element (name "got" 4 19) (named_at "o" 4 23)) Add (number (at 4 28) 1))
       ∷ emit (at 5 5) Up kind.Cast (arguments (value (named_at "o" 5 13)) (value (named_at "m" 5 16) ∷ [])) None
-      ∷ when (at 6 5) Else (binary (at 6 13) (binary (at 6 14) (element (name "got" 6 15) (named_at "o" 6 19)) BitAnd (number (at 6 24) 15)) Equal (number (at 6 31) 0)) (trees (
-      emit (at 6 36) Up kind.Ack (arguments (value (named_at "o" 6 43)) (value (element (name "got" 6 46) (named_at "o" 6 50)) ∷ [])) None
+      ∷ when (at 6 5) Else (binary (at 6 13)
+      (binary (at 6 14) (element (name "got" 6 15) (named_at "o" 6 19)) BitAnd (number (at 6 24) 15)) Equal
+      (number (at 6 31) 0)) (trees (
+      emit (at 6 36) Up kind.Ack
+      (arguments (value (named_at "o" 6 43)) (value (element (name "got" 6 46) (named_at "o" 6 50)) ∷ [])) None
       ∷ []))
       ∷ []);
 }

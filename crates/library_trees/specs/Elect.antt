@@ -22,7 +22,10 @@ up_suspect = record {
   expected = expected.always;
   block = trees (
       emit (at 3 5) Up kind.Suspect (arguments (value (named_at "s" 3 16)) []) None
-      ∷ when (at 4 5) First (binary (at 4 8) (apply (at 4 9) Lowest (binary (at 4 16) (binary (at 4 17) (apply (at 4 18) Bit (members (at 4 22))) Subtract (number (at 4 27) 1)) BitXor (named_at "s" 4 32))) Equal (me (at 4 39))) (trees (
+      ∷ when (at 4 5) First
+      (binary (at 4 8) (apply (at 4 9) Lowest
+      (binary (at 4 16) (binary (at 4 17) (apply (at 4 18) Bit (members (at 4 22))) Subtract (number (at 4 27) 1)) BitXor
+      (named_at "s" 4 32))) Equal (me (at 4 39))) (trees (
       emit (at 4 45) Up kind.Elect (arguments (value (named_at "s" 4 54)) []) None
       ∷ []))
       ∷ []);

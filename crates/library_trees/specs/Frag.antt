@@ -23,18 +23,24 @@ down_cast = record {
   popped = None;
   expected = expected.always;
   block = trees (
-      choose (at 9 5) First (binary (at 9 8) (size (at 9 9) (bare (name "m" 9 14))) LessOrEqual (named_at "piece" 9 20)) (trees (
+      choose (at 9 5) First (binary (at 9 8) (size (at 9 9) (bare (name "m" 9 14))) LessOrEqual (named_at "piece" 9 20))
+      (trees (
       emit (at 9 29) Down kind.Cast (arguments (value (named_at "p" 9 39)) (value (named_at "m" 9 42) ∷ [])) None
       ∷ [])) (trees (
       set (at 11 7) (name "from" 11 11) None (number (at 11 18) 0)
       ∷ each (at 12 7) (name "i" 12 12) (number (at 12 20) 7) (fixed (at 12 26) 7) (trees (
-      when (at 13 9) First (binary (at 13 12) (size (at 13 13) (bare (name "m" 13 18))) Greater (binary (at 13 23) (named_at "from" 13 24) Add (named_at "piece" 13 31))) (trees (
-      emit (at 14 11) Down kind.Cast (arguments (value (named_at "p" 14 21)) (content (cut (at 14 24) (bare (name "m" 14 28)) (named_at "from" 14 31) (named_at "piece" 14 37)) ∷ []))
+      when (at 13 9) First (binary (at 13 12) (size (at 13 13) (bare (name "m" 13 18))) Greater
+      (binary (at 13 23) (named_at "from" 13 24) Add (named_at "piece" 13 31))) (trees (
+      emit (at 14 11) Down kind.Cast
+      (arguments (value (named_at "p" 14 21))
+      (content (cut (at 14 24) (bare (name "m" 14 28)) (named_at "from" 14 31) (named_at "piece" 14 37)) ∷ []))
       (pushed_as (name "some" 14 50) [])
       ∷ set (at 15 11) (name "from" 15 15) None (binary (at 15 22) (named_at "from" 15 23) Add (named_at "piece" 15 30))
       ∷ []))
       ∷ []))
-      ∷ emit (at 18 7) Down kind.Cast (arguments (value (named_at "p" 18 17)) (content (tail (at 18 20) (bare (name "m" 18 25)) (named_at "from" 18 28)) ∷ []))
+      ∷ emit (at 18 7) Down kind.Cast
+      (arguments (value (named_at "p" 18 17))
+      (content (tail (at 18 20) (bare (name "m" 18 25)) (named_at "from" 18 28)) ∷ []))
       (pushed_as (name "last" 18 40) [])
       ∷ []))
       ∷ []);
@@ -65,10 +71,14 @@ up_cast_last = record {
   expected = expected.rare;
   block = trees (
       push (at 23 5) (queue (name "whole" 23 10)) (arguments (value (named_at "m" 23 17)) []) none
-      ∷ each (at 24 5) (name "i" 24 10) (rows (at 24 18) (queue_at (name "parts" 24 22) (named_at "o" 24 28))) (fixed (at 24 36) 8) (trees (
+      ∷ each (at 24 5) (name "i" 24 10) (rows (at 24 18) (queue_at (name "parts" 24 22) (named_at "o" 24 28)))
+      (fixed (at 24 36) 8) (trees (
       take (at 25 7) (queue (name "whole" 25 12)) (names (name "w" 25 19) []) (trees (
       push (at 26 9) (queue (name "whole" 26 14))
-      (arguments (content (join (at 26 21) (built (held (at 26 26) (queue_at (name "parts" 26 31) (named_at "o" 26 37)) (binary (at 26 41) (binary (at 26 42) (rows (at 26 43) (queue_at (name "parts" 26 47) (named_at "o" 26 53))) Subtract (number (at 26 59) 1)) Subtract (named_at "i" 26 64)))) (bare (name "w" 26 69)))) []) none
+      (arguments (content (join (at 26 21)
+      (built (held (at 26 26) (queue_at (name "parts" 26 31) (named_at "o" 26 37))
+      (binary (at 26 41) (binary (at 26 42) (rows (at 26 43) (queue_at (name "parts" 26 47) (named_at "o" 26 53))) Subtract
+      (number (at 26 59) 1)) Subtract (named_at "i" 26 64)))) (bare (name "w" 26 69)))) []) none
       ∷ [])) none
       ∷ []))
       ∷ take (at 29 5) (queue (name "whole" 29 10)) (names (name "w" 29 17) []) (trees (
@@ -88,8 +98,10 @@ layer = record {
   declarations =
       param (at 2 3) (name "piece" 2 9) 1024
       ∷ int (at 3 3) (name "from" 3 13) One None
-      ∷ rows_array (at 4 3) (name "parts" 4 15) (fixed (at 4 24) 8) record { first = record { name = name "p" 4 31; sort = sort.Part }; rest = [] }
-      ∷ rows_cell (at 5 3) (name "whole" 5 15) (fixed (at 5 21) 1) record { first = record { name = name "m" 5 28; sort = sort.Msg }; rest = [] }
+      ∷ rows_array (at 4 3) (name "parts" 4 15) (fixed (at 4 24) 8) record
+      { first = record { name = name "p" 4 31; sort = sort.Part }; rest = [] }
+      ∷ rows_cell (at 5 3) (name "whole" 5 15) (fixed (at 5 21) 1) record
+      { first = record { name = name "m" 5 28; sort = sort.Msg }; rest = [] }
       ∷ header (at 6 3) (name "some" 6 10) None Ends
       ∷ header (at 7 3) (name "last" 7 10) None Passes
       ∷ [];

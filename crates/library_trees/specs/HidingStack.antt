@@ -1,9 +1,12 @@
--- A file with a layer that hides the one of the library by its name, and with one of the library at two places.
+-- A file with a layer that hides the one of the library by its name, and with one of the library at two places; and the stack
+-- that it means.
 use Rattle.std.specs.Prelude.{ℕ, List, [], ◌∷◌, ◌++◌, codes}
 use Rattle.layer_ast.specs.Samples.{at}
 use Rattle.layer_ast.specs.Tree.{LayerTree, FileTree}
+use Rattle.layer_mean.specs.Tree as mean
 use Rattle.file_mean.specs.Terms.{name}
 use Rattle.library_trees.specs.Bottom as bottom
+use Rattle.library_trees.specs.OrderStack.{bottom_layer}
 
 -- Its text.
 abbrev pub text : List ℕ
@@ -31,3 +34,11 @@ file = record {
       ∷ [];
   library = bottom.layer ∷ [];
 }
+
+-- The stack that it means: its own layer has no cells, headers and handlers.
+abbrev pub stack : List mean.LayerTree
+stack =
+    bottom_layer
+    ∷ record { name = codes "local"; cells = []; headers = []; handlers = [] }
+    ∷ bottom_layer
+    ∷ []

@@ -23,12 +23,19 @@ up_flushed = record {
   expected = expected.always;
   block = trees (
       each (at 4 5) (name "i" 4 10) (members (at 4 18)) (fixed (at 4 24) 32) (trees (
-      when (at 5 7) First (binary (at 5 10) (binary (at 5 11) (named_at "i" 5 12) NotEqual (me (at 5 17))) And (binary (at 5 25) (binary (at 5 26) (apply (at 5 27) Bit (named_at "i" 5 31)) BitAnd (named_at "s" 5 36)) Equal (number (at 5 42) 0))) (trees (
+      when (at 5 7) First (binary (at 5 10) (binary (at 5 11) (named_at "i" 5 12) NotEqual (me (at 5 17))) And
+      (binary (at 5 25) (binary (at 5 26) (apply (at 5 27) Bit (named_at "i" 5 31)) BitAnd (named_at "s" 5 36)) Equal
+      (number (at 5 42) 0))) (trees (
       emit (at 6 9) Down kind.Send (arguments (value (named_at "i" 6 19)) (content (nothing (at 6 22)) ∷ []))
-      (pushed_as (name "view" 6 36) (value (binary (at 6 41) (binary (at 6 42) (apply (at 6 43) Bit (members (at 6 47))) Subtract (number (at 6 52) 1)) BitXor (named_at "s" 6 57)) ∷ []))
+      (pushed_as (name "view" 6 36)
+      (value (binary (at 6 41) (binary (at 6 42) (apply (at 6 43) Bit (members (at 6 47))) Subtract (number (at 6 52) 1))
+      BitXor (named_at "s" 6 57)) ∷ []))
       ∷ []))
       ∷ []))
-      ∷ emit (at 9 5) Up kind.View (arguments (value (binary (at 9 13) (binary (at 9 14) (apply (at 9 15) Bit (members (at 9 19))) Subtract (number (at 9 24) 1)) BitXor (named_at "s" 9 29))) []) None
+      ∷ emit (at 9 5) Up kind.View
+      (arguments (value (binary (at 9 13)
+      (binary (at 9 14) (apply (at 9 15) Bit (members (at 9 19))) Subtract (number (at 9 24) 1)) BitXor
+      (named_at "s" 9 29))) []) None
       ∷ []);
 }
 

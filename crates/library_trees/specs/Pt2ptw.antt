@@ -22,8 +22,10 @@ down_send = record {
   popped = None;
   expected = expected.always;
   block = trees (
-      choose (at 7 5) First (binary (at 7 8) (element (name "used" 7 9) (named_at "p" 7 14)) Less (named_at "window" 7 19)) (trees (
-      set (at 7 29) (name "used" 7 33) (Some (named_at "p" 7 38)) (binary (at 7 43) (element (name "used" 7 44) (named_at "p" 7 49)) Add (number (at 7 54) 1))
+      choose (at 7 5) First (binary (at 7 8) (element (name "used" 7 9) (named_at "p" 7 14)) Less (named_at "window" 7 19))
+      (trees (
+      set (at 7 29) (name "used" 7 33) (Some (named_at "p" 7 38))
+      (binary (at 7 43) (element (name "used" 7 44) (named_at "p" 7 49)) Add (number (at 7 54) 1))
       ∷ emit (at 7 58) Down kind.Send (arguments (value (named_at "p" 7 68)) (value (named_at "m" 7 71) ∷ [])) None
       ∷ [])) (trees (
       push (at 8 12) (queue_at (name "wait" 8 17) (named_at "p" 8 22)) (arguments (value (named_at "m" 8 26)) []) none
@@ -41,11 +43,16 @@ up_ack = record {
   popped = None;
   expected = expected.always;
   block = trees (
-      set (at 11 5) (name "used" 11 9) (Some (named_at "p" 11 14)) (binary (at 11 19) (element (name "used" 11 20) (named_at "p" 11 25)) Subtract (binary (at 11 30) (named_at "c" 11 31) Subtract (element (name "got" 11 35) (named_at "p" 11 39))))
+      set (at 11 5) (name "used" 11 9) (Some (named_at "p" 11 14))
+      (binary (at 11 19) (element (name "used" 11 20) (named_at "p" 11 25)) Subtract
+      (binary (at 11 30) (named_at "c" 11 31) Subtract (element (name "got" 11 35) (named_at "p" 11 39))))
       ∷ set (at 12 5) (name "got" 12 9) (Some (named_at "p" 12 13)) (named_at "c" 12 18)
-      ∷ each (at 13 5) (name "i" 13 10) (binary (at 13 18) (named_at "window" 13 19) Subtract (element (name "used" 13 28) (named_at "p" 13 33))) (fixed (at 13 41) 16) (trees (
+      ∷ each (at 13 5) (name "i" 13 10)
+      (binary (at 13 18) (named_at "window" 13 19) Subtract (element (name "used" 13 28) (named_at "p" 13 33)))
+      (fixed (at 13 41) 16) (trees (
       take (at 14 7) (queue_at (name "wait" 14 12) (named_at "p" 14 17)) (names (name "m" 14 21) []) (trees (
-      set (at 14 26) (name "used" 14 30) (Some (named_at "p" 14 35)) (binary (at 14 40) (element (name "used" 14 41) (named_at "p" 14 46)) Add (number (at 14 51) 1))
+      set (at 14 26) (name "used" 14 30) (Some (named_at "p" 14 35))
+      (binary (at 14 40) (element (name "used" 14 41) (named_at "p" 14 46)) Add (number (at 14 51) 1))
       ∷ emit (at 14 55) Down kind.Send (arguments (value (named_at "p" 14 65)) (value (named_at "m" 14 68) ∷ [])) None
       ∷ [])) none
       ∷ []))
@@ -61,7 +68,8 @@ layer = record {
       param (at 2 3) (name "window" 2 9) 16
       ∷ int (at 3 3) (name "used" 3 13) Array None
       ∷ int (at 4 3) (name "got" 4 13) Array None
-      ∷ rows_array (at 5 3) (name "wait" 5 15) (fixed (at 5 23) 32) record { first = record { name = name "m" 5 31; sort = sort.Msg }; rest = [] }
+      ∷ rows_array (at 5 3) (name "wait" 5 15) (fixed (at 5 23) 32) record
+      { first = record { name = name "m" 5 31; sort = sort.Msg }; rest = [] }
       ∷ [];
   handlers = down_send ∷ up_ack ∷ [];
 }

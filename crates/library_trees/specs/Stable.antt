@@ -40,7 +40,8 @@ up_send_row = record {
       set (at 7 5) (name "has" 7 9) (Some (named_at "o" 7 13)) (named_at "c" 7 18)
       ∷ set (at 8 5) (name "low" 8 9) None (named_at "c" 8 15)
       ∷ each (at 9 5) (name "i" 9 10) (members (at 9 18)) (fixed (at 9 24) 32) (trees (
-      when (at 10 7) First (binary (at 10 10) (binary (at 10 11) (named_at "i" 10 12) NotEqual (me (at 10 17))) And (binary (at 10 25) (element (name "has" 10 26) (named_at "i" 10 30)) Less (named_at "low" 10 35))) (trees (
+      when (at 10 7) First (binary (at 10 10) (binary (at 10 11) (named_at "i" 10 12) NotEqual (me (at 10 17))) And
+      (binary (at 10 25) (element (name "has" 10 26) (named_at "i" 10 30)) Less (named_at "low" 10 35))) (trees (
       set (at 10 43) (name "low" 10 47) None (element (name "has" 10 53) (named_at "i" 10 57))
       ∷ []))
       ∷ []))

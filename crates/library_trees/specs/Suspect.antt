@@ -31,7 +31,9 @@ up_timer = record {
       set (at 17 31) (name "heard" 17 35) (Some (named_at "i" 17 41)) (named_at "t" 17 46)
       ∷ []))
       ∷ []))
-      ∷ when (at 19 5) First (binary (at 19 8) (named_at "t" 19 9) GreaterOrEqual (binary (at 19 14) (named_at "told" 19 15) Add (named_at "every" 19 22))) (trees (
+      ∷ when (at 19 5) First
+      (binary (at 19 8) (named_at "t" 19 9) GreaterOrEqual
+      (binary (at 19 14) (named_at "told" 19 15) Add (named_at "every" 19 22))) (trees (
       set (at 20 7) (name "told" 20 11) None (named_at "t" 20 18)
       ∷ each (at 21 7) (name "i" 21 12) (members (at 21 20)) (fixed (at 21 26) 32) (trees (
       when (at 21 31) First (binary (at 21 34) (named_at "i" 21 35) NotEqual (me (at 21 40))) (trees (
@@ -42,14 +44,18 @@ up_timer = record {
       ∷ []))
       ∷ set (at 23 5) (name "was" 23 9) None (named_at "bad" 23 15)
       ∷ each (at 24 5) (name "i" 24 10) (members (at 24 18)) (fixed (at 24 24) 32) (trees (
-      when (at 25 7) First (binary (at 25 10) (binary (at 25 11) (named_at "i" 25 12) NotEqual (me (at 25 17))) And (binary (at 25 25) (named_at "t" 25 26) Greater (binary (at 25 30) (element (name "heard" 25 31) (named_at "i" 25 37)) Add (named_at "after" 25 42)))) (trees (
-      set (at 25 53) (name "bad" 25 57) None (binary (at 25 63) (named_at "bad" 25 64) BitOr (apply (at 25 70) Bit (named_at "i" 25 74)))
+      when (at 25 7) First (binary (at 25 10) (binary (at 25 11) (named_at "i" 25 12) NotEqual (me (at 25 17))) And
+      (binary (at 25 25) (named_at "t" 25 26) Greater
+      (binary (at 25 30) (element (name "heard" 25 31) (named_at "i" 25 37)) Add (named_at "after" 25 42)))) (trees (
+      set (at 25 53) (name "bad" 25 57) None
+      (binary (at 25 63) (named_at "bad" 25 64) BitOr (apply (at 25 70) Bit (named_at "i" 25 74)))
       ∷ []))
       ∷ []))
       ∷ when (at 27 5) First (binary (at 27 8) (named_at "bad" 27 9) NotEqual (named_at "was" 27 16)) (trees (
       emit (at 27 23) Up kind.Suspect (arguments (value (named_at "bad" 27 34)) []) None
       ∷ []))
-      ∷ emit (at 28 5) Down kind.Timer (arguments (value (binary (at 28 16) (named_at "t" 28 17) Add (named_at "every" 28 21))) []) None
+      ∷ emit (at 28 5) Down kind.Timer
+      (arguments (value (binary (at 28 16) (named_at "t" 28 17) Add (named_at "every" 28 21))) []) None
       ∷ emit (at 29 5) Up kind.Timer (arguments (value (named_at "t" 29 14)) []) None
       ∷ []);
 }
@@ -78,8 +84,11 @@ up_send_bye = record {
   popped = popped_as (name "bye" 32 22) [];
   expected = expected.rare;
   block = trees (
-      when (at 33 5) First (binary (at 33 8) (binary (at 33 9) (named_at "bad" 33 10) BitAnd (apply (at 33 16) Bit (named_at "o" 33 20))) Equal (number (at 33 27) 0)) (trees (
-      set (at 33 32) (name "bad" 33 36) None (binary (at 33 42) (named_at "bad" 33 43) BitOr (apply (at 33 49) Bit (named_at "o" 33 53)))
+      when (at 33 5) First (binary (at 33 8)
+      (binary (at 33 9) (named_at "bad" 33 10) BitAnd (apply (at 33 16) Bit (named_at "o" 33 20))) Equal
+      (number (at 33 27) 0)) (trees (
+      set (at 33 32) (name "bad" 33 36) None
+      (binary (at 33 42) (named_at "bad" 33 43) BitOr (apply (at 33 49) Bit (named_at "o" 33 53)))
       ∷ emit (at 33 58) Up kind.Suspect (arguments (value (named_at "bad" 33 69)) []) None
       ∷ []))
       ∷ []);

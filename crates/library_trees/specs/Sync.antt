@@ -27,7 +27,9 @@ up_elect = record {
       ∷ set (at 11 5) (name "boss" 11 9) None (me (at 11 16))
       ∷ set (at 12 5) (name "bad" 12 9) None (named_at "s" 12 15)
       ∷ each (at 13 5) (name "i" 13 10) (members (at 13 18)) (fixed (at 13 24) 32) (trees (
-      when (at 14 7) First (binary (at 14 10) (binary (at 14 11) (named_at "i" 14 12) NotEqual (me (at 14 17))) And (binary (at 14 25) (binary (at 14 26) (apply (at 14 27) Bit (named_at "i" 14 31)) BitAnd (named_at "s" 14 36)) Equal (number (at 14 42) 0))) (trees (
+      when (at 14 7) First (binary (at 14 10) (binary (at 14 11) (named_at "i" 14 12) NotEqual (me (at 14 17))) And
+      (binary (at 14 25) (binary (at 14 26) (apply (at 14 27) Bit (named_at "i" 14 31)) BitAnd (named_at "s" 14 36)) Equal
+      (number (at 14 42) 0))) (trees (
       emit (at 14 48) Down kind.Send (arguments (value (named_at "i" 14 58)) (content (nothing (at 14 61)) ∷ []))
       (pushed_as (name "block" 14 75) (value (named_at "s" 14 81) ∷ []))
       ∷ []))
@@ -64,12 +66,16 @@ down_block_ok = record {
   block = trees (
       set (at 20 5) (name "blocked" 20 9) None (number (at 20 19) 1)
       ∷ choose (at 21 5) First (binary (at 21 8) (named_at "boss" 21 9) Equal (me (at 21 17))) (trees (
-      set (at 21 23) (name "ready" 21 27) None (binary (at 21 35) (named_at "ready" 21 36) BitOr (apply (at 21 44) Bit (me (at 21 48))))
+      set (at 21 23) (name "ready" 21 27) None
+      (binary (at 21 35) (named_at "ready" 21 36) BitOr (apply (at 21 44) Bit (me (at 21 48))))
       ∷ [])) (trees (
       emit (at 22 12) Down kind.Send (arguments (value (named_at "boss" 22 22)) (content (nothing (at 22 28)) ∷ []))
       (pushed_as (name "flush" 22 42) [])
       ∷ []))
-      ∷ when (at 23 5) First (binary (at 23 8) (binary (at 23 9) (named_at "coord" 23 10) Equal (number (at 23 19) 1)) And (binary (at 23 26) (binary (at 23 27) (named_at "ready" 23 28) BitOr (named_at "bad" 23 36)) Equal (binary (at 23 44) (apply (at 23 45) Bit (members (at 23 49))) Subtract (number (at 23 54) 1)))) (trees (
+      ∷ when (at 23 5) First
+      (binary (at 23 8) (binary (at 23 9) (named_at "coord" 23 10) Equal (number (at 23 19) 1)) And
+      (binary (at 23 26) (binary (at 23 27) (named_at "ready" 23 28) BitOr (named_at "bad" 23 36)) Equal
+      (binary (at 23 44) (apply (at 23 45) Bit (members (at 23 49))) Subtract (number (at 23 54) 1)))) (trees (
       emit (at 23 61) Up kind.Flushed (arguments (value (named_at "bad" 23 72)) []) None
       ∷ []))
       ∷ []);
@@ -85,8 +91,12 @@ up_send_flush = record {
   popped = popped_as (name "flush" 25 22) [];
   expected = expected.rare;
   block = trees (
-      set (at 26 5) (name "ready" 26 9) None (binary (at 26 17) (named_at "ready" 26 18) BitOr (apply (at 26 26) Bit (named_at "o" 26 30)))
-      ∷ when (at 27 5) First (binary (at 27 8) (binary (at 27 9) (named_at "coord" 27 10) Equal (number (at 27 19) 1)) And (binary (at 27 26) (binary (at 27 27) (named_at "ready" 27 28) BitOr (named_at "bad" 27 36)) Equal (binary (at 27 44) (apply (at 27 45) Bit (members (at 27 49))) Subtract (number (at 27 54) 1)))) (trees (
+      set (at 26 5) (name "ready" 26 9) None
+      (binary (at 26 17) (named_at "ready" 26 18) BitOr (apply (at 26 26) Bit (named_at "o" 26 30)))
+      ∷ when (at 27 5) First
+      (binary (at 27 8) (binary (at 27 9) (named_at "coord" 27 10) Equal (number (at 27 19) 1)) And
+      (binary (at 27 26) (binary (at 27 27) (named_at "ready" 27 28) BitOr (named_at "bad" 27 36)) Equal
+      (binary (at 27 44) (apply (at 27 45) Bit (members (at 27 49))) Subtract (number (at 27 54) 1)))) (trees (
       emit (at 27 61) Up kind.Flushed (arguments (value (named_at "bad" 27 72)) []) None
       ∷ []))
       ∷ []);

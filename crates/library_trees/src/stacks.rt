@@ -19,5 +19,6 @@ pub fn whole_stack()
 
 /// A layer of the file hides the library's of its name, and one that two places name is brought once.
 pub fn hiding_stack()
-    ensures { IsFile hiding.text hiding.file }
+    ensures spelled { IsFile hiding.text hiding.file }
+    ensures means { stack_of hiding.file ≡ hiding.stack }
 {}

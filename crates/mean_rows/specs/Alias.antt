@@ -19,12 +19,12 @@ alias = record {
   cells = cell_of_one (codes "k") 1 ∷ record { name = codes "e"; form = numbers Array (number 0) } ∷ [];
   headers = passing (codes "a") 0 ∷ passing (codes "b") 0 ∷ [];
   handlers = handler Down Cast 0 always (
-    assign 1 (binary BitAnd (element 0 (number 0)) (number 1)) (number 5)
-    ∷ assign 0 (number 0) (binary Add (element 0 (number 0)) (number 1))
-    ∷ branch likely.First (binary Equal (element 1 (number 0)) (number 5))
-    (block (emit (cast_down (local 0) 1 []) ∷ []))
-    (block (emit (cast_down (local 0) 2 []) ∷ [])) ∷ []
-  ) ∷ [];
+      assign 1 (binary BitAnd (element 0 (number 0)) (number 1)) (number 5)
+      ∷ assign 0 (number 0) (binary Add (element 0 (number 0)) (number 1))
+      ∷ branch likely.First (binary Equal (element 1 (number 0)) (number 5))
+      (block (emit (cast_down (local 0) 1 []) ∷ []))
+      (block (emit (cast_down (local 0) 2 []) ∷ [])) ∷ []
+      ) ∷ [];
 }
 
 -- A visit of the layer at the member of rank 0 of 2, with an application's cast.

@@ -22,11 +22,11 @@ counter = record {
   headers = passing (codes "num") 1 ∷ [];
   handlers =
       handler Down Cast 0 always (
-        emit (cast_down (local 0) 1 (element 0 (number 0) ∷ []))
-        ∷ assign 0 (number 0) (binary Add (element 0 (number 0)) (number 1)) ∷ []
+      emit (cast_down (local 0) 1 (element 0 (number 0) ∷ []))
+      ∷ assign 0 (number 0) (binary Add (element 0 (number 0)) (number 1)) ∷ []
       )
       ∷ handler Up Cast 1 (common (binary Equal (local 1) (element 1 (local 0)))) (
-        assign 1 (local 0) (binary Add (local 1) (number 1)) ∷ emit (cast_up (local 0)) ∷ []
+      assign 1 (local 0) (binary Add (local 1) (number 1)) ∷ emit (cast_up (local 0)) ∷ []
       ) ∷ [];
 }
 

@@ -21,11 +21,11 @@ keeper = record {
       ∷ record { name = codes "q"; form = queue 1 (record { numbers = codes "x" ∷ []; message = None }) } ∷ [];
   headers = passing (codes "num") 1 ∷ ending (codes "full") 0 ∷ [];
   handlers = handler Down Cast 0 always (
-    push 1 (number 0) 1 (record { numbers = element 0 (number 0) ∷ []; message = None })
-    (block (emit (cast_of (local 0) nothing 2 []) ∷ []))
-    ∷ assign 0 (number 0) (binary Add (element 0 (number 0)) (number 1))
-    ∷ emit (cast_down (local 0) 1 (element 0 (number 0) ∷ [])) ∷ []
-  ) ∷ [];
+      push 1 (number 0) 1 (record { numbers = element 0 (number 0) ∷ []; message = None })
+      (block (emit (cast_of (local 0) nothing 2 []) ∷ []))
+      ∷ assign 0 (number 0) (binary Add (element 0 (number 0)) (number 1))
+      ∷ emit (cast_down (local 0) 1 (element 0 (number 0) ∷ [])) ∷ []
+      ) ∷ [];
 }
 
 -- The state in which the number is s, and the queue holds the number that it began with.

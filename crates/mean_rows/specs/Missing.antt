@@ -43,10 +43,10 @@ looping below = record {
   cells = cell_of_one (codes "s") 0 ∷ [];
   headers = [];
   handlers = record (handler Up Cast 0 always (
-    each 1 (number below) 3 (block (
-    assign 0 (number 0) (binary Add (element 0 (number 0)) (local 1)) ∷ emit (cast_up (local 1)) ∷ []
-    )) ∷ []
-  )) { numbers = 1 } ∷ [];
+      each 1 (number below) 3 (block (
+      assign 0 (number 0) (binary Add (element 0 (number 0)) (local 1)) ∷ emit (cast_up (local 1)) ∷ []
+      )) ∷ []
+      )) { numbers = 1 } ∷ [];
 }
 
 abbrev pub counted : ℕ → State

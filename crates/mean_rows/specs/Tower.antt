@@ -22,7 +22,7 @@ bottom = record {
   handlers =
       handler Down Cast 0 always (emit (cast_down (local 0) 1 (number 1 ∷ [])) ∷ [])
       ∷ handler Up Cast 1 (common (binary Equal (local 1) (number 1))) (
-        branch likely.First (binary Equal (local 1) (number 1)) (block (emit (cast_up (local 0)) ∷ [])) (block []) ∷ []
+      branch likely.First (binary Equal (local 1) (number 1)) (block (emit (cast_up (local 0)) ∷ [])) (block []) ∷ []
       ) ∷ [];
 }
 
@@ -33,9 +33,9 @@ counting = record {
   cells = cell_of_one (codes "out") 0 ∷ [];
   headers = passing (codes "num") 1 ∷ [];
   handlers = handler Down Cast 0 always (
-    emit (cast_down (local 0) 1 (element 0 (number 0) ∷ []))
-    ∷ assign 0 (number 0) (binary Add (element 0 (number 0)) (number 1)) ∷ []
-  ) ∷ [];
+      emit (cast_down (local 0) 1 (element 0 (number 0) ∷ []))
+      ∷ assign 0 (number 0) (binary Add (element 0 (number 0)) (number 1)) ∷ []
+      ) ∷ [];
 }
 
 -- A layer that gives a member its own casts.
@@ -55,13 +55,13 @@ total = record {
   headers = passing (codes "num") 2 ∷ [];
   handlers =
       handler Down Cast 0 always (
-        emit (cast_down (local 0) 1 (me ∷ element 0 (number 0) ∷ []))
-        ∷ assign 0 (number 0) (binary Add (element 0 (number 0)) (number 1)) ∷ []
+      emit (cast_down (local 0) 1 (me ∷ element 0 (number 0) ∷ []))
+      ∷ assign 0 (number 0) (binary Add (element 0 (number 0)) (number 1)) ∷ []
       )
       ∷ handler Up Cast 1 (common (binary Equal (local 2) (element 1 (number 0)))) (
-        branch likely.First (binary Equal (local 2) (element 1 (number 0)))
-        (block (assign 1 (number 0) (binary Add (element 1 (number 0)) (number 1)) ∷ emit (cast_up (local 1)) ∷ []))
-        (block []) ∷ []
+      branch likely.First (binary Equal (local 2) (element 1 (number 0)))
+      (block (assign 1 (number 0) (binary Add (element 1 (number 0)) (number 1)) ∷ emit (cast_up (local 1)) ∷ []))
+      (block []) ∷ []
       ) ∷ [];
 }
 

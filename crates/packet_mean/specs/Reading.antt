@@ -5,6 +5,7 @@ use denote.Enum.Bare.{sameb}
 use Rattle.msg_core.specs.declared.message.Header.{Header}
 use Rattle.msg_core.specs.declared.packet.Dest.{Dest}
 use Rattle.msg_core.specs.declared.packet.Dest.TheVariants.{All, Rank}
+use Rattle.msg_core.specs.declared.packet.Packet.{Packet}
 use Rattle.msg_core.specs.declared.packet.View.{View}
 use Rattle.layer_ast.specs.contracts.tokens.Kind as kind_row
 use Rattle.layer_mean.specs.Tree.{LayerTree}
@@ -57,6 +58,17 @@ pub record Preamble : Type 0 where
   pub view : View
   pub sender : ℕ
   pub dest : Dest
+
+-- What stands in front of a packet's spelling of a form.
+abbrev pub preamble_of : (form : ℕ) → Packet → Preamble
+preamble_of form packet = record {
+  form = form;
+  group = packet.group;
+  stamp = packet.stamp;
+  view = packet.view;
+  sender = packet.sender;
+  dest = packet.dest;
+}
 
 -- The destination that a byte names.
 abbrev pub dest_of : ℕ → Dest

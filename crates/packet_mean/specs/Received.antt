@@ -45,19 +45,24 @@ packet_of p headers body = record {
   message = record { headers = headers; body = body };
 }
 
--- The packet that bytes spell to a member of a stack with these plans, or the first cause for which they are stray: fewer bytes than
--- a preamble; another form than the two; another group, stamp or view than the member's; a sender that is no other rank of the view;
--- a destination that the member isn't; a short form without the number of a plan of its kind; headers that are cut off or not
--- declared; a body that is too long.
-unfoldable pub received : List LayerTree → List Plan → Here → List ℕ → Result Packet Stray
-received stack plans here bytes = do
-  (p, behind) ← ok_or (preamble bytes) cause.Short
-  _ ← unless ((p.form == full_form) || (p.form == short_form)) cause.Form
+-- The first cause for which what stands in front of a packet isn't meant for a member, if there is one: another group, stamp or view
+-- than the member's; a sender that is no other rank of the view; a destination that the member isn't.
+abbrev pub meant_for : Here → Preamble → Result (Unit {0}) Stray
+meant_for here p = do
   _ ← unless (p.group == here.group) cause.Group
   _ ← unless (p.stamp == here.stamp) cause.Stamp
   _ ← unless (same_view p.view here.view) cause.View
   _ ← unless (nat_lt p.sender (member_count here.view) && not (p.sender == here.rank)) cause.Sender
-  _ ← unless (is_for here.rank p.dest) cause.Dest
+  unless (is_for here.rank p.dest) cause.Dest
+
+-- The packet that bytes spell to a member of a stack with these plans, or the first cause for which they are stray: fewer bytes than
+-- a preamble; another form than the two; that they aren't meant for the member; a short form without the number of a plan of its
+-- kind; headers that are cut off or not declared; a body that is too long.
+unfoldable pub received : List LayerTree → List Plan → Here → List ℕ → Result Packet Stray
+received stack plans here bytes = do
+  (p, behind) ← ok_or (preamble bytes) cause.Short
+  _ ← unless ((p.form == full_form) || (p.form == short_form)) cause.Form
+  _ ← meant_for here p
   (plan, behind) ← ok_or (named_plan plans p behind) cause.Plan
   (headers, body) ← ok_or (headers stack plan behind) cause.Chain
   _ ← unless (nat_le (length body) longest_body) cause.Body

@@ -11,8 +11,8 @@ ghost use Rattle.report_text.specs.Lead.{lead};
 ghost use Rattle.report_text.specs.Lines.{written};
 
 use crate::line::Line;
-use layer_ast::Dir;
 use first_mean::{Cell, Event, Layer};
+use layer_ast::Dir;
 use msg_core::{Fields, Header, Memory, Message, Stray, View};
 use std::alloc::Global;
 use std::rc::Rc;

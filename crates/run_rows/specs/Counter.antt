@@ -27,13 +27,13 @@ GivenTwice =
 abbrev pub Wires : Type 0
 Wires =
     (written (counter ∷ []) 7 3 (hi ∷ script.Give 1 1 ∷ []) layered true false ≡
-        codes "packet 1 0 all cnt.num(0) 6869\n"
-        ++ codes "wire 1 e50000000100000007000000000000000700ff01000000006869\n"
-        ++ codes "deliver 1 cast 0 6869\n" ++ codes "end 2\n")
+    codes "packet 1 0 all cnt.num(0) 6869\n"
+    ++ codes "wire 1 e50000000100000007000000000000000700ff01000000006869\n"
+    ++ codes "deliver 1 cast 0 6869\n" ++ codes "end 2\n")
     × (written (counter ∷ []) 7 3 (hi ∷ script.Give 1 1 ∷ []) bypass true false ≡
-        codes "packet 1 0 all cnt.num(0) 6869\n"
-        ++ codes "wire 1 e60000000100000007000000000000000700ff00000000006869\n"
-        ++ codes "deliver 1 cast 0 6869\n" ++ codes "end 2\n")
+    codes "packet 1 0 all cnt.num(0) 6869\n"
+    ++ codes "wire 1 e60000000100000007000000000000000700ff00000000006869\n"
+    ++ codes "deliver 1 cast 0 6869\n" ++ codes "end 2\n")
 
 -- Two packets given in the wrong order: both gives miss, and each member's application gets what was given.
 abbrev pub swapped : List ScriptEvent

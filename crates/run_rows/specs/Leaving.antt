@@ -14,8 +14,8 @@ quit = record {
   cells = [];
   headers = [];
   handlers = handler Down kind.Leave 0 always (
-    emit (record { direction = Up; kind = kind.View; numbers = number 0 ∷ []; content = None }) ∷ []
-  ) ∷ [];
+      emit (record { direction = Up; kind = kind.View; numbers = number 0 ∷ []; content = None }) ∷ []
+      ) ∷ [];
 }
 
 -- Once it is out, a member refuses what it is given, and is shown to be out.

@@ -5,3 +5,4 @@ pub mod Towers
 pub mod Alias
 pub mod Leaving
 pub mod Generated
+pub mod Views

@@ -18,24 +18,24 @@ cast_in stack mode = written stack 1 2 one_cast mode true true
 abbrev pub ThreePlaces : Type 0
 ThreePlaces =
     (cast_in (bottom ∷ loopback ∷ total ∷ []) layered ≡
-        codes "packet 1 0 all bottom.net(1)/local.none()/total.num(0,0) 61\n"
-        ++ codes "wire 1 e50000000100000001000000000000000300ff010000000100010000000000000000" ++ codes "61\n"
-        ++ codes "deliver 0 cast 0 61\n" ++ codes "end 1\n" ++ codes "visits 4\n")
+    codes "packet 1 0 all bottom.net(1)/local.none()/total.num(0,0) 61\n"
+    ++ codes "wire 1 e50000000100000001000000000000000300ff010000000100010000000000000000" ++ codes "61\n"
+    ++ codes "deliver 0 cast 0 61\n" ++ codes "end 1\n" ++ codes "visits 4\n")
     × (cast_in (bottom ∷ loopback ∷ total ∷ []) bypass ≡
-        codes "packet 1 0 all bottom.net(1)/local.none()/total.num(0,0) 61\n"
-        ++ codes "wire 1 e60000000100000001000000000000000300ff00000000000000000061\n"
-        ++ codes "deliver 0 cast 0 61\n" ++ codes "end 1\n" ++ codes "visits 0\n")
+    codes "packet 1 0 all bottom.net(1)/local.none()/total.num(0,0) 61\n"
+    ++ codes "wire 1 e60000000100000001000000000000000300ff00000000000000000061\n"
+    ++ codes "deliver 0 cast 0 61\n" ++ codes "end 1\n" ++ codes "visits 0\n")
 
 -- The stack of four places: the delivery comes first; 40 bytes in full, and 33 short.
 abbrev pub FourPlaces : Type 0
 FourPlaces =
     (cast_in (bottom ∷ counting ∷ loopback ∷ total ∷ []) layered ≡
-        codes "deliver 0 cast 0 61\n"
-        ++ codes "packet 1 0 all bottom.net(1)/mnak.num(0)/local.none()/total.num(0,0) 61\n"
-        ++ codes "wire 1 e50000000100000001000000000000000300ff" ++ codes "0100000001" ++ codes "0100000000" ++ codes "00"
-        ++ codes "010000000000000000" ++ codes "61\n" ++ codes "end 1\n" ++ codes "visits 5\n")
+    codes "deliver 0 cast 0 61\n"
+    ++ codes "packet 1 0 all bottom.net(1)/mnak.num(0)/local.none()/total.num(0,0) 61\n"
+    ++ codes "wire 1 e50000000100000001000000000000000300ff" ++ codes "0100000001" ++ codes "0100000000" ++ codes "00"
+    ++ codes "010000000000000000" ++ codes "61\n" ++ codes "end 1\n" ++ codes "visits 5\n")
     × (cast_in (bottom ∷ counting ∷ loopback ∷ total ∷ []) bypass ≡
-        codes "deliver 0 cast 0 61\n"
-        ++ codes "packet 1 0 all bottom.net(1)/mnak.num(0)/local.none()/total.num(0,0) 61\n"
-        ++ codes "wire 1 e60000000100000001000000000000000300ff" ++ codes "00" ++ codes "000000000000000000000000" ++ codes "61\n"
-        ++ codes "end 1\n" ++ codes "visits 0\n")
+    codes "deliver 0 cast 0 61\n"
+    ++ codes "packet 1 0 all bottom.net(1)/mnak.num(0)/local.none()/total.num(0,0) 61\n"
+    ++ codes "wire 1 e60000000100000001000000000000000300ff" ++ codes "00" ++ codes "000000000000000000000000" ++ codes "61\n"
+    ++ codes "end 1\n" ++ codes "visits 0\n")

@@ -4,7 +4,6 @@ use Rattle.std.specs.Option.{option_map_or, option_and_then}
 use Rattle.layer_ast.specs.declared.tokens.Dir.{Dir}
 use Rattle.layer_ast.specs.declared.tokens.Dir.TheVariants.{Up, Down}
 use Rattle.layer_ast.specs.declared.tokens.Kind.{Kind}
-use Rattle.layer_mean.specs.Event.{carries}
 use Rattle.layer_mean.specs.Tree.{Carried, part, whole, ExpressionTree, number, binary, apply, pick, MessageTree, message, nothing, held, cut, tail, join, ContentTree, EmissionTree, TakenTree, HandlerTree, LayerTree}
 use Rattle.layer_mean.specs.Value.{is_true, applied, function_of}
 use Rattle.layer_mean.specs.Visit.{handler_for, with_room}
@@ -73,12 +72,8 @@ abbrev pub emission_headers : ℕ → Dir → List DrawnMessage → Option Conte
 emission_headers place dir scope None = Ok None
 emission_headers place dir scope (Some c) = sent_headers place dir c (drawn_message scope c.message)
 
--- The event of a kind, with headers where events of this kind carry a message.
-abbrev pub drawn_event : Kind → Option (List DrawnHeader) → DrawnEvent
-drawn_event kind headers = record { kind = kind; headers = if carries kind then headers else None }
-
 abbrev pub with_sent : Drawing → EmissionTree → Option (List DrawnHeader) → Drawing
-with_sent d e headers = record d { sent = d.sent ++ (e.direction, drawn_event e.kind headers) ∷ [] }
+with_sent d e headers = record d { sent = d.sent ++ (e.direction, record { kind = e.kind; headers = headers }) ∷ [] }
 
 -- The scope with a taken row's message, where it has one.
 abbrev pub with_taken : TakenTree → List DrawnMessage → List DrawnMessage

@@ -8,3 +8,4 @@ pub mod Shape
 pub mod Plans
 pub mod SampleLayers
 pub mod Samples
+pub mod Cases

@@ -105,6 +105,11 @@ KeptShape = shape kept app_cast ≡ Ok (record {
   length = 20;
 })
 
+-- Both are accepted; sixteen casts that waited may go up behind one.
+abbrev pub OrderedAccepted : Type 0
+OrderedAccepted =
+    (accepted ordered ≡ Ok ordered) × (accepted kept ≡ Ok kept) × (largest_weight ordered ≡ 9) × (largest_weight kept ≡ 55)
+
 -- The plans of both stacks: the lowest layer's number is constant.
 abbrev pub OrderedPlans : Type 0
 OrderedPlans = plans_of ordered ≡

@@ -2,6 +2,7 @@
 //! the plans of their packets. The functions here are empty: their contracts are samples, worked out by evaluation.
 #![tactic(auto, unfolding(crate::specs::Shape::shape, layer_ast::specs::Spelling::kinds, layer_mean::specs::Visit::step))]
 
+ghost use Rattle.stack_mean.specs.Cases.{AllCounts, ConstantFields, HugeWeight, PartsAndStored, UnreachedCycles, Unhandled};
 ghost use Rattle.stack_mean.specs.Samples.{
   CounterLengths,
   FanWeights,
@@ -13,6 +14,7 @@ ghost use Rattle.stack_mean.specs.Samples.{
   MissingHandlers,
   NestedJoins,
   NotDrawn,
+  OrderedAccepted,
   OrderedPlans,
   OrderedShape,
   ReturnedHeaders,
@@ -69,6 +71,11 @@ pub fn kept_shape()
     ensures { KeptShape }
 {}
 
+/// Both stacks are accepted.
+pub fn ordered_accepted()
+    ensures { OrderedAccepted }
+{}
+
 /// The plans of the first.
 pub fn ordered_plans()
     ensures { OrderedPlans }
@@ -87,4 +94,34 @@ pub fn counter_lengths()
 /// A missing handler, in each of its cases.
 pub fn missing_handlers()
     ensures { MissingHandlers }
+{}
+
+/// Cycles of events that no run begins with.
+pub fn unreached_cycles()
+    ensures { UnreachedCycles }
+{}
+
+/// A weight above 32 bits.
+pub fn huge_weight()
+    ensures { HugeWeight }
+{}
+
+/// Rare handlers and conditions of common cases.
+pub fn all_counts()
+    ensures { AllCounts }
+{}
+
+/// Header fields that are constant, and that are not.
+pub fn constant_fields()
+    ensures { ConstantFields }
+{}
+
+/// Packets for which the lowest layer has no handler.
+pub fn unhandled()
+    ensures { Unhandled }
+{}
+
+/// Parts, and messages that were stored.
+pub fn parts_and_stored()
+    ensures { PartsAndStored }
 {}

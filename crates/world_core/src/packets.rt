@@ -5,8 +5,8 @@ ghost use Rattle.std.specs.List.{filter};
 ghost use Rattle.first_run.specs.World.{is_lower};
 ghost use Rattle.world_core.specs.Play.{packet_in};
 
-use layer_ast::Dir;
 use first_mean::Event;
+use layer_ast::Dir;
 use msg_core::{Dest, Memory, Packet, View};
 use std::alloc::Global;
 

@@ -11,11 +11,11 @@ ghost use Rattle.world_core.specs.Members.{IsNew};
 
 use crate::packets::{Sender, send};
 use cell_store::Cells;
+use first_mean::{Event, Layer};
+use first_run::Did;
 use layer_ast::{Dir, Kind};
 use layer_eval::{Emits, FileLayer};
-use first_mean::{Event, Layer};
 use msg_core::{Memory, Message, Packet, Stray, View};
-use first_run::Did;
 use script_mean::{Script, ScriptEvent};
 use std::alloc::Global;
 use std::marker::Model;

@@ -1,8 +1,10 @@
-use Rattle.layer_parse.proofs.Gathered.{statement_gathered}
+use Rattle.layer_parse.proofs.Gathered.{statement_gathered, statement_formed}
 use Rattle.layer_parse.proofs.statements.statements.Goals as goal
 
 pub loop-alloc-preserved : goal.loop-alloc-preserved
 loop-alloc-preserved c =
-    rw c.in_ok-push.ensures.items (
-    statement_gathered _ _ _ _ _ _ c.loop-alloc.invariant c.loop-alloc-test.ensures c.in_ok-next.ensures.read
+    rw c.in_ok-push.ensures.items ((
+      statement_gathered _ _ _ _ _ _ c.loop-alloc.invariant.0 c.loop-alloc-test.ensures c.in_ok-next.ensures.read,
+      statement_formed _ _ c.loop-alloc.invariant.1 c.in_ok-next.ensures.form,
+    )
     )

@@ -1,0 +1,10 @@
+pub mod Each
+pub mod Front
+pub mod Chains
+pub mod Numbers
+pub mod Planned
+pub mod Whole
+pub mod Once
+pub mod Strays
+pub mod Lengths
+pub mod Grown

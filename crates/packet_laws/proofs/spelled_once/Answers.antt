@@ -1,0 +1,5 @@
+use Rattle.packet_laws.proofs.Once.{spelled_once}
+use Rattle.packet_laws.proofs.spelled_once.Goals as goal
+
+pub returns : goal.returns
+returns c = spelled_once

@@ -1,0 +1,4 @@
+pub mod Chains
+pub mod Once
+pub mod Strays
+pub mod Lengths

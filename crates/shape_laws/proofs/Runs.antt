@@ -1,0 +1,263 @@
+-- A predicted run and its shape are two queues in step.
+use Rattle.std.proofs.Common.{◌≡◌, ℕ, zero, suc, ◌-◌, Bool, true, false, List, [], ◌∷◌, ◌++◌, map, Option, Some, refl, sym, ap, subst, ◌∙◌}
+use Rattle.std.specs.Prelude.{if◌then◌else◌, nat_lt, length, Result, Ok, Err}
+use Rattle.std.specs.List.{enumerate_from, list_all}
+use Rattle.layer_mean.specs.Effect.{is_usual}
+use Rattle.std.proofs.lemmas.List.{length-map}
+use Rattle.layer_ast.specs.declared.tokens.Dir.{Dir}
+use Rattle.layer_mean.specs.declared.run.Event.{Event}
+use Rattle.layer_mean.specs.Tree.{LayerTree}
+use Rattle.layer_mean.specs.Visit.{Visited, step}
+use Rattle.layer_mean.specs.Queue.{Task, Turn, Player, Line, beyond, tasks_of, is_place, next_of, run_for, Work, layer_at, state_at, visited, layers}
+use Rattle.layer_mean.specs.Marked.{Source, Marked, Logged, Log, marked_sent, marked}
+use Rattle.stack_mean.specs.NoShape.{NoShape}
+use Rattle.stack_mean.specs.NoShape as no_shape
+use Rattle.stack_mean.specs.Drawn.{DrawnEvent, DrawnVisit, drawn_visit}
+use Rattle.stack_mean.specs.Shape.{Progress, visits_limit, drawn_turn, shaper}
+use Rattle.shape_laws.specs.Bare.{BareVisit, BareNext, BareRun}
+use Rattle.shape_laws.specs.Outline.{Outline, event_outline, drawn_outline, logged_outline}
+use Rattle.shape_laws.proofs.Predicted.{AllUsual, usual_parts}
+use Rattle.shape_laws.proofs.Draws.{sent_outline, append_map, one_more}
+use Rattle.shape_laws.proofs.Visits.{VisitDrawn, visit_same}
+
+abbrev pub DrawnLine : Type 0
+DrawnLine = Line (Log (Result Progress NoShape) DrawnEvent) (Marked DrawnEvent)
+
+abbrev pub RunLine : Type 0
+RunLine = Line (Log Work Event) (Marked Event)
+
+-- a task in outline, with its maker
+abbrev pub made_task : {E : Type 0} → (E → Outline) → Task (Marked E) → Task (Marked Outline)
+made_task f t = record { at = t.at; dir = t.dir; event = record { event = f t.event.event; made_by = t.event.made_by } }
+
+-- both have the same tasks, visits and outputs, in outline
+pub record Alike (z : DrawnLine) (r : RunLine) : Type 0 where
+  pub tasks : map (made_task drawn_outline) z.tasks ≡ map (made_task event_outline) r.tasks
+  pub visits : map (logged_outline drawn_outline) z.world.visits ≡ map (logged_outline event_outline) r.world.visits
+  pub outs : map (logged_outline drawn_outline) z.world.outs ≡ map (logged_outline event_outline) r.world.outs
+
+-- they do while all can be drawn and goes as predicted
+abbrev pub InStep : Result Progress NoShape → DrawnLine → RunLine → Type 0
+InStep (Err reason) z r = Unit {0}
+InStep (Ok p) z r = AllUsual r.world.world.decided → Alike z r
+
+-- the tasks of what a visit sends, in outline
+sent_from : {E : Type 0} (f : E → Outline) (at visit : ℕ) (sent : List (Dir × E)) (n : ℕ) →
+    map (made_task f) (tasks_of at (map (λ x. (x.1.0, record { event = x.1.1; made_by = Some (record { visit = visit; emission = x.0 }) })) (enumerate_from n sent)))
+    ≡ tasks_of at (map (λ x. (x.1.0, record { event = x.1.1; made_by = Some (record { visit = visit; emission = x.0 }) })) (enumerate_from n (map (sent_outline f) sent)))
+sent_from f at visit [] n = refl
+sent_from f at visit (x ∷ xs) n = ap (λ ts. made_task f (record { at = beyond x.0 at; dir = x.0; event = record { event = x.1; made_by = Some (record { visit = visit; emission = n }) } }) ∷ ts) (sent_from f at visit xs _)
+
+tasks_from : {E : Type 0} (f : E → Outline) (at visit : ℕ) (sent : List (Dir × E)) →
+    map (made_task f) (tasks_of at (marked_sent visit sent)) ≡ tasks_of at (marked_sent visit (map (sent_outline f) sent))
+tasks_from f at visit sent = sent_from f at visit sent 0
+
+-- a line behind a visit, and behind an output
+abbrev after_visit : {W E : Type 0} → ℕ → Dir → Marked E → List (Task (Marked E)) → List (Logged E) → List (Logged E) → Turn W E → Line (Log W E) (Marked E)
+after_visit at dir e rest visits outs turn = record {
+  world = record { world = turn.world; visits = visits ++ record { at = at; dir = dir; marked = e } ∷ []; outs = outs };
+  tasks = rest ++ tasks_of at (marked_sent (length visits) turn.sent);
+}
+
+abbrev marking : {E : Type 0} → E → Option Source → Marked E
+marking e maker = record { event = e; made_by = maker }
+
+same_length : (vs : List (Logged DrawnEvent)) (ws : List (Logged Event)) →
+    map (logged_outline drawn_outline) vs ≡ map (logged_outline event_outline) ws → length vs ≡ length ws
+same_length vs ws e = sym (length-map vs (logged_outline drawn_outline)) ∙ ap length e ∙ length-map ws (logged_outline event_outline)
+
+module _ (at : ℕ) (dir : Dir) (maker : Option Source) (d : DrawnEvent) (e : Event) (same : drawn_outline d ≡ event_outline e)
+    (p : Progress) (w : Work) (z : DrawnLine) (r : RunLine) where
+  log_same : logged_outline drawn_outline (record { at = at; dir = dir; marked = marking d maker }) ≡
+      logged_outline event_outline (record { at = at; dir = dir; marked = marking e maker })
+  log_same = ap (λ o. record { at = at; dir = dir; marked = marking o maker }) same
+
+  visit_alike : (dv : DrawnVisit) (v : Visited) → Alike z r →
+      map (sent_outline drawn_outline) dv.sent ≡ map (sent_outline event_outline) v.sent →
+      Alike (after_visit at dir (marking d maker) z.tasks z.world.visits z.world.outs (drawn_turn p (Ok dv)))
+      (after_visit at dir (marking e maker) r.tasks r.world.visits r.world.outs (visited at w v))
+  visit_alike dv v alike sent = record {
+    tasks =
+        append_map (made_task drawn_outline) z.tasks _
+        ∙ (λ i. alike.tasks i ++ behind i)
+        ∙ sym (append_map (made_task event_outline) r.tasks _);
+    visits = one_more _ _ z.world.visits r.world.visits _ _ alike.visits log_same;
+    outs = alike.outs;
+  } where
+    behind : map (made_task drawn_outline) (tasks_of at (marked_sent (length z.world.visits) dv.sent)) ≡
+        map (made_task event_outline) (tasks_of at (marked_sent (length r.world.visits) v.sent))
+    behind =
+        tasks_from drawn_outline at (length z.world.visits) dv.sent
+        ∙ (λ i. tasks_of at (marked_sent (same_length z.world.visits r.world.visits alike.visits i) (sent i)))
+        ∙ sym (tasks_from event_outline at (length r.world.visits) v.sent)
+
+  -- a visit keeps them in step
+  visit_in_step : (x : Result DrawnVisit NoShape) (v : Visited) → (AllUsual w.decided → Alike z r) →
+      (AllUsual v.decided → VisitDrawn x v.sent) →
+      InStep (drawn_turn p x).world
+      (after_visit at dir (marking d maker) z.tasks z.world.visits z.world.outs (drawn_turn p x))
+      (after_visit at dir (marking e maker) r.tasks r.world.visits r.world.outs (visited at w v))
+  visit_in_step (Err reason) v alike sent = tt
+  visit_in_step (Ok dv) v alike sent = λ usual.
+      let parts = usual_parts w.decided v.decided usual in visit_alike dv v (alike parts.0) (sent parts.1)
+
+abbrev DrawnLog : Type 0
+DrawnLog = Log (Result Progress NoShape) DrawnEvent
+
+abbrev RunLog : Type 0
+RunLog = Log Work Event
+
+abbrev drawing : Progress → List (Logged DrawnEvent) → List (Logged DrawnEvent) → DrawnLog
+drawing p visits outs = record { world = Ok p; visits = visits; outs = outs }
+
+abbrev drawn_next : List LayerTree → List (Task (Marked DrawnEvent)) → DrawnLog → DrawnLine
+drawn_next stack tasks log = next_of (length stack) (marked (shaper stack)) tasks log
+
+abbrev run_next : List LayerTree → List (Task (Marked Event)) → RunLog → RunLine
+run_next stack tasks log = next_of (length stack) (marked (layers stack)) tasks log
+
+abbrev task_for : {E : Type 0} → E → (ℕ × Dir × Option Source) → Task (Marked E)
+task_for e x = record { at = x.0; dir = x.1; event = marking e x.2 }
+
+-- one turn keeps them in step
+turn_in_step : (stack : List LayerTree) (at : ℕ) (dir : Dir) (maker : Option Source) (d : DrawnEvent) (e : Event) →
+    drawn_outline d ≡ event_outline e → (p : Progress) (vs os : List (Logged DrawnEvent)) (rest : List (Task (Marked DrawnEvent)))
+    (log : RunLog) (us : List (Task (Marked Event))) →
+    (AllUsual log.world.decided → Alike (record { world = drawing p vs os; tasks = rest }) (record { world = log; tasks = us })) →
+    (is_place (length stack) at ≡ true → BareVisit (at - 1) (layer_at stack at) (state_at log.world at) dir e) →
+    let z = drawn_next stack (task_for d (at, dir, maker) ∷ rest) (drawing p vs os) in
+    InStep z.world.world z (run_next stack (task_for e (at, dir, maker) ∷ us) log)
+turn_in_step stack at dir maker d e same p vs os rest log us alike bare = go (is_place (length stack) at) refl where
+  z : DrawnLine
+  z = record { world = drawing p vs os; tasks = rest }
+
+  r : RunLine
+  r = record { world = log; tasks = us }
+
+  v : Visited
+  v = step (at - 1) (layer_at stack at) (state_at log.world at) dir e
+
+  turned : Bool → Turn (Result Progress NoShape) DrawnEvent
+  turned c = if c then drawn_turn p (drawn_visit (at - 1) (layer_at stack at) dir d) else record { world = Err no_shape.long; sent = [] }
+
+  looked : (c : Bool) → is_place (length stack) at ≡ true →
+      InStep (turned c).world (after_visit at dir (marking d maker) rest vs os (turned c))
+      (after_visit at dir (marking e maker) us log.visits log.outs (visited at log.world v))
+  looked true placed = visit_in_step at dir maker d e same p log.world z r (drawn_visit (at - 1) (layer_at stack at) dir d) v alike
+      (λ usual. visit_same (at - 1) (layer_at stack at) (state_at log.world at) dir e d same (bare placed) usual)
+  looked false placed = tt
+
+  drawn_line : Bool → DrawnLine
+  drawn_line b = if b then after_visit at dir (marking d maker) rest vs os (turned (nat_lt p.visits visits_limit))
+      else record { world = (marked (shaper stack)).output dir (marking d maker) (drawing p vs os); tasks = rest }
+
+  run_line : Bool → RunLine
+  run_line b = if b then after_visit at dir (marking e maker) us log.visits log.outs (visited at log.world v)
+      else record { world = (marked (layers stack)).output dir (marking e maker) log; tasks = us }
+
+  go : (b : Bool) → is_place (length stack) at ≡ b → InStep (drawn_line b).world.world (drawn_line b) (run_line b)
+  go true placed = looked (nat_lt p.visits visits_limit) placed
+  go false placed = λ usual. let a = alike usual in record {
+    tasks = a.tasks;
+    visits = a.visits;
+    outs = one_more _ _ os log.outs _ _ a.outs (ap (λ o. record { at = 0; dir = dir; marked = marking o maker }) same);
+  }
+
+-- what was decided before a turn is as predicted where all is behind it
+usual_before : (stack : List LayerTree) (us : List (Task (Marked Event))) (log : RunLog) →
+    AllUsual (run_next stack us log).world.world.decided → AllUsual log.world.decided
+usual_before stack [] log h = h
+usual_before stack (u ∷ us) log h = go (is_place (length stack) u.at) h where
+  v : Visited
+  v = step (u.at - 1) (layer_at stack u.at) (state_at log.world u.at) u.dir u.event.event
+
+  go : (b : Bool) →
+      AllUsual (if b then after_visit u.at u.dir u.event us log.visits log.outs (visited u.at log.world v)
+      else record { world = (marked (layers stack)).output u.dir u.event log; tasks = us }).world.world.decided →
+      AllUsual log.world.decided
+  go true h = (usual_parts log.world.decided v.decided h).0
+  go false h = h
+
+never : (x : Result Progress NoShape) (z : DrawnLine) (r : RunLine) → (AllUsual r.world.world.decided → ⊥) → InStep x z r
+never (Err reason) z r h = tt
+never (Ok p) z r h = λ usual. absurd (h usual)
+
+-- the first task and the others of tasks in outline
+abbrev first_task : Task (Marked Outline) → List (Task (Marked Outline)) → Task (Marked Outline)
+first_task other [] = other
+first_task other (t ∷ ts) = t
+
+abbrev other_tasks : List (Task (Marked Outline)) → List (Task (Marked Outline))
+other_tasks [] = []
+other_tasks (t ∷ ts) = ts
+
+failed_next : (stack : List LayerTree) (zs : List (Task (Marked DrawnEvent))) (reason : NoShape) (vs os : List (Logged DrawnEvent))
+    (r : RunLine) →
+    let z = drawn_next stack zs (record { world = Err reason; visits = vs; outs = os }) in InStep z.world.world z r
+failed_next stack [] reason vs os r = tt
+failed_next stack (t ∷ rest) reason vs os r = go (is_place (length stack) t.at) where
+  line : Bool → DrawnLine
+  line b = if b then after_visit t.at t.dir t.event rest vs os (record { world = Err reason; sent = [] })
+      else record { world = (marked (shaper stack)).output t.dir t.event (record { world = Err reason; visits = vs; outs = os }); tasks = rest }
+
+  go : (b : Bool) → InStep (line b).world.world (line b) r
+  go true = tt
+  go false = tt
+
+drawn_next_in_step : (stack : List LayerTree) (zs : List (Task (Marked DrawnEvent))) (p : Progress) (vs os : List (Logged DrawnEvent))
+    (rs : List (Task (Marked Event))) (log : RunLog) →
+    (AllUsual log.world.decided → Alike (record { world = drawing p vs os; tasks = zs }) (record { world = log; tasks = rs })) →
+    BareNext stack log.world rs →
+    let z = drawn_next stack zs (drawing p vs os) in InStep z.world.world z (run_next stack rs log)
+drawn_next_in_step stack [] p vs os [] log alike bare = alike
+drawn_next_in_step stack [] p vs os (u ∷ us) log alike bare =
+    λ usual. absurd (cc (alike (usual_before stack (u ∷ us) log usual)).tasks)
+drawn_next_in_step stack (t ∷ rest) p vs os [] log alike bare = never _ _ _ (λ usual. cc (alike usual).tasks)
+drawn_next_in_step stack (t ∷ rest) p vs os (u ∷ us) log alike bare = go (list_all is_usual log.world.decided) refl where
+  z : Task (Marked DrawnEvent) → DrawnLine
+  z task = drawn_next stack (task ∷ rest) (drawing p vs os)
+
+  go : (b : Bool) → list_all is_usual log.world.decided ≡ b → InStep (z t).world.world (z t) (run_next stack (u ∷ us) log)
+  go true usual =
+      let a = alike usual in
+      let head : made_task drawn_outline t ≡ made_task event_outline u = ap (first_task (made_task drawn_outline t)) a.tasks in
+      let key : ◌≡◌ {A = ℕ × Dir × Option Source} (t.at, t.dir, t.event.made_by) (u.at, u.dir, u.event.made_by) =
+      ap (λ x. (x.at, x.dir, x.event.made_by)) head in
+      subst (λ x. InStep (z (task_for t.event.event x)).world.world (z (task_for t.event.event x)) (run_next stack (u ∷ us) log)) (sym key)
+      (turn_in_step stack u.at u.dir u.event.made_by t.event.event u.event.event (ap (λ x. x.event.event) head) p vs os rest log us
+      (λ again. record { tasks = ap other_tasks a.tasks; visits = a.visits; outs = a.outs }) bare)
+  go false unusual = never _ _ _ (λ usual. cc (usual_before stack (u ∷ us) log usual, unusual))
+
+-- one turn keeps them in step, whatever came before
+next_in_step : (stack : List LayerTree) (z : DrawnLine) (r : RunLine) → InStep z.world.world z r → BareNext stack r.world.world r.tasks →
+    let y = drawn_next stack z.tasks z.world in InStep y.world.world y (run_next stack r.tasks r.world)
+next_in_step stack z r h bare = go z.world.world h where
+  go : (x : Result Progress NoShape) →
+      InStep x (record { world = record { world = x; visits = z.world.visits; outs = z.world.outs }; tasks = z.tasks }) r →
+      let y = drawn_next stack z.tasks (record { world = x; visits = z.world.visits; outs = z.world.outs }) in
+      InStep y.world.world y (run_next stack r.tasks r.world)
+  go (Err reason) h = failed_next stack z.tasks reason z.world.visits z.world.outs (run_next stack r.tasks r.world)
+  go (Ok p) h = drawn_next_in_step stack z.tasks p z.world.visits z.world.outs r.tasks r.world h bare
+
+-- a run that is done stays as it is, and so the first turn of a run can be taken alone
+stays : {W E : Type 0} (places : ℕ) (play : Player W E) (k : ℕ) (w : W) →
+    run_for places play k (record { world = w; tasks = [] }) ≡ record { world = w; tasks = [] }
+stays places play zero w = refl
+stays places play (suc k) w = refl
+
+pub first_turn : {W E : Type 0} (places : ℕ) (play : Player W E) (k : ℕ) (tasks : List (Task E)) (w : W) →
+    run_for places play (suc k) (record { world = w; tasks = tasks }) ≡ run_for places play k (next_of places play tasks w)
+first_turn places play k [] w = sym (stays places play k w)
+first_turn places play k (t ∷ rest) w = refl
+
+pub runs_in_step : (stack : List LayerTree) (k : ℕ) (z : DrawnLine) (r : RunLine) → InStep z.world.world z r → BareRun stack r →
+    let y = run_for (length stack) (marked (shaper stack)) k z in
+    InStep y.world.world y (run_for (length stack) (marked (layers stack)) k r)
+runs_in_step stack zero z r h bare = h
+runs_in_step stack (suc k) z r h bare =
+    let shapes = first_turn (length stack) (marked (shaper stack)) k z.tasks z.world in
+    let runs = λ (j : ℕ). first_turn (length stack) (marked (layers stack)) j r.tasks r.world in
+    subst {A = DrawnLine × RunLine} (λ x. InStep x.0.world.world x.0 x.1) (λ i. (sym shapes i, sym (runs k) i))
+    (runs_in_step stack k (drawn_next stack z.tasks z.world) (run_next stack r.tasks r.world)
+    (next_in_step stack z r h (bare zero))
+    (λ j. subst (λ q. BareNext stack q.world.world q.tasks) (runs j) (bare (suc j))))

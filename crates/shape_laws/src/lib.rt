@@ -1,0 +1,23 @@
+//! That runs which go as predicted have the shapes of their entries, and what this rests on: the contracts of functions that do
+//! nothing.
+#![tactic(auto)]
+
+ghost use Rattle.shape_laws.specs.Law.{PredictedRunsHaveTheShape};
+ghost use Rattle.shape_laws.specs.Marks.{LogsTellRuns};
+ghost use Rattle.shape_laws.specs.Parts.{RunsWithoutParts};
+
+/// A run that begins with an entry's event and goes as predicted throughout has the entry's shape: its visits and outputs have
+/// the shape's places, directions, kinds, tags and makers.
+pub fn predicted_runs_have_the_shape()
+    ensures { PredictedRunsHaveTheShape }
+{}
+
+/// Where no predicted way of a stack reads a part, nothing is asked of the parts that its runs read.
+pub fn runs_without_parts()
+    ensures { RunsWithoutParts }
+{}
+
+/// The log of visits, outputs and makers changes nothing of a run.
+pub fn logs_tell_runs()
+    ensures { LogsTellRuns }
+{}

@@ -1,0 +1,104 @@
+-- Cases at the edges of what is accepted and drawn.
+use Rattle.std.specs.Prelude.{◌≡◌, true, List, [], ◌∷◌, ◌++◌, map, replicate, Some, None, Ok, Err, codes}
+use Rattle.layer_ast.specs.declared.tokens.Dir.{Dir}
+use Rattle.layer_ast.specs.declared.tokens.Dir.TheVariants.{Up, Down}
+use Rattle.layer_ast.specs.declared.tokens.Kind.TheVariants.{Cast, Send, Ack}
+use Rattle.layer_ast.specs.declared.syntax.Function.TheVariants.{Bit}
+use Rattle.layer_ast.specs.declared.syntax.Operator.TheVariants.{Add, Subtract, Multiply}
+use Rattle.layer_mean.specs.Tree.{part, ExpressionTree, number, me, local, size, binary, apply, pick, MessageTree, message, held, cut, tail, join, StatementTree, push, take, each, emit, none, always, common, rare, queue, LayerTree}
+use Rattle.stack_mean.specs.Acceptance.{cycle, too_many, accepted, largest_weight, largest_joins}
+use Rattle.stack_mean.specs.NoShape as no_shape
+use Rattle.stack_mean.specs.Shape.{app_cast, packet_entry, shape}
+use Rattle.stack_mean.specs.Plans.{outs_of}
+use Rattle.stack_mean.specs.SampleLayers.{block, sends, on, named, with_fields, kept_rows, bare_layer, counter, echo, fan, silent}
+use Rattle.stack_mean.specs.Samples.{header, length_of}
+
+-- An Ack is sent back where it came from.
+abbrev pub acks : Dir → StatementTree
+acks dir = emit (record { direction = dir; kind = Ack; numbers = local 0 ∷ local 1 ∷ []; content = None })
+
+abbrev pub ack_echo : LayerTree
+ack_echo = bare_layer (codes "acks") (on Down Ack 0 always (acks Up ∷ []) ∷ on Up Ack 0 always (acks Down ∷ []) ∷ [])
+
+abbrev pub two_echoes_at_once : LayerTree
+two_echoes_at_once = bare_layer (codes "both") (ack_echo.handlers ++ echo.handlers)
+
+-- A cycle counts that no entry reaches; the lowest place on a cycle is told, and there the first kind.
+abbrev pub UnreachedCycles : Type 0
+UnreachedCycles =
+    (accepted (ack_echo ∷ ack_echo ∷ []) ≡ Err (cycle 0 Ack)) ×
+    (accepted (silent ∷ ack_echo ∷ ack_echo ∷ []) ≡ Err (cycle 1 Ack)) ×
+    (accepted (two_echoes_at_once ∷ two_echoes_at_once ∷ []) ≡ Err (cycle 0 Cast))
+
+-- A weight that 32 bits don't hold is told as the largest number that they do.
+abbrev pub HugeWeight : Type 0
+HugeWeight = accepted (replicate 9 fan) ≡ Err (too_many 4294967295)
+
+-- Rare handlers count, and so do joins in the condition of a common case.
+abbrev pub rarely : LayerTree
+rarely = bare_layer (codes "rarely")
+    (on Up Cast 0 rare (each 1 (number 8) 8 (block (sends Up Cast (local 0) (message 0) 0 [] ∷ [])) ∷ []) ∷
+    on Down Cast 0 (common (size (join (message 0) (message 0)))) (sends Down Cast (local 0) (message 0) 0 [] ∷ []) ∷ [])
+
+abbrev pub AllCounts : Type 0
+AllCounts = (largest_weight (rarely ∷ []) ≡ 9) × (largest_joins (rarely ∷ rarely ∷ []) ≡ 2)
+
+-- Fields that are written with numbers alone are constant, others vary, even where they come to one number.
+abbrev pub constant_fields : List ExpressionTree
+constant_fields =
+    binary Add (binary Multiply (number 2) (number 3)) (apply Bit (number 3)) ∷
+    binary Subtract (local 0) (local 0) ∷
+    pick (number 1) (number 2) me ∷
+    pick (number 0) (number 5) (number 6) ∷ []
+
+abbrev pub fixed : LayerTree
+fixed = record {
+  name = codes "fixed";
+  cells = [];
+  headers = with_fields (codes "fields") 4 ∷ [];
+  handlers = on Down Cast 0 always (sends Down Cast (local 0) (message 0) 1 constant_fields ∷ []) ∷ [];
+}
+
+abbrev pub ConstantFields : Type 0
+ConstantFields = map (λ out. out.headers) (outs_of (shape (fixed ∷ []) app_cast)) ≡
+    (header 1 (Some 14 ∷ None ∷ None ∷ Some 6 ∷ []) ∷ []) ∷ []
+
+-- A message that no handler is for passes behind `none`, and can't be drawn behind another header.
+abbrev pub Unhandled : Type 0
+Unhandled =
+    (length_of (shape (counter ∷ []) (packet_entry Cast (0 ∷ []))) ≡ Ok 1) ×
+    (shape (counter ∷ []) (packet_entry Send (1 ∷ [])) ≡ Err (no_shape.rare 0))
+
+-- A cast is cut, and its part taken back and sent; then a part that is held is sent.
+abbrev pub parting : LayerTree
+parting = record {
+  name = codes "parting";
+  cells = named (codes "parts") (queue 4 (record { numbers = []; message = Some (codes "p", part) })) ∷ [];
+  headers = record { name = codes "piece"; fields = 0; ends = true } ∷ [];
+  handlers = on Down Cast 0 always
+      (push 0 (number 0) 4 (record { numbers = []; message = Some (cut (message 0) (number 0) (number 8)) }) none ∷
+      take 0 (number 0) (record { numbers = []; message = Some (1, part) })
+      (block (sends Down Cast (local 0) (message 1) 1 [] ∷ [])) none ∷
+      sends Down Cast (local 0) (held 0 (number 0) (number 0) part) 1 [] ∷ []) ∷ [];
+}
+
+-- A message that is made of a stored one is sent.
+abbrev pub sending : MessageTree → LayerTree
+sending m = record {
+  name = codes "sending";
+  cells = named (codes "kept") (queue 4 (record { numbers = []; message = Some (codes "m", kept_rows) })) ∷ [];
+  headers = [];
+  handlers = on Down Cast 0 always (sends Down Cast (local 0) m 0 [] ∷ []) ∷ [];
+}
+
+abbrev pub stored_first : MessageTree
+stored_first = held 0 (number 0) (number 0) kept_rows
+
+-- Parts have no headers and can be drawn; what is made of a stored message can't be, except a part of it and a part before another.
+abbrev pub PartsAndStored : Type 0
+PartsAndStored =
+    (map (λ out. out.headers) (outs_of (shape (silent ∷ parting ∷ []) app_cast)) ≡
+    (header 0 [] ∷ header 1 [] ∷ []) ∷ (header 0 [] ∷ header 1 [] ∷ []) ∷ []) ×
+    (shape (sending (tail stored_first (number 1)) ∷ []) app_cast ≡ Err (no_shape.stored 0)) ×
+    (shape (sending (join (cut (message 0) (number 0) (number 1)) stored_first) ∷ []) app_cast ≡ Err (no_shape.stored 0)) ×
+    (length_of (shape (sending (join (cut stored_first (number 0) (number 1)) (message 0)) ∷ []) app_cast) ≡ Ok 2)
