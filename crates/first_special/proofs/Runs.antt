@@ -18,13 +18,15 @@ use Rattle.first_mean.specs.Queue as first
 use Rattle.first_mean.specs.Queue.{Task, Line, Work, is_place, layer_at, state_at, layers, weight, run as first_run}
 use Rattle.layer_mean.specs.declared.run.Event as whole_events
 use Rattle.layer_mean.specs.Event.{carries}
+use Rattle.layer_mean.specs.Tree as whole_trees
+use Rattle.layer_mean.specs.State as whole_states
 use Rattle.layer_mean.specs.Effect.{Decision}
 use Rattle.layer_mean.specs.Visit.{Visited}
 use Rattle.layer_mean.specs.Visit as whole_visit
 use Rattle.layer_mean.specs.Queue as whole
 use Rattle.layer_mean.specs.Queue.{run}
 use Rattle.first_special.specs.Whole.{whole_layer, whole_state, whole_event, whole_sent, whole_task}
-use Rattle.first_special.specs.Special.{carries_if_sent, is_carrying, VisitsAs, RunsAs, SameRun}
+use Rattle.first_special.specs.Special.{carries_if_sent, is_carrying, first_start, VisitsAs, RunsAs, SameTurns, SameRun}
 use Rattle.first_special.proofs.Blocks.{both}
 use Rattle.first_special.proofs.Visits.{found_passes, visit_same}
 
@@ -227,40 +229,58 @@ module _ (stack : List LayerTree) (carrying : IsTrue (list_all is_carrying stack
   stays zero w = refl
   stays (suc n) w = stays n w
 
-  whole_stays : (n : ℕ) (w : whole.Work) →
-      whole.run_for (length stack) whole_play n (record { world = w; tasks = [] }) ≡ record { world = w; tasks = [] }
-  whole_stays zero w = refl
-  whole_stays (suc n) w = refl
-
-  -- turns until no task is left, and more
-  turns_same : (n most : ℕ) (tasks : List (Task Event)) (w : Work) (decided : List Decision) (visits : ℕ) → n ≤ most →
-      TasksCarry tasks →
+  -- so many turns
+  turns_same : (n : ℕ) (tasks : List (Task Event)) (w : Work) (decided : List Decision) (visits : ℕ) → TasksCarry tasks →
       let line : Line Work Event = record { world = w; tasks = tasks } in
-      let r = first.run_for (length stack) play n line in
-      r.tasks ≡ [] → IsWhole r (whole.run_for (length stack) whole_play most (whole_line line decided visits))
-  turns_same n most [] w decided visits le all ended = (
-    decided,
-    (
-      visits,
-      whole_stays most (whole_work w decided visits) ∙ ap (λ r. whole_line r decided visits) (sym (stays n w)),
-    ),
-  )
-  turns_same zero most (t ∷ rest) w decided visits le all ended = absurd (cc ended)
-  turns_same (suc n) zero (t ∷ rest) w decided visits le all ended = absurd (omega (arith, le))
-  turns_same (suc n) (suc most) (t ∷ rest) w decided visits le all ended =
+      IsWhole (first.run_for (length stack) play n line)
+      (whole.run_for (length stack) whole_play n (whole_line line decided visits))
+  turns_same zero tasks w decided visits all = (decided, (visits, refl))
+  turns_same (suc n) [] w decided visits all = (decided, (visits, ap (λ r. whole_line r decided visits) (sym (stays n w))))
+  turns_same (suc n) (t ∷ rest) w decided visits all =
       let each = both (is_task_carrying t) (list_all is_task_carrying rest) all in
       let turn = next_same t rest w decided visits each.0 in
       let r = advanced t rest w in
-      let carried = next_carries t rest w each.0 each.1 in
-      let later = turns_same n most r.tasks r.world turn.0 turn.1.0 (omega (arith, le)) carried ended in
-      (later.0, (later.1.0, ap (whole.run_for (length stack) whole_play most) turn.1.1 ∙ later.1.1))
+      let later = turns_same n r.tasks r.world turn.0 turn.1.0 (next_carries t rest w each.0 each.1) in
+      (later.0, (later.1.0, ap (whole.run_for (length stack) whole_play n) turn.1.1 ∙ later.1.1))
+
+-- where no task is left, more turns change nothing
+whole_stays : (places : ℕ) (player : whole.Player whole.Work whole_events.Event) (n : ℕ) (w : whole.Work) →
+    whole.run_for places player n (record { world = w; tasks = [] }) ≡ record { world = w; tasks = [] }
+whole_stays places player zero w = refl
+whole_stays places player (suc n) w = refl
+
+more_turns : (places : ℕ) (player : whole.Player whole.Work whole_events.Event) (n most : ℕ)
+    (tasks : List (whole.Task whole_events.Event)) (w : whole.Work) → n ≤ most →
+    let line : WholeLine = record { world = w; tasks = tasks } in
+    (whole.run_for places player n line).tasks ≡ [] → whole.run_for places player most line ≡ whole.run_for places player n line
+more_turns places player n most [] w le ended = whole_stays places player most w ∙ sym (whole_stays places player n w)
+more_turns places player zero most (t ∷ rest) w le ended = absurd (cc ended)
+more_turns places player (suc n) zero (t ∷ rest) w le ended = absurd (omega (arith, le))
+more_turns places player (suc n) (suc most) (t ∷ rest) w le ended =
+    let r = whole.advance places player t rest w in more_turns places player n most r.tasks r.world (omega (arith, le)) ended
+
+pub turns_as : SameTurns
+unfolding run
+turns_as stack n states t carrying kind =
+    let begun = first_start states t in
+    let r = first.run_for (length stack) (layers stack) n begun in
+    subst (λ places. RunsAs r (whole.run_for places (whole.layers (map whole_layer stack)) n (whole_line begun [] 0)))
+    (sym (length-map stack whole_layer))
+    (runs_as r _ (turns_same stack carrying n begun.tasks begun.world [] 0 (both_true kind refl)))
+
+-- more turns than it takes to leave no task
+longer : (stack : List whole_trees.LayerTree) (states : List whole_states.State) (t : whole.Task whole_events.Event) (n most : ℕ) →
+    n ≤ most → (run n stack states t).tasks ≡ [] → run most stack states t ≡ run n stack states t
+unfolding run
+longer stack states t n most le ended =
+    more_turns (length stack) (whole.layers stack) n most (t ∷ []) (whole.unstarted states) le ended
 
 pub run_same : SameRun
-unfolding first_run run
+unfolding first_run
 run_same stack states t most carrying kind le ended =
-    let w : Work = record { states = states; outs = [] } in
-    let r = first.run_for (length stack) (layers stack) (weight stack) (record { world = w; tasks = t ∷ [] }) in
-    let begun = whole_line (record { world = w; tasks = t ∷ [] }) [] 0 in
-    subst (λ places. RunsAs r (whole.run_for places (whole.layers (map whole_layer stack)) most begun))
-    (sym (length-map stack whole_layer))
-    (runs_as r _ (turns_same stack carrying (weight stack) most (t ∷ []) w [] 0 le (both_true kind refl) ended))
+    let n = weight stack in
+    let same = turns_as stack n states t carrying kind in
+    subst (RunsAs (first_run stack states t))
+    (sym (longer (map whole_layer stack) (map whole_state states) (whole_task t) n most le
+    (same.tasks ∙ ap (map whole_task) ended)))
+    same

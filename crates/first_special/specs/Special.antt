@@ -1,5 +1,5 @@
 -- The first form's meaning is a special case of the whole language's.
-use Rattle.std.specs.Prelude.{◌≡◌, ℕ, ◌≤◌, Bool, true, List, [], map, IsTrue}
+use Rattle.std.specs.Prelude.{◌≡◌, ℕ, ◌≤◌, Bool, true, List, [], ◌∷◌, map, length, IsTrue}
 use Rattle.std.specs.List.{list_all}
 use Rattle.layer_ast.specs.declared.tokens.Dir.{Dir}
 use Rattle.first_mean.specs.declared.run.Event.{Event}
@@ -49,8 +49,19 @@ pub record RunsAs (r : Line Work Event) (q : whole_queue.Line whole_queue.Work w
   pub outs : q.world.outs ≡ map whole_sent r.world.outs
   pub tasks : q.tasks ≡ map whole_task r.tasks
 
--- A run of any stack comes to the same in at least as many turns, where its layers and the event that it begins with carry
--- messages, and the first form's run leaves no task.
+-- A line before its first turn.
+abbrev pub first_start : List State → Task Event → Line Work Event
+first_start states t = record { world = record { states = states; outs = [] }; tasks = t ∷ [] }
+
+-- So many turns of the queue of any stack leave the same states, outputs and tasks, where its layers and the event that it begins
+-- with carry messages.
+abbrev pub SameTurns : Type 0
+SameTurns = (stack : List LayerTree) (turns : ℕ) (states : List State) (t : Task Event) →
+    IsTrue (list_all is_carrying stack) → IsTrue (carries t.event.kind) →
+    RunsAs (first_queue.run_for (length stack) (first_queue.layers stack) turns (first_start states t))
+    (whole_queue.run turns (map whole_layer stack) (map whole_state states) (whole_task t))
+
+-- A run that leaves no task comes to the same in the whole language, which may be given more turns.
 abbrev pub SameRun : Type 0
 SameRun = (stack : List LayerTree) (states : List State) (t : Task Event) (most : ℕ) →
     IsTrue (list_all is_carrying stack) → IsTrue (carries t.event.kind) →

@@ -3,7 +3,7 @@
 #![tactic(auto)]
 
 ghost use Rattle.first_special.specs.Counter.{CounterCarries, SameCounter};
-ghost use Rattle.first_special.specs.Special.{SameFresh, SameRun, SameVisit};
+ghost use Rattle.first_special.specs.Special.{SameFresh, SameRun, SameTurns, SameVisit};
 
 /// A layer begins in the same state.
 pub fn same_fresh()
@@ -13,6 +13,11 @@ pub fn same_fresh()
 /// One event at one layer comes to the same.
 pub fn same_visit()
     ensures { SameVisit }
+{}
+
+/// So many turns of the queue of a stack come to the same.
+pub fn same_turns()
+    ensures { SameTurns }
 {}
 
 /// A run of a stack comes to the same.
