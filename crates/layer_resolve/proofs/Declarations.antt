@@ -4,7 +4,7 @@ use Rattle.std.proofs.lemmas.Bool.{and_parts, and_from, leb-true, eqb-true}
 use Rattle.std.proofs.lemmas.List.Quantifiers.{position-Some}
 use Rattle.std.proofs.lemmas.List.Recursion.{and_at, and_fails_at}
 use Rattle.std.specs.List.{list_all}
-use Rattle.layer_ast.specs.Tree.{DeclarationTree, int, header}
+use Rattle.layer_ast.specs.Tree.{DeclarationTree, param, int, rows_cell, rows_array, header}
 use Rattle.layer_ast.specs.View.{declaration_tree}
 use Rattle.layer_ast.specs.declared.syntax.Declaration.{Declaration}
 use Rattle.first_mean.specs.View.{header_tree}
@@ -33,9 +33,12 @@ labels_stop declarations i x within is bad =
 pub small_headers : (declarations : List DeclarationTree) → list_all has_labels declarations ≡ true →
     list_all is_small (filter_map declared_header declarations) ≡ true
 small_headers [] good = refl
-small_headers (int at name shape ∷ rest) good = small_headers rest good
-small_headers (header at name fields ∷ rest) good =
-    let both = and_parts (has_labels (header at name fields)) (list_all has_labels rest) good in
+small_headers (param at name value ∷ rest) good = small_headers rest good
+small_headers (int at name shape initial ∷ rest) good = small_headers rest good
+small_headers (rows_cell at name capacity items ∷ rest) good = small_headers rest good
+small_headers (rows_array at name capacity items ∷ rest) good = small_headers rest good
+small_headers (header at name fields ending ∷ rest) good =
+    let both = and_parts (has_labels (header at name fields ending)) (list_all has_labels rest) good in
     and_from (nat_le (length (words fields)) 4) (list_all is_small (filter_map declared_header rest))
     (and_parts (nat_le (length (words fields)) 4) (all_different (words fields)) both.0).0
     (small_headers rest both.1)

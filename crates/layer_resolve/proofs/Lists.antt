@@ -2,7 +2,7 @@
 use Rattle.std.proofs.Common.{◌≡◌, ℕ, ◌+◌, ◌<◌, List, [], ◌∷◌, ◌++◌, map, length, take, get_or, Option, Some, None, option_map, option_to_list, Bool, true, ◌||◌, cond, not, refl, sym, ◌∙◌, ap, position, filter_map, nat_lt}
 use Rattle.std.proofs.lemmas.List.{map_more, map-append, length-map}
 use Rattle.std.proofs.lemmas.List.Elements.{filter_map-append}
-use Rattle.std.proofs.lemmas.List.Folds.{list_all-append}
+use Rattle.std.proofs.lemmas.List.Folds.{list_all-append, list_all-map}
 use Rattle.std.specs.List.{list_all, list_any, cons_option, prefix_len}
 
 -- the trees of one more element
@@ -52,3 +52,8 @@ pub any_map : {X A : Type 0} (tree : X → A) (test : A → Bool) (xs : List X) 
     list_any test (map tree xs) ≡ list_any (λ x. test (tree x)) xs
 any_map tree test [] = refl
 any_map tree test (x ∷ xs) = ap (λ b. test (tree x) || b) (any_map tree test xs)
+
+-- all trees pass where all that they are of do
+pub all_map : {X A : Type 0} (tree : X → A) (test : A → Bool) (xs : List X) →
+    list_all test (map tree xs) ≡ list_all (λ x. test (tree x)) xs
+all_map tree test xs = list_all-map test tree xs

@@ -1,10 +1,12 @@
 -- The names of a layer: what it declares, and what each of its handlers sees.
-use Rattle.std.specs.Prelude.{ℕ, ◌+◌, List, [], ◌∷◌, map, length, Option, Some, None, option_map, option_and_then, Bool, true, not, ◌&&◌, ◌==◌, nat_le, if◌then◌else◌, bytes_eq, position, filter_map}
+use Rattle.std.specs.Prelude.{ℕ, ◌+◌, List, [], ◌∷◌, map, length, Option, Some, None, option_map, option_and_then, Bool, true, false, not, ◌&&◌, ◌==◌, nat_le, if◌then◌else◌, bytes_eq, position, filter_map}
 use Rattle.std.specs.List.{list_any, list_all}
+use Rattle.std.specs.Option.{is_some}
 use denote.Enum.Bare.{sameb}
-use Rattle.layer_ast.specs.Tree.{NamesTree, PoppedTree, DeclarationTree, int, header}
+use Rattle.layer_ast.specs.Tree.{NamesTree, PoppedTree, DeclarationTree, param, int, rows_cell, rows_array, header}
 use Rattle.layer_ast.specs.declared.names.Name.{Name}
 use Rattle.layer_ast.specs.declared.names.Word.{Word}
+use Rattle.layer_ast.specs.declared.syntax.Ending.TheVariants.{Passes}
 use Rattle.layer_ast.specs.declared.syntax.Shape.{Shape}
 use Rattle.layer_ast.specs.declared.syntax.Shape.TheVariants as written
 use Rattle.first_mean.specs.Tree.{CellTree, HeaderTree}
@@ -26,25 +28,36 @@ abbrev pub all_different : List Word → Bool
 all_different [] = true
 all_different (word ∷ rest) = not (is_among rest word) && all_different rest
 
--- The form of a cell: one number, or one for each member.
-abbrev pub form_of : Shape → Form
-form_of written.One = Number
-form_of written.Array = Array
+-- The form of a cell: one number, or one for each member. One for each pair of members is no form that is built so far.
+abbrev pub form_of : Shape → Option Form
+form_of written.One = Some Number
+form_of written.Array = Some Array
+form_of written.Square = None
+
+-- Whether a declaration is of a form that is built so far: a cell of such a form whose numbers start at 0, or a header that
+-- the headers of the layers above follow.
+abbrev pub is_built : DeclarationTree → Bool
+is_built (int at name shape None) = is_some (form_of shape)
+is_built (header at name fields Passes) = true
+is_built _ = false
 
 -- The name that a declaration declares.
 abbrev pub declared_name : DeclarationTree → Word
-declared_name (int at name shape) = name.word
-declared_name (header at name fields) = name.word
+declared_name (param at name value) = name.word
+declared_name (int at name shape initial) = name.word
+declared_name (rows_cell at name capacity items) = name.word
+declared_name (rows_array at name capacity items) = name.word
+declared_name (header at name fields ending) = name.word
 
--- The cell that it declares, if any.
+-- The cell of numbers that it declares, if any.
 abbrev pub declared_cell : DeclarationTree → Option CellTree
-declared_cell (int at name shape) = Some (record { name = name.word; form = form_of shape })
-declared_cell (header at name fields) = None
+declared_cell (int at name shape initial) = option_map (λ form. record { name = name.word; form = form }) (form_of shape)
+declared_cell _ = None
 
 -- The header that it declares, if any.
 abbrev pub declared_header : DeclarationTree → Option HeaderTree
-declared_header (int at name shape) = None
-declared_header (header at name fields) = Some (record { name = name.word; fields = length (words fields) })
+declared_header (header at name fields ending) = Some (record { name = name.word; fields = length (words fields) })
+declared_header _ = None
 
 -- Whether these may be the labels of a header's fields: at most 4, and no two the same.
 abbrev pub are_labels : List Word → Bool
@@ -52,8 +65,8 @@ are_labels labels = nat_le (length labels) 4 && all_different labels
 
 -- Whether the labels that it declares may be so.
 abbrev pub has_labels : DeclarationTree → Bool
-has_labels (int at name shape) = true
-has_labels (header at name fields) = are_labels (words fields)
+has_labels (header at name fields ending) = are_labels (words fields)
+has_labels _ = true
 
 -- Whether a header has at most 4 fields.
 abbrev pub is_small : HeaderTree → Bool
@@ -78,14 +91,18 @@ declared_headers declarations =
     if list_all has_labels declarations then Some (filter_map declared_header declarations) else None
 
 -- What declarations declare, where they may stand together.
-unfoldable pub declared : List DeclarationTree → Option Declared
-declared declarations = option_and_then
+abbrev pub declared_together : List DeclarationTree → Option Declared
+declared_together declarations = option_and_then
     (λ headers. within_limits (record {
       names = map declared_name declarations;
       cells = filter_map declared_cell declarations;
       headers = headers;
     }))
     (declared_headers declarations)
+
+-- What declarations declare, where each is built so far and they may stand together.
+unfoldable pub declared : List DeclarationTree → Option Declared
+declared declarations = if list_all is_built declarations then declared_together declarations else None
 
 -- The number of the cell of this form and name.
 abbrev pub cell_number : Declared → Form → Word → Option ℕ

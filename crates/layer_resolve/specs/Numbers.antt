@@ -20,12 +20,18 @@ abbrev pub each : {A B : Type 0} → (A → Option B) → List A → Option (Lis
 each make [] = Some []
 each make (a ∷ rest) = both (λ b bs. b ∷ bs) (make a) (each make rest)
 
--- An operator.
-abbrev pub operator_of : ast_operator.Operator → Operator
-operator_of written.Add = Add
-operator_of written.Equal = Equal
+-- An operator that is built so far.
+abbrev pub operator_of : ast_operator.Operator → Option Operator
+operator_of written.Add = Some Add
+operator_of written.Equal = Some Equal
+operator_of _ = None
 
--- The number of an expression; a message, a header and a cell of another form are none.
+-- What an operator makes of two numbers, where there are all three.
+abbrev pub binary_of : Option Operator → Option ExpressionTree → Option ExpressionTree → Option ExpressionTree
+binary_of None left right = None
+binary_of (Some operator) left right = both (binary operator) left right
+
+-- The number of an expression; a message, a header, a cell of another form and an expression that isn't built so far are none.
 abbrev pub number_of : Scope → ast.ExpressionTree → Option ExpressionTree
 number_of scope (ast.number at value) = Some (number value)
 number_of scope (ast.me at) = Some me
@@ -35,4 +41,10 @@ number_of scope (ast.named name) = option_or
     (option_map (λ cell. element cell (number 0)) (cell_number scope.layer Number name.word))
 number_of scope (ast.element name index) = both element (cell_number scope.layer Array name.word) (number_of scope index)
 number_of scope (ast.binary at left operator right) =
-    both (binary (operator_of operator)) (number_of scope left) (number_of scope right)
+    binary_of (operator_of operator) (number_of scope left) (number_of scope right)
+number_of scope _ = None
+
+-- The number of an argument; a message that is built is none.
+abbrev pub argument_of : Scope → ast.ArgumentTree → Option ExpressionTree
+argument_of scope (ast.value expression) = number_of scope expression
+argument_of scope (ast.content built) = None

@@ -1,9 +1,8 @@
 -- The stack that a file means.
-use Rattle.std.specs.Prelude.{ℕ, List, [], ◌∷◌, length, Option, Some, None, option_map, option_and_then, Bool, true, not, ◌&&◌, nat_le, if◌then◌else◌, bytes_eq}
+use Rattle.std.specs.Prelude.{ℕ, List, [], ◌∷◌, length, Option, Some, None, option_map, option_and_then, Bool, true, false, not, ◌&&◌, nat_le, if◌then◌else◌, bytes_eq}
 use Rattle.std.specs.List.{list_any}
 use Rattle.layer_ast.specs.Tree as ast
 use Rattle.layer_ast.specs.declared.names.Word.{Word}
-use Rattle.layer_ast.specs.declared.syntax.Place.{Place}
 use Rattle.layer_ast.specs.declared.tokens.Dir.{Dir}
 use Rattle.layer_ast.specs.declared.tokens.Dir.TheVariants.{Up, Down}
 use Rattle.layer_ast.specs.declared.tokens.Kind.TheVariants.{Cast}
@@ -24,16 +23,17 @@ popped_tag layer Down (Some popped) = None
 unfoldable pub scope_of : Declared → ast.HandlerTree → Option Scope
 scope_of layer handler = scope_with layer handler.names.first.word handler.names.rest (popped_words handler.popped)
 
--- The condition of a handler's common case, where it has one.
-abbrev pub common_of : Scope → Option ast.ExpressionTree → Option (Option ExpressionTree)
-common_of scope None = Some None
-common_of scope (Some condition) = option_map (λ number. Some number) (number_of scope condition)
+-- The condition of a handler's common case, where it has one; a rare handler isn't built so far.
+abbrev pub common_of : Scope → ast.Expected → Option (Option ExpressionTree)
+common_of scope ast.always = Some None
+common_of scope (ast.common condition) = option_map (λ number. Some number) (number_of scope condition)
+common_of scope ast.rare = None
 
 -- A handler that takes off the header of this tag and sees this.
 abbrev pub handler_in : ast.HandlerTree → ℕ → Scope → Option HandlerTree
 handler_in handler tag scope = both
     (λ common block. record { dir = handler.direction; kind = Cast; tag = tag; common = common; block = block })
-    (common_of scope handler.common) (statements_of scope handler.block)
+    (common_of scope handler.expected) (statements_of scope handler.block)
 
 -- A handler of a layer that declares this, which takes off the header of this tag.
 abbrev pub handler_with : Declared → ast.HandlerTree → ℕ → Option HandlerTree
@@ -69,13 +69,21 @@ layer_with layer names =
 unfoldable pub layer_of : ast.LayerTree → Option LayerTree
 layer_of layer = option_and_then (layer_with layer) (declared layer.declarations)
 
--- A stack of one layer, which its place names.
-abbrev pub one_layer : List ast.LayerTree → List Place → Option (List LayerTree)
+-- Whether a place gives no params.
+abbrev pub gives_none : List ast.GivenTree → Bool
+gives_none [] = true
+gives_none _ = false
+
+-- A stack of one layer, which its place names, giving no params.
+abbrev pub one_layer : List ast.LayerTree → List ast.PlaceTree → Option (List LayerTree)
 one_layer (layer ∷ []) (place ∷ []) =
-    if bytes_eq place.name.word layer.name.word then option_map (λ only. only ∷ []) (layer_of layer) else None
+    if gives_none place.given && bytes_eq place.name.word layer.name.word
+    then option_map (λ only. only ∷ []) (layer_of layer)
+    else None
 one_layer _ _ = None
 
 -- The stack that a file means, lowest layer first. A file means none where it is not of the form that is
--- built so far, or a name or a type is at fault.
+-- built so far, or a name or a type is at fault. The library's layers aren't looked at: a file whose one place names its
+-- own one layer brings none.
 unfoldable pub stack_of : ast.FileTree → Option (List LayerTree)
 stack_of file = one_layer file.layers file.places

@@ -9,7 +9,7 @@ use Rattle.layer_ast.specs.declared.names.Name.{Name}
 use Rattle.first_mean.specs.Tree.{ExpressionTree, number, StatementTree, assign, emit}
 use Rattle.first_mean.specs.declared.layer.Form.TheVariants.{Number, Array}
 use Rattle.layer_resolve.specs.Names.{Scope, cell_number, header_tag}
-use Rattle.layer_resolve.specs.Numbers.{both, each, number_of}
+use Rattle.layer_resolve.specs.Numbers.{both, each, number_of, argument_of}
 
 -- Whether a kind is the one that is built so far.
 abbrev pub is_cast : Kind → Bool
@@ -22,14 +22,14 @@ target_of scope name None = option_map (λ cell. (cell, number 0)) (cell_number 
 target_of scope name (Some index) =
     both (λ cell at. (cell, at)) (cell_number scope.layer Array name.word) (number_of scope index)
 
--- Expressions with commas between them, which may be left out.
-abbrev pub listed : Option ast.ArgumentsTree → List ast.ExpressionTree
+-- Arguments with commas between them, which may be left out.
+abbrev pub listed : Option ast.ArgumentsTree → List ast.ArgumentTree
 listed None = []
 listed (Some arguments) = arguments.first ∷ arguments.rest
 
 -- Whether these are the bare name of the handler's message, and nothing else.
-abbrev pub is_message : Scope → List ast.ExpressionTree → Bool
-is_message scope (ast.named name ∷ []) = bytes_eq name.word scope.message
+abbrev pub is_message : Scope → List ast.ArgumentTree → Bool
+is_message scope (ast.value (ast.named name) ∷ []) = bytes_eq name.word scope.message
 is_message scope _ = false
 
 -- The header that an emission pushes, as its tag and its fields. Only one going down pushes a header, and
@@ -39,7 +39,7 @@ header_of scope direction None = Some (0, [])
 header_of scope Up (Some pushed) = None
 header_of scope Down (Some pushed) = both (λ tag fields. (tag, fields))
     (header_tag scope.layer pushed.name.word (length (listed pushed.fields)))
-    (each (number_of scope) (listed pushed.fields))
+    (each (argument_of scope) (listed pushed.fields))
 
 -- An emission of Cast with this peer and this header.
 abbrev pub emission : Dir → ExpressionTree → ℕ × List ExpressionTree → StatementTree
@@ -49,14 +49,15 @@ emission direction peer header = emit direction Cast peer header.0 header.1
 abbrev pub emission_of : Scope → Dir → Kind → ast.ArgumentsTree → Option ast.PushedTree → Option StatementTree
 emission_of scope direction kind arguments pushed =
     if is_cast kind && is_message scope arguments.rest
-    then both (emission direction) (number_of scope arguments.first) (header_of scope direction pushed)
+    then both (emission direction) (argument_of scope arguments.first) (header_of scope direction pushed)
     else None
 
--- A statement with numbers in place of names.
+-- A statement with numbers in place of names; so far only assignments and emissions are built.
 abbrev pub statement_of : Scope → ast.StatementTree → Option StatementTree
 statement_of scope (ast.set at name index value) =
     both (λ target value. assign target.0 target.1 value) (target_of scope name index) (number_of scope value)
 statement_of scope (ast.emit at direction kind arguments pushed) = emission_of scope direction kind arguments pushed
+statement_of scope _ = None
 
 -- The statements of a block, in order.
 abbrev pub statements_of : Scope → ast.StatementTrees → Option (List StatementTree)

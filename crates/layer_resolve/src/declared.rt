@@ -12,7 +12,7 @@ ghost use Rattle.layer_resolve.specs.Answer.{Answers};
 use crate::error::ResolveError;
 use crate::words::{all_different, count, is_among, is_same, words};
 use first_mean::{Cell, Form, HeaderForm};
-use layer_ast::{Declaration, Names, Shape, Word};
+use layer_ast::{Declaration, Ending, Names, Shape, Word};
 use std::alloc::{AllocError, Global};
 use std::marker::Model;
 
@@ -51,12 +51,27 @@ impl Model for Declared {
         (list_all spec.is_small (map header_tree d.headers.items) ≡ true) };
 }
 
-fn form(shape: Shape) -> Form
+fn form(shape: Shape) -> Option<Form>
     ensures { result ≡ spec.form_of shape }
 {
     match shape {
-        Shape::One => Form::Number,
-        Shape::Array => Form::Array,
+        Shape::One => Some(Form::Number),
+        Shape::Array => Some(Form::Array),
+        Shape::Square => None,
+    }
+}
+
+/// Whether a declaration is of a form that is built so far.
+fn is_built(declaration: &Declaration) -> bool
+    ensures { result ≡ spec.is_built (declaration_tree declaration.now) }
+{
+    match declaration {
+        Declaration::Int { shape, initial, .. } => match initial {
+            None => form(*shape).is_some(),
+            Some(_) => false,
+        },
+        Declaration::Header { ending, .. } => matches!(ending, Ending::Passes),
+        _ => false,
     }
 }
 
@@ -64,7 +79,10 @@ fn name(declaration: &Declaration) -> Word
     ensures { result ≡ spec.declared_name (declaration_tree declaration.now) }
 {
     match declaration {
+        Declaration::Param { name, .. } => name.word,
         Declaration::Int { name, .. } => name.word,
+        Declaration::Queue { name, .. } => name.word,
+        Declaration::Queues { name, .. } => name.word,
         Declaration::Header { name, .. } => name.word,
     }
 }
@@ -73,11 +91,14 @@ fn cell(declaration: &Declaration) -> Option<Cell>
     ensures { option_map cell_tree result ≡ spec.declared_cell (declaration_tree declaration.now) }
 {
     match declaration {
-        Declaration::Int { name, shape, .. } => Some(Cell {
-            name: name.word,
-            form: form(*shape),
-        }),
-        Declaration::Header { .. } => None,
+        Declaration::Int { name, shape, .. } => match form(*shape) {
+            Some(form) => Some(Cell {
+                name: name.word,
+                form,
+            }),
+            None => None,
+        },
+        _ => None,
     }
 }
 
@@ -120,7 +141,6 @@ fn header(alloc: Global, declaration: &Declaration) -> Result<Option<HeaderForm>
         (option_map header_tree) result }
 {
     match declaration {
-        Declaration::Int { .. } => Ok(None),
         Declaration::Header { name, fields, .. } => {
             let fields = field_count(alloc, fields)?;
             Ok(Some(HeaderForm {
@@ -128,6 +148,7 @@ fn header(alloc: Global, declaration: &Declaration) -> Result<Option<HeaderForm>
                 fields,
             }))
         }
+        _ => Ok(None),
     }
 }
 
@@ -138,6 +159,13 @@ fn push_some<T: Drop>(all: &mut Vec<T>, item: Option<T>) -> Result<(), AllocErro
         all.push(item)?;
     }
     Ok(())
+}
+
+/// Whether all these are of a form that is built so far.
+fn all_built(declarations: &[Declaration]) -> bool
+    ensures { result ≡ list_all (λ declaration. spec.is_built (declaration_tree declaration)) declarations.now }
+{
+    declarations.iter().all(|declaration| is_built(declaration))
 }
 
 fn names(alloc: Global, declarations: &[Declaration]) -> Result<Vec<Word>, AllocError>
@@ -177,11 +205,14 @@ fn headers(alloc: Global, declarations: &[Declaration]) -> Result<Vec<HeaderForm
 
 impl Declared {
     /// What declarations declare, where they may stand together.
-    #[tactic(auto, unfolding(crate::specs::Names::declared))]
+    #[tactic(auto, unfolding(crate::specs::Names::declared), using(crate::proofs::Lists::all_map))]
     pub fn of(alloc: Global, declarations: &[Declaration]) -> Result<Declared, ResolveError>
         ensures { Answers (spec.declared (map declaration_tree declarations.now))
             (λ layer. layer) result }
     {
+        if !all_built(declarations) {
+            return Err(ResolveError::Later);
+        }
         let names = names(alloc, declarations)?;
         let cells = cells(alloc, declarations)?;
         let headers = headers(alloc, declarations)?;

@@ -11,7 +11,7 @@ use crate::error::ResolveError;
 use crate::handler::{all_apart, handlers};
 use crate::words::is_same;
 use first_mean::{Handler, Layer};
-use layer_ast::{File, Word};
+use layer_ast::{File, Given, Word};
 use std::alloc::Global;
 
 /// The most handlers of a layer.
@@ -58,6 +58,13 @@ fn layer(alloc: Global, layer: &layer_ast::Layer) -> Result<Layer, ResolveError>
     layer_with(alloc, layer, names)
 }
 
+/// Whether a place gives no params.
+fn gives_none(given: &[Given]) -> bool
+    ensures { result ≡ spec.gives_none (map written.given_tree given.now) }
+{
+    matches!(given, [])
+}
+
 /// The layer of a file whose stack is one layer, with numbers in place of names.
 #[tactic(auto, unfolding(crate::specs::Stack::stack_of))]
 pub fn resolve(alloc: Global, file: &File) -> Result<Layer, ResolveError>
@@ -67,7 +74,7 @@ pub fn resolve(alloc: Global, file: &File) -> Result<Layer, ResolveError>
     let ([listed], [place]) = (file.layers.as_slice(), file.places.as_slice()) else {
         return Err(ResolveError::Later);
     };
-    if !is_same(&place.name.word, &listed.name.word) {
+    if !gives_none(&place.given) || !is_same(&place.name.word, &listed.name.word) {
         return Err(ResolveError::Later);
     }
     layer(alloc, listed)

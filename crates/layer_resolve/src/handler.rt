@@ -17,7 +17,7 @@ use crate::scope::Scope;
 use crate::statement::{block, is_cast};
 use crate::words::count;
 use first_mean::{Expression, Handler};
-use layer_ast::{Dir, Kind, Popped};
+use layer_ast::{Dir, Expected, Kind, Popped};
 use std::alloc::Global;
 
 /// The tag of the header that a handler going up takes off.
@@ -50,17 +50,18 @@ fn popped_tag(layer: &Declared, direction: Dir, popped: &Option<Popped>) -> Resu
 fn common(
     alloc: Global,
     scope: &Scope,
-    condition: &Option<layer_ast::Expression>,
+    expected: &Expected,
 ) -> Result<Option<Expression>, ResolveError>
-    ensures { Answers (spec.common_of scope.now (option_map written.expression_tree condition.now))
+    ensures { Answers (spec.common_of scope.now (written.expected_tree expected.now))
         (option_map expression_tree) result }
 {
-    match condition {
-        None => Ok(None),
-        Some(condition) => {
+    match expected {
+        Expected::Always => Ok(None),
+        Expected::Common(condition) => {
             let number = number(alloc, scope, condition)?;
             Ok(Some(number))
         }
+        Expected::Rare => Err(ResolveError::Later),
     }
 }
 
@@ -75,7 +76,7 @@ fn handler_in(
     ensures { Answers (spec.handler_in (written.handler_tree handler.now) tag scope.now)
         handler_tree result }
 {
-    let common = common(alloc, scope, &handler.common)?;
+    let common = common(alloc, scope, &handler.expected)?;
     let block = block(alloc, scope, &handler.block)?;
     Ok(Handler {
         dir: handler.direction,

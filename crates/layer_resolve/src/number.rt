@@ -4,21 +4,22 @@ ghost use Rattle.std.specs.Prelude.{◌≡◌};
 ghost use Rattle.layer_ast.specs.Tree.{named};
 ghost use Rattle.layer_ast.specs.View as written;
 ghost use Rattle.first_mean.specs.View.{expression_tree};
-ghost use Rattle.layer_resolve.specs.Numbers.{operator_of, number_of};
+ghost use Rattle.layer_resolve.specs.Numbers.{operator_of, number_of, argument_of};
 ghost use Rattle.layer_resolve.specs.Answer.{Answers};
 
 use crate::error::ResolveError;
 use crate::scope::Scope;
 use first_mean::{Expression, Form, Operator};
-use layer_ast::Name;
+use layer_ast::{Argument, Name};
 use std::alloc::Global;
 
-fn operator(written: layer_ast::Operator) -> Operator
+fn operator(written: layer_ast::Operator) -> Option<Operator>
     ensures { result ≡ operator_of written }
 {
     match written {
-        layer_ast::Operator::Add => Operator::Add,
-        layer_ast::Operator::Equal => Operator::Equal,
+        layer_ast::Operator::Add => Some(Operator::Add),
+        layer_ast::Operator::Equal => Some(Operator::Equal),
+        _ => None,
     }
 }
 
@@ -68,11 +69,28 @@ pub fn number(
             right,
             ..
         } => {
+            let operator = operator(*written).ok_or(ResolveError::Later)?;
             let left = number(alloc, scope, left)?;
             let right = number(alloc, scope, right)?;
             let left = Box::new(alloc, left)?;
             let right = Box::new(alloc, right)?;
-            Ok(Expression::Binary(operator(*written), left, right))
+            Ok(Expression::Binary(operator, left, right))
         }
+        _ => Err(ResolveError::Later),
+    }
+}
+
+/// The number of an argument.
+pub fn argument(
+    alloc: Global,
+    scope: &Scope,
+    argument: &Argument,
+) -> Result<Expression, ResolveError>
+    ensures { Answers (argument_of scope.now (written.argument_tree argument.now))
+        expression_tree result }
+{
+    match argument {
+        Argument::Value(expression) => number(alloc, scope, expression),
+        Argument::Content(_) => Err(ResolveError::Later),
     }
 }

@@ -3,15 +3,15 @@
 ghost use Rattle.std.specs.Prelude.{◌≡◌, ◌≤◌, ◌∷◌, map, length, Some, option_map};
 ghost use Rattle.layer_ast.specs.View as written;
 ghost use Rattle.first_mean.specs.View.{expression_tree, statement_tree};
-ghost use Rattle.layer_resolve.specs.Numbers.{each, number_of};
+ghost use Rattle.layer_resolve.specs.Numbers.{each, argument_of};
 ghost use Rattle.layer_resolve.specs.Statements as spec;
 ghost use Rattle.layer_resolve.specs.Answer.{Answers};
 
 use crate::error::ResolveError;
-use crate::number::number;
+use crate::number::{argument, number};
 use crate::scope::Scope;
 use first_mean::{Expression, FieldExpressions, Form, Statement};
-use layer_ast::{Arguments, Block, Dir, Kind, Name, Pushed};
+use layer_ast::{Argument, Arguments, Block, Dir, Kind, Name, Pushed};
 use std::alloc::Global;
 
 /// Whether a kind is the one that is built so far.
@@ -51,30 +51,32 @@ fn target(
 }
 
 /// Whether these are the bare name of the handler's message, and nothing else.
-fn is_message(scope: &Scope, arguments: &[layer_ast::Expression]) -> bool
-    ensures { result ≡ spec.is_message scope.now (map written.expression_tree arguments.now) }
+fn is_message(scope: &Scope, arguments: &[Argument]) -> bool
+    ensures { result ≡ spec.is_message scope.now (map written.argument_tree arguments.now) }
 {
     match arguments {
-        [layer_ast::Expression::Named { name, index: None }] => scope.is_message(&name.word),
+        [Argument::Value(layer_ast::Expression::Named { name, index: None })] => {
+            scope.is_message(&name.word)
+        }
         _ => false,
     }
 }
 
-/// The numbers of expressions in order, of which there is one at least.
+/// The numbers of arguments in order, of which there is one at least.
 fn numbers(
     alloc: Global,
     scope: &Scope,
-    first: &layer_ast::Expression,
-    rest: &[layer_ast::Expression],
+    first: &Argument,
+    rest: &[Argument],
 ) -> Result<Vec<Expression>, ResolveError>
-    ensures { Answers (each (number_of scope.now)
-        (written.expression_tree first.now ∷ map written.expression_tree rest.now))
+    ensures { Answers (each (argument_of scope.now)
+        (written.argument_tree first.now ∷ map written.argument_tree rest.now))
         (λ numbers. map expression_tree numbers.items) result }
 {
     let mut numbers = Vec::new(alloc);
-    numbers.push(number(alloc, scope, first)?)?;
-    for expression in rest {
-        numbers.push(number(alloc, scope, expression)?)?;
+    numbers.push(argument(alloc, scope, first)?)?;
+    for one in rest {
+        numbers.push(argument(alloc, scope, one)?)?;
     }
     Ok(numbers)
 }
@@ -86,7 +88,7 @@ fn fields(
     arguments: &Option<Arguments>,
 ) -> Result<FieldExpressions, ResolveError>
     requires { length (spec.listed (option_map written.arguments_tree arguments.now)) ≤ 4 }
-    ensures { Answers (each (number_of scope.now)
+    ensures { Answers (each (argument_of scope.now)
         (spec.listed (option_map written.arguments_tree arguments.now)))
         (λ fields. map expression_tree fields) result }
 {
@@ -161,7 +163,7 @@ fn emission(
     if !is_cast(kind) || !is_message(scope, &arguments.rest) {
         return Err(ResolveError::Later);
     }
-    let peer = number(alloc, scope, &arguments.first)?;
+    let peer = argument(alloc, scope, &arguments.first)?;
     let (tag, fields) = header(alloc, scope, direction, pushed)?;
     Ok(Statement::Emit {
         dir: direction,
@@ -199,6 +201,7 @@ fn statement(
             pushed,
             ..
         } => emission(alloc, scope, *direction, *kind, arguments, pushed),
+        _ => Err(ResolveError::Later),
     }
 }
 

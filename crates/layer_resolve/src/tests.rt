@@ -2,8 +2,8 @@
 
 use crate::{ResolveError, resolve};
 use layer_ast::{
-    Arguments, At, Block, Declaration, Dir, Expression, File, Handler, Kind, Layer, Name, Names,
-    Operator, Place, Pushed, Shape, Statement, Word,
+    Argument, Arguments, At, Block, Declaration, Dir, Ending, Expected, Expression, File, Handler,
+    Kind, Layer, Name, Names, Operator, Place, Pushed, Shape, Statement, Word,
 };
 use std::alloc::{AllocError, Global};
 use std::test::Fail;
@@ -44,11 +44,11 @@ fn counts_on(alloc: Global, read: &[u8; 1]) -> Result<Statement, AllocError> {
 /// `down Cast(p, m) with h(k);`
 fn casts(alloc: Global) -> Result<Statement, AllocError> {
     let arguments = Arguments {
-        first: bare(b"p"),
-        rest: vec![in alloc; bare(b"m")]?,
+        first: Argument::Value(bare(b"p")),
+        rest: vec![in alloc; Argument::Value(bare(b"m"))]?,
     };
     let fields = Arguments {
-        first: bare(b"k"),
+        first: Argument::Value(bare(b"k")),
         rest: Vec::new(alloc),
     };
     Ok(Statement::Emit {
@@ -69,6 +69,7 @@ fn counter(alloc: Global, read: &[u8; 1]) -> Result<File, AllocError> {
         at: HERE,
         name: name(b"k"),
         shape: Shape::One,
+        initial: None,
     };
     let header = Declaration::Header {
         at: HERE,
@@ -77,6 +78,7 @@ fn counter(alloc: Global, read: &[u8; 1]) -> Result<File, AllocError> {
             first: name(b"s"),
             rest: Vec::new(alloc),
         }),
+        ending: Ending::Passes,
     };
     let block = Block {
         statements: vec![in alloc; casts(alloc)?, counts_on(alloc, read)?]?,
@@ -90,7 +92,7 @@ fn counter(alloc: Global, read: &[u8; 1]) -> Result<File, AllocError> {
             rest: vec![in alloc; name(b"m")]?,
         },
         popped: None,
-        common: None,
+        expected: Expected::Always,
         block,
     };
     let layer = Layer {
@@ -99,9 +101,14 @@ fn counter(alloc: Global, read: &[u8; 1]) -> Result<File, AllocError> {
         declarations: vec![in alloc; count, header]?,
         handlers: vec![in alloc; down]?,
     };
+    let place = Place {
+        name: name(b"c"),
+        given: Vec::new(alloc),
+    };
     Ok(File {
         layers: vec![in alloc; layer]?,
-        places: vec![in alloc; Place { name: name(b"c") }]?,
+        places: vec![in alloc; place]?,
+        library: Vec::new(alloc),
     })
 }
 

@@ -1,11 +1,12 @@
 -- The file of the counter layer, as its tree.
 use Rattle.std.specs.Prelude.{◌≡◌, ℕ, List, [], ◌∷◌, codes, Option, Some, None}
-use Rattle.layer_ast.specs.Tree.{ExpressionTree, number, named, element, binary, NamesTree, PoppedTree, PushedTree, StatementTree, set, emit, StatementTrees, none, more, HandlerTree, DeclarationTree, int, header, FileTree}
+use Rattle.layer_ast.specs.Tree.{ExpressionTree, number, named, element, binary, value, NamesTree, PoppedTree, PushedTree, StatementTree, set, emit, StatementTrees, none, more, always, common, HandlerTree, DeclarationTree, int, header, FileTree}
 use Rattle.layer_ast.specs.declared.names.At.{At}
 use Rattle.layer_ast.specs.declared.names.Name.{Name}
 use Rattle.layer_ast.specs.declared.tokens.Dir.{Dir}
 use Rattle.layer_ast.specs.declared.tokens.Dir.TheVariants.{Up, Down}
 use Rattle.layer_ast.specs.declared.tokens.Kind.TheVariants.{Cast}
+use Rattle.layer_ast.specs.declared.syntax.Ending.TheVariants.{Passes}
 use Rattle.layer_ast.specs.declared.syntax.Operator.TheVariants.{Add, Equal}
 use Rattle.layer_ast.specs.declared.syntax.Shape.TheVariants.{One, Array}
 use Rattle.layer_resolve.specs.Stack.{stack_of}
@@ -39,24 +40,24 @@ at_name word = named (name word)
 
 -- An emission of Cast with these two arguments, pushing this header.
 abbrev pub cast : Dir → ExpressionTree → ExpressionTree → Option PushedTree → StatementTree
-cast direction peer message pushed = emit here direction Cast (record { first = peer; rest = message ∷ [] }) pushed
+cast direction peer message pushed = emit here direction Cast (record { first = value peer; rest = value message ∷ [] }) pushed
 
 -- A header of the name num with one field, as it is pushed and as it is popped.
 abbrev pub with_num : ExpressionTree → Option PushedTree
-with_num field = Some (record { name = name (codes "num"); fields = Some (record { first = field; rest = [] }) })
+with_num field = Some (record { name = name (codes "num"); fields = Some (record { first = value field; rest = [] }) })
 
 abbrev pub num_popped : List ℕ → Option PoppedTree
 num_popped label = Some (record { name = name (codes "num"); fields = Some (one_name label) })
 
 -- What the layer declares: `state int k;`, `state int e[n];` and `header num(seq) passes;`.
 abbrev pub state_k : DeclarationTree
-state_k = int here (name (codes "k")) One
+state_k = int here (name (codes "k")) One None
 
 abbrev pub state_e : DeclarationTree
-state_e = int here (name (codes "e")) Array
+state_e = int here (name (codes "e")) Array None
 
 abbrev pub header_num : DeclarationTree
-header_num = header here (name (codes "num")) (Some (one_name (codes "seq")))
+header_num = header here (name (codes "num")) (Some (one_name (codes "seq"))) Passes
 
 -- `set k = (k + 1);`
 abbrev pub count_on : StatementTree
@@ -82,7 +83,7 @@ down_cast block = record {
   kind = Cast;
   names = two_names (codes "p") (codes "m");
   popped = None;
-  common = None;
+  expected = always;
   block = block;
 }
 
@@ -94,7 +95,7 @@ up_cast block = record {
   kind = Cast;
   names = two_names (codes "o") (codes "m");
   popped = num_popped (codes "seq");
-  common = Some (binary here (at_name (codes "seq")) Equal (element (name (codes "e")) (at_name (codes "o"))));
+  expected = common (binary here (at_name (codes "seq")) Equal (element (name (codes "e")) (at_name (codes "o"))));
   block = block;
 }
 
@@ -102,7 +103,8 @@ up_cast block = record {
 abbrev pub file_with : List DeclarationTree → List HandlerTree → List ℕ → FileTree
 file_with declarations handlers place = record {
   layers = record { at = here; name = name (codes "cnt"); declarations = declarations; handlers = handlers } ∷ [];
-  places = record { name = name place } ∷ [];
+  places = record { name = name place; given = [] } ∷ [];
+  library = [];
 }
 
 -- What the counter layer declares, and its two handlers.

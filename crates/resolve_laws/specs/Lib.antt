@@ -1,2 +1,3 @@
 pub mod CounterFile
 pub mod Faults
+pub mod Later

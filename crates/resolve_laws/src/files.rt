@@ -3,6 +3,7 @@
 
 ghost use Rattle.resolve_laws.specs.CounterFile.{IsCounter};
 ghost use Rattle.resolve_laws.specs.Faults.{UnknownName, NameTwice, TooFewFields, MessageAsNumber, HeaderGoingUp, ArrayAsNumber, NumberAsArray, HandlersAlike, UnknownLayer};
+ghost use Rattle.resolve_laws.specs.Later.{Param, InitialValue, SquareCell, HeaderEnds, RareHandler, OtherKind, OtherOperator, OtherExpression, OtherStatement, BuiltMessage, PlaceWithParams};
 
 /// The file of the counter layer means the counter layer.
 pub fn counter_file()
@@ -24,4 +25,19 @@ pub fn type_faults()
     ensures header_going_up { HeaderGoingUp }
     ensures array_as_number { ArrayAsNumber }
     ensures number_as_array { NumberAsArray }
+{}
+
+/// With one part that the form that is built so far doesn't have it means no stack.
+pub fn later_parts()
+    ensures param { Param }
+    ensures initial_value { InitialValue }
+    ensures square_cell { SquareCell }
+    ensures header_ends { HeaderEnds }
+    ensures rare_handler { RareHandler }
+    ensures other_kind { OtherKind }
+    ensures other_operator { OtherOperator }
+    ensures other_expression { OtherExpression }
+    ensures other_statement { OtherStatement }
+    ensures built_message { BuiltMessage }
+    ensures place_with_params { PlaceWithParams }
 {}

@@ -4,4 +4,4 @@
 
 mod files;
 
-pub use files::{counter_file, name_faults, type_faults};
+pub use files::{counter_file, later_parts, name_faults, type_faults};

@@ -20,6 +20,7 @@ use Rattle.stack_mean.specs.Drawn.{DrawnHeader, DrawnMessage, chained, unknown, 
 use Rattle.shape_laws.specs.Walk.{Here, onward, walk_step, walk, took}
 use Rattle.shape_laws.specs.Bare.{BareRow, BareMessage, BareTaken, BareContent, BareStep, BareBeyond, BareSteps}
 use Rattle.shape_laws.specs.Outline.{Outline, message_tags, drawn_tags, event_outline, drawn_outline}
+use Rattle.std.proofs.lemmas.List.{map-append}
 
 -- what is known of a message is so
 abbrev pub Matches : DrawnMessage → Content → Type 0
@@ -116,14 +117,10 @@ of_kind kind numbers headers m e = go (carries kind) where
   go true = ap (λ tags. record { kind = kind; tags = tags }) e
   go false = ap (λ tags. record { kind = kind; tags = tags }) e
 
-pub append_map : {A B : Type 0} (f : A → B) (xs ys : List A) → map f (xs ++ ys) ≡ map f xs ++ map f ys
-append_map f [] ys = refl
-append_map f (x ∷ xs) ys = ap (λ l. f x ∷ l) (append_map f xs ys)
-
 -- lists that agree so far, and at one more
 pub one_more : {A B C : Type 0} (f : A → C) (g : B → C) (xs : List A) (ys : List B) (x : A) (y : B) →
     map f xs ≡ map g ys → f x ≡ g y → map f (xs ++ x ∷ []) ≡ map g (ys ++ y ∷ [])
-one_more f g xs ys x y e h = append_map f xs (x ∷ []) ∙ (λ i. e i ++ h i ∷ []) ∙ sym (append_map g ys (y ∷ []))
+one_more f g xs ys x y e h = map-append f xs (x ∷ []) ∙ (λ i. e i ++ h i ∷ []) ∙ sym (map-append g ys (y ∷ []))
 
 pushed_matches : (place : ℕ) (dir : Dir) (c : ContentTree) (s : State) (l : Scope) (headers : List DrawnHeader) (m : Content) →
     drawn_tags headers ≡ message_tags m →

@@ -17,10 +17,7 @@ use Rattle.shape_laws.proofs.Marks.{logs_tell_runs}
 use Rattle.shape_laws.proofs.Runs.{DrawnLine, RunLine, InStep, runs_in_step}
 use Rattle.layer_mean.specs.Tree.{LayerTree}
 use Rattle.layer_mean.specs.State.{State}
-
-map_twice : {A B C : Type 0} (f : A → B) (g : B → C) (xs : List A) → map g (map f xs) ≡ map (λ x. g (f x)) xs
-map_twice f g [] = refl
-map_twice f g (x ∷ xs) = ap (λ l. g (f x) ∷ l) (map_twice f g xs)
+use Rattle.std.proofs.lemmas.Simd.{map-map}
 
 map_same : {A B : Type 0} (f g : A → B) → ((x : A) → f x ≡ g x) → (xs : List A) → map f xs ≡ map g xs
 map_same f g same [] = refl
@@ -57,9 +54,9 @@ told : {A : Type 0} (f : Logged Outline → A) (g : Logged DrawnEvent → A) →
     map (logged_outline drawn_outline) xs ≡ map (logged_outline event_outline) ys →
     map (λ y. f (logged_outline event_outline y)) ys ≡ map g xs
 told f g same xs ys alike =
-    sym (map_twice (logged_outline event_outline) f ys)
+    sym (map-map f (logged_outline event_outline) ys)
     ∙ ap (map f) (sym alike)
-    ∙ map_twice (logged_outline drawn_outline) f xs
+    ∙ map-map f (logged_outline drawn_outline) xs
     ∙ map_same _ g same xs
 
 has_shape : (z : DrawnLine) (r : RunLine) (s : Shape) → shape_of z.world ≡ Ok s → InStep z.world.world z r →
@@ -77,7 +74,7 @@ has_shape z r s made step usual = go z.world.world made step where
         visits = told as_visit shape_visit visit_told z.world.visits r.world.visits a.visits;
         outs =
             told as_out (λ x. shape_out_outline (shape_out x)) out_told z.world.outs r.world.outs a.outs
-            ∙ sym (map_twice shape_out shape_out_outline z.world.outs);
+            ∙ sym (map-map shape_out_outline shape_out z.world.outs);
       })
 
 -- the law after any number of turns

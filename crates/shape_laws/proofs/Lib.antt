@@ -5,3 +5,4 @@ pub mod Runs
 pub mod Marks
 pub mod Law
 pub mod Parts
+pub mod Constants

@@ -2,7 +2,7 @@
 use Rattle.std.proofs.Common.{◌≡◌, ℕ, zero, suc, ◌+◌, ◌-◌, Bool, true, false, List, [], ◌∷◌, ◌++◌, map, Some, refl, sym, ap, subst, ◌∙◌}
 use Rattle.std.specs.Prelude.{if◌then◌else◌, length}
 use Rattle.std.specs.List.{enumerate_from}
-use Rattle.std.proofs.lemmas.List.{length-append}
+use Rattle.std.proofs.lemmas.List.{length-append, map-append}
 use Rattle.layer_ast.specs.declared.tokens.Dir.{Dir}
 use Rattle.layer_mean.specs.declared.run.Event.{Event}
 use Rattle.layer_mean.specs.Tree.{LayerTree}
@@ -11,7 +11,6 @@ use Rattle.layer_mean.specs.Queue.{Task, Turn, Line, beyond, tasks_of, is_place,
 use Rattle.layer_mean.specs.Marked.{Marked, Log, marked_sent, marked}
 use Rattle.shape_laws.specs.Law.{run_start}
 use Rattle.shape_laws.specs.Marks.{Tells, LogsTellRuns}
-use Rattle.shape_laws.proofs.Draws.{append_map}
 use Rattle.shape_laws.proofs.Runs.{RunLine, first_turn}
 
 abbrev unmarked : Task (Marked Event) → Task Event
@@ -55,14 +54,14 @@ turn_unmarked stack (t ∷ rest) log h = go (is_place (length stack) t.at) where
   go : (b : Bool) → ((r b).world.world ≡ (q b).world) × (map unmarked (r b).tasks ≡ (q b).tasks) × Told (r b).world
   go true = (
     refl,
-    append_map unmarked rest _ ∙ ap (λ ts. map unmarked rest ++ ts) (sent_unmarked t.at (length log.visits) turn.sent 0),
+    map-append unmarked rest _ ∙ ap (λ ts. map unmarked rest ++ ts) (sent_unmarked t.at (length log.visits) turn.sent 0),
     record { outs = h.outs; visits = length-append log.visits _ ∙ ap (λ n. n + 1) h.visits },
   )
   go false = (
     refl,
     refl,
     record {
-      outs = append_map (λ x. (x.dir, x.marked.event)) log.outs _ ∙ ap (λ xs. xs ++ (t.dir, t.event.event) ∷ []) h.outs;
+      outs = map-append (λ x. (x.dir, x.marked.event)) log.outs _ ∙ ap (λ xs. xs ++ (t.dir, t.event.event) ∷ []) h.outs;
       visits = h.visits;
     },
   )

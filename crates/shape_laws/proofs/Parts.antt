@@ -1,6 +1,6 @@
 -- Where no predicted way reads a part, there is nothing to be said of parts.
 use Rattle.std.proofs.Common.{◌≡◌, ℕ, zero, suc, ◌-◌, Bool, true, false, List, [], ◌∷◌, Option, Some, None, refl}
-use Rattle.std.specs.Prelude.{if◌then◌else◌, ◌&&◌, length, slice_index_or}
+use Rattle.std.specs.Prelude.{if◌then◌else◌, length, slice_index_or}
 use Rattle.std.specs.List.{find, list_all}
 use Rattle.std.specs.Option.{option_map_or}
 use Rattle.layer_ast.specs.declared.tokens.Dir.{Dir}
@@ -16,10 +16,7 @@ use Rattle.layer_mean.specs.Way.{Step, get, send, handler_way}
 use Rattle.shape_laws.specs.Walk.{Here, walk_step}
 use Rattle.shape_laws.specs.Bare.{BareRow, BareMessage, BareTaken, BareContent, BareStep, BareBeyond, BareSteps, BareWay, BareHandled, BareVisit, BareNext}
 use Rattle.shape_laws.specs.Parts.{is_whole, holds_no_part, reads_no_part, way_reads_no_part, layer_reads_no_part, RunsWithoutParts}
-
-both : (a b : Bool) → (a && b) ≡ true → (a ≡ true) × (b ≡ true)
-both true b h = (refl, h)
-both false b h = absurd (cc h)
+use Rattle.std.proofs.lemmas.Bool.{and_parts}
 
 row_bare : (carried : Carried) (row : Option Row) → is_whole carried ≡ true → BareRow carried row
 row_bare part row h = absurd (cc h)
@@ -54,7 +51,7 @@ beyond P all (Some h) = all h
 steps_bare : (place : ℕ) (xs : List Step) (h : Here) → list_all reads_no_part xs ≡ true → BareSteps place xs h
 steps_bare place [] h e = tt
 steps_bare place (x ∷ xs) h e =
-    let parts = both (reads_no_part x) (list_all reads_no_part xs) e in
+    let parts = and_parts (reads_no_part x) (list_all reads_no_part xs) e in
     (step_bare x h parts.0, beyond (BareSteps place xs) (λ g. steps_bare place xs g parts.1) (walk_step place x h))
 
 way_bare : (place : ℕ) (w : Option (List Step)) (s : State) (l : Scope) → option_map_or (list_all reads_no_part) w true ≡ true →
@@ -67,7 +64,7 @@ found : (p q : HandlerTree → Bool) (hs : List HandlerTree) (place : ℕ) (s : 
     BareHandled place (find p hs) s e m
 found p q [] place s e m bare all = tt
 found p q (h ∷ hs) place s e m bare all =
-    let parts = both (q h) (list_all q hs) all in
+    let parts = and_parts (q h) (list_all q hs) all in
     first (p h) (bare h parts.0) (found p q hs place s e m bare parts.1) where
       first : (b : Bool) → BareWay place (handler_way h) s (entered h e m) → BareHandled place (find p hs) s e m →
           BareHandled place (if b then Some h else find p hs) s e m
@@ -84,8 +81,8 @@ visit_bare place layer s dir e h =
 layer_found : (stack : List LayerTree) (k : ℕ) → list_all layer_reads_no_part stack ≡ true →
     layer_reads_no_part (slice_index_or stack k no_layer) ≡ true
 layer_found [] k h = refl
-layer_found (x ∷ xs) zero h = (both (layer_reads_no_part x) (list_all layer_reads_no_part xs) h).0
-layer_found (x ∷ xs) (suc k) h = layer_found xs k (both (layer_reads_no_part x) (list_all layer_reads_no_part xs) h).1
+layer_found (x ∷ xs) zero h = (and_parts (layer_reads_no_part x) (list_all layer_reads_no_part xs) h).0
+layer_found (x ∷ xs) (suc k) h = layer_found xs k (and_parts (layer_reads_no_part x) (list_all layer_reads_no_part xs) h).1
 
 next_bare : (stack : List LayerTree) (w : Work) (tasks : List (Task (Marked Event))) → list_all layer_reads_no_part stack ≡ true →
     BareNext stack w tasks

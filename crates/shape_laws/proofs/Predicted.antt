@@ -13,6 +13,7 @@ use Rattle.layer_mean.specs.Effect.{Decision, usual, unusual, is_usual, Outcome,
 use Rattle.layer_mean.specs.Visit.{expecting}
 use Rattle.layer_mean.specs.Way.{Step, way, ways, expected_way, handler_way}
 use Rattle.shape_laws.specs.Walk.{Here, onward, walk_step, walk, took}
+use Rattle.std.proofs.lemmas.List.{append-nil, append_assoc}
 
 -- whether all that was decided is as predicted
 abbrev pub AllUsual : List Decision → Type 0
@@ -34,14 +35,6 @@ here pre o = record { state = o.state; scope = o.scope; sent = pre ++ o.sent }
 abbrev pub start : List (Dir × Event) → State → Scope → Here
 start pre s l = record { state = s; scope = l; sent = pre }
 
-append_nil : {A : Type 0} (xs : List A) → xs ++ [] ≡ xs
-append_nil [] = refl
-append_nil (x ∷ xs) = ap (λ ys. x ∷ ys) (append_nil xs)
-
-append_assoc : {A : Type 0} (xs ys zs : List A) → (xs ++ ys) ++ zs ≡ xs ++ (ys ++ zs)
-append_assoc [] ys zs = refl
-append_assoc (x ∷ xs) ys zs = ap (λ l. x ∷ l) (append_assoc xs ys zs)
-
 onward_twice : (f g : Here → Option Here) (w : Option Here) → onward g (onward f w) ≡ onward (λ h. onward g (f h)) w
 onward_twice f g None = refl
 onward_twice f g (Some h) = refl
@@ -58,7 +51,7 @@ walk_both place (x ∷ xs) ys h =
 
 -- nothing sent: the same place
 unsent : (pre : List (Dir × Event)) (s : State) (l : Scope) → Some (start pre s l) ≡ Some (start (pre ++ []) s l)
-unsent pre s l = ap (λ x. Some (start x s l)) (sym (append_nil pre))
+unsent pre s l = ap (λ x. Some (start x s l)) (sym (append-nil pre))
 
 -- a walk that went on from where it stood
 on_from : (f : Here → Option Here) (w : Option Here) (h : Here) (x : Option Here) → w ≡ Some h → f h ≡ x → onward f w ≡ x
@@ -77,7 +70,7 @@ from_start : (place : ℕ) (steps : List Step) (fs : List Act) → Block place s
     (s : State) (l : Scope) (pre : List (Dir × Event)) → AllUsual (in_order fs s l).decided →
     walk place steps (start pre s l) ≡ Some (here pre (in_order fs s l))
 from_start place steps fs block s l pre h =
-    ap (λ x. walk place steps (start x s l)) (sym (append_nil pre)) ∙ block (done s l) pre h
+    ap (λ x. walk place steps (start x s l)) (sym (append-nil pre)) ∙ block (done s l) pre h
 
 push_goes : (place : ℕ) (room : Bool) (t : State) (l : Scope) (pre : List (Dir × Event)) (other : Outcome) →
     AllUsual (if room then decides usual (done t l) else decides unusual other).decided →

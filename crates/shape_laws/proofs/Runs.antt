@@ -3,7 +3,7 @@ use Rattle.std.proofs.Common.{◌≡◌, ℕ, zero, suc, ◌-◌, Bool, true, fa
 use Rattle.std.specs.Prelude.{if◌then◌else◌, nat_lt, length, Result, Ok, Err}
 use Rattle.std.specs.List.{enumerate_from, list_all}
 use Rattle.layer_mean.specs.Effect.{is_usual}
-use Rattle.std.proofs.lemmas.List.{length-map}
+use Rattle.std.proofs.lemmas.List.{length-map, map-append}
 use Rattle.layer_ast.specs.declared.tokens.Dir.{Dir}
 use Rattle.layer_mean.specs.declared.run.Event.{Event}
 use Rattle.layer_mean.specs.Tree.{LayerTree}
@@ -17,7 +17,7 @@ use Rattle.stack_mean.specs.Shape.{Progress, visits_limit, drawn_turn, shaper}
 use Rattle.shape_laws.specs.Bare.{BareVisit, BareNext, BareRun}
 use Rattle.shape_laws.specs.Outline.{Outline, event_outline, drawn_outline, logged_outline}
 use Rattle.shape_laws.proofs.Predicted.{AllUsual, usual_parts}
-use Rattle.shape_laws.proofs.Draws.{sent_outline, append_map, one_more}
+use Rattle.shape_laws.proofs.Draws.{sent_outline, one_more}
 use Rattle.shape_laws.proofs.Visits.{VisitDrawn, visit_same}
 
 abbrev pub DrawnLine : Type 0
@@ -78,9 +78,9 @@ module _ (at : ℕ) (dir : Dir) (maker : Option Source) (d : DrawnEvent) (e : Ev
       (after_visit at dir (marking e maker) r.tasks r.world.visits r.world.outs (visited at w v))
   visit_alike dv v alike sent = record {
     tasks =
-        append_map (made_task drawn_outline) z.tasks _
+        map-append (made_task drawn_outline) z.tasks _
         ∙ (λ i. alike.tasks i ++ behind i)
-        ∙ sym (append_map (made_task event_outline) r.tasks _);
+        ∙ sym (map-append (made_task event_outline) r.tasks _);
     visits = one_more _ _ z.world.visits r.world.visits _ _ alike.visits log_same;
     outs = alike.outs;
   } where

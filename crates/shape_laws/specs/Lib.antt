@@ -4,3 +4,5 @@ pub mod Outline
 pub mod Law
 pub mod Parts
 pub mod Marks
+pub mod Samples
+pub mod Constants

@@ -2,9 +2,11 @@
 //! nothing.
 #![tactic(auto)]
 
+ghost use Rattle.shape_laws.specs.Constants.{ConstantsAreValues};
 ghost use Rattle.shape_laws.specs.Law.{PredictedRunsHaveTheShape};
 ghost use Rattle.shape_laws.specs.Marks.{LogsTellRuns};
 ghost use Rattle.shape_laws.specs.Parts.{RunsWithoutParts};
+ghost use Rattle.shape_laws.specs.Samples.{KeptRun, SamplesReadNoParts};
 
 /// A run that begins with an entry's event and goes as predicted throughout has the entry's shape: its visits and outputs have
 /// the shape's places, directions, kinds, tags and makers.
@@ -20,4 +22,20 @@ pub fn runs_without_parts()
 /// The log of visits, outputs and makers changes nothing of a run.
 pub fn logs_tell_runs()
     ensures { LogsTellRuns }
+{}
+
+/// A field that is drawn as constant has that number in every run.
+pub fn constants_are_values()
+    ensures { ConstantsAreValues }
+{}
+
+/// A cast over four layers, played: what its shape says, by evaluation.
+#[tactic(auto, unfolding(layer_mean::specs::Visit::step))]
+pub fn kept_run()
+    ensures { KeptRun }
+{}
+
+/// Layers that read no parts.
+pub fn samples_read_no_parts()
+    ensures { SamplesReadNoParts }
 {}

@@ -1,11 +1,11 @@
 use Rattle.std.proofs.Common.{◌≡◌, ◌∷◌, Some, map, take}
 use Rattle.layer_ast.specs.View as written
 use Rattle.first_mean.specs.View.{expression_tree}
-use Rattle.layer_resolve.specs.Numbers.{each, number_of}
+use Rattle.layer_resolve.specs.Numbers.{each, argument_of}
 use Rattle.layer_resolve.proofs.statement.numbers.Given as goal
 
-abbrev pub invariant-loop-expression : goal.invariant-loop-expression
-invariant-loop-expression l =
-    each (number_of l.scope)
-    (written.expression_tree l.first ∷ map written.expression_tree (take l.expression-index l.rest)) ≡
+abbrev pub invariant-loop-one : goal.invariant-loop-one
+invariant-loop-one l =
+    each (argument_of l.scope)
+    (written.argument_tree l.first ∷ map written.argument_tree (take l.one-index l.rest)) ≡
     Some (map expression_tree l.numbers.items)
