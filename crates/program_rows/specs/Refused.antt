@@ -4,7 +4,7 @@ use Rattle.layer_ast.specs.declared.tokens.Dir.TheVariants.{Up, Down}
 use Rattle.layer_ast.specs.declared.tokens.Kind.TheVariants as kind
 use Rattle.layer_ast.specs.Samples.{at, name_at}
 use Rattle.layer_ast.specs.Tree.{number, named, value, fixed, set, each, emit, more, none, FileTree}
-use Rattle.file_faults.specs.Samples.{small_file, small_text, cast_down, cast_up, handler}
+use Rattle.file_faults.specs.Samples.{small_file, small_text, cast_down, handler}
 use Rattle.job_mean.specs.Status.{unknown, cycle, too_many, bad_token, unexpected}
 use Rattle.program_mean.specs.Judged.{Refuses}
 

@@ -17,11 +17,13 @@ abbrev pub ReplaysCounter : Type 0
 ReplaysCounter = Replays counter.text script layered false false report × Replays counter.text script bypass false false report
 
 -- With bypasses, and with the packet's bytes and the number of visits.
+abbrev pub short_report : List ℕ
+short_report =
+    codes "packet 1 0 all cnt.num(0) 6869\n" ++ codes "wire 1 e60000000100000007000000000000000700ff00000000006869\n"
+    ++ codes "deliver 1 cast 0 6869\n" ++ codes "end 2\n" ++ codes "visits 0\n"
+
 abbrev pub ReplaysShort : Type 0
-ReplaysShort = Replays counter.text script bypass true true (
-codes "packet 1 0 all cnt.num(0) 6869\n" ++ codes "wire 1 e60000000100000007000000000000000700ff00000000006869\n"
-++ codes "deliver 1 cast 0 6869\n" ++ codes "end 2\n" ++ codes "visits 0\n"
-)
+ReplaysShort = Replays counter.text script bypass true true short_report
 
 -- The stack of the whole library is accepted.
 abbrev pub ChecksLibrary : Type 0

@@ -1,11 +1,10 @@
-use Rattle.std.proofs.Common.{refl, omega, arith}
+use Rattle.std.proofs.Common.{refl, arith}
 use Rattle.layer_ast.specs.Cut.{piece}
 use Rattle.layer_ast.specs.Spelling.{reserved, kinds, word_token, symbols, symbol_at}
 use Rattle.layer_ast.proofs.Laid.{fits_laid}
 use Rattle.layer_lib.specs.Library.{library}
 use Rattle.file_mean.specs.Layers.{handler_of, layer_of}
 use Rattle.file_mean.specs.Stack.{stack_of}
-use Rattle.layer_mean.specs.Visit.{step}
 use Rattle.program_rows.specs.Refused.{unknown_file, echo_file, fan_file}
 use Rattle.program_rows.proofs.refuses.Goals as goal
 

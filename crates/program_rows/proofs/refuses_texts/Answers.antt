@@ -1,4 +1,4 @@
-use Rattle.std.proofs.Common.{refl, omega, arith, inr}
+use Rattle.std.proofs.Common.{refl, arith, inr}
 use Rattle.layer_ast.specs.Cut.{piece}
 use Rattle.layer_ast.specs.Spelling.{symbols, symbol_at}
 use Rattle.layer_laws.proofs.Beginnings.{nothing_begins, nothing_spells}

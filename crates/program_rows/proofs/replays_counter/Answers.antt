@@ -1,4 +1,4 @@
-use Rattle.std.proofs.Common.{refl, omega, arith}
+use Rattle.std.proofs.Common.{refl, arith}
 use Rattle.std.specs.Fmt.{digits}
 use lib.Count.{ones, ones_in, count_trailing_zeros}
 use Rattle.hex.proofs.OnLiterals.{hex_on_literals}
@@ -21,34 +21,37 @@ use Rattle.program_rows.proofs.replays_counter.Goals as goal
 
 pub returns : goal.returns
 unfolding piece reserved kinds word_token symbols symbol_at library stack_of layer_of handler_of output_in report_lines happens received shape run step digits ones ones_in count_trailing_zeros hex_on_literals
-returns c = (record {
-  stack = stack_of counter.file;
-  means = record {
-    small = omega arith;
-    file = counter.file;
-    is_file = record {
-      spelled = record { good = refl; fits = fits_laid _ _ refl; within = tt; placed = λ none. cc };
-      library = tt;
+returns c = (
+  record {
+    stack = stack_of counter.file;
+    means = record {
+      small = omega arith;
+      file = counter.file;
+      is_file = record {
+        spelled = record { good = refl; fits = fits_laid _ _ refl; within = tt; placed = λ none. cc };
+        library = tt;
+      };
+      accepted = refl;
     };
-    accepted = refl;
-  };
-  script = record { group = 1; stamp = 7; members = 3; events = script.Cast 0 (codes "hi") ∷ script.Give 1 1 ∷ [] };
-  spelled = refl;
-  room = omega arith;
-  written = refl;
-}, record {
-  stack = stack_of counter.file;
-  means = record {
-    small = omega arith;
-    file = counter.file;
-    is_file = record {
-      spelled = record { good = refl; fits = fits_laid _ _ refl; within = tt; placed = λ none. cc };
-      library = tt;
+    script = record { group = 1; stamp = 7; members = 3; events = script.Cast 0 (codes "hi") ∷ script.Give 1 1 ∷ [] };
+    spelled = refl;
+    room = omega arith;
+    written = refl;
+  },
+  record {
+    stack = stack_of counter.file;
+    means = record {
+      small = omega arith;
+      file = counter.file;
+      is_file = record {
+        spelled = record { good = refl; fits = fits_laid _ _ refl; within = tt; placed = λ none. cc };
+        library = tt;
+      };
+      accepted = refl;
     };
-    accepted = refl;
-  };
-  script = record { group = 1; stamp = 7; members = 3; events = script.Cast 0 (codes "hi") ∷ script.Give 1 1 ∷ [] };
-  spelled = refl;
-  room = omega arith;
-  written = refl;
-})
+    script = record { group = 1; stamp = 7; members = 3; events = script.Cast 0 (codes "hi") ∷ script.Give 1 1 ∷ [] };
+    spelled = refl;
+    room = omega arith;
+    written = refl;
+  },
+)

@@ -1,4 +1,4 @@
-use Rattle.std.proofs.Common.{refl, omega, arith}
+use Rattle.std.proofs.Common.{refl, arith}
 use Rattle.std.specs.Fmt.{digits}
 use lib.Count.{ones, ones_in, count_trailing_zeros}
 use Rattle.hex.proofs.OnLiterals.{hex_on_literals}
