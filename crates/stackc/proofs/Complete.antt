@@ -4,8 +4,6 @@ use Rattle.std.specs.Prelude.{Some, None, Ok, Err, IfSome, IsSomeAnd}
 use Rattle.std.specs.Option.{option_map}
 use Rattle.outside.specs.Shelf.{Shelved, found_in, after_read}
 use Rattle.first_mean.specs.Tree.{LayerTree}
-use Rattle.layer_laws.proofs.Once.{spelled_once}
-use Rattle.layer_resolve.specs.Stack.{stack_of}
 use Rattle.script_mean.specs.declared.script.Script.{Script}
 use Rattle.first_run.specs.Report.{report}
 use Rattle.stackc.specs.Job.{Replay}
@@ -17,6 +15,7 @@ use Rattle.stackc.specs.Ended.{Around, Errors, Ended, Done, Says, whole, failed,
 use Rattle.stackc.specs.Complete.{Supplies, IsGood, NoPutFailed, Completes}
 use Rattle.stackc.specs.declared.fault.Fault.{Fault}
 use Rattle.stackc.specs.declared.fault.Fault.TheVariants.{Words, FileTooLarge, FileLater, ScriptTooLong, ScriptLater, Read, Write, Memory}
+use Rattle.stackc.proofs.Spelled.{one_stack}
 
 -- what holds where the shelf tells holds of what it tells
 told_so : (told : Option Shelved) (shelf : Shelved) (P : Shelved → Type 0) → told ≡ Some shelf → IfSome told P → P shelf
@@ -25,7 +24,7 @@ told_so told shelf P is h = subst (λ t. IfSome t P) is h
 -- bytes mean one stack at most
 means_once : (bytes : List ℕ) (s t : List LayerTree) → Means bytes s → Means bytes t → s ≡ t
 means_once bytes s t a b =
-    let same = ap stack_of (spelled_once bytes a.file b.file a.spelled b.spelled) in
+    let same = one_stack bytes a.file b.file a.spelled b.spelled in
     let both : Some s ≡ Some t = sym a.is_stack ∙ same ∙ b.is_stack in
     cc (both)
 

@@ -1,4 +1,5 @@
 pub mod Gaining
 pub mod Stories
 pub mod Held
+pub mod Spelled
 pub mod Complete

@@ -28,7 +28,8 @@ returns c = record {
           declarations = [];
           handlers = [];
         } ∷ [];
-        places = record { name = record { at = record { line = 2; col = 9 }; word = codes "a" } } ∷ [];
+        places = record { name = record { at = record { line = 2; col = 9 }; word = codes "a" }; given = [] } ∷ [];
+        library = [];
       };
       spelled = record {
         good = refl;
