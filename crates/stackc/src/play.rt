@@ -12,8 +12,8 @@ ghost use Rattle.stackc.specs.Wrote.{Wrote};
 ghost use Rattle.stackc.specs.Played.{Played, Lined, Stands};
 
 use crate::fault::Fault;
-use layer_eval::Emits;
 use first_mean::Layer;
+use layer_eval::Emits;
 use msg_core::Memory;
 use outside::{Sink, SinkError};
 use report_text::{Line, end_line, event_lines, member_of};
