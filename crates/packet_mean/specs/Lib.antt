@@ -4,3 +4,4 @@ pub mod Spelling
 pub mod Reading
 pub mod Received
 pub mod Samples
+pub mod ChainedState

@@ -1,10 +1,11 @@
 -- Which steps are common, and which of their packets are sent short, under which plan. Both are told by the layers' texts and by the
 -- layered run of the step.
-use Rattle.std.specs.Prelude.{ℕ, ◌+◌, Bool, true, false, ◌&&◌, nat_le, if◌then◌else◌, List, [], ◌∷◌, length, slice_get, Option, Some, None, option_map, Result, Ok, Err}
-use Rattle.std.specs.List.{filter}
+use Rattle.std.specs.Prelude.{ℕ, ◌+◌, Bool, true, false, not, ◌&&◌, nat_le, if◌then◌else◌, List, [], ◌∷◌, length, slice_get, Option, Some, None, option_map, Result, Ok, Err}
+use Rattle.std.specs.List.{filter, position}
 use Rattle.std.specs.Option.{option_and_then, option_map_or}
 use Rattle.msg_core.specs.declared.packet.Packet.{Packet}
 use Rattle.layer_mean.specs.Tree.{LayerTree}
+use Rattle.layer_mean.specs.Effect.{is_usual}
 use Rattle.layer_mean.specs.Queue.{is_predicted}
 use Rattle.stack_mean.specs.NoShape.{NoShape}
 use Rattle.stack_mean.specs.Shape.{Known, packet_entry, Shape, shape}
@@ -41,6 +42,10 @@ is_short (Err reason) = false
 abbrev pub is_common : List LayerTree → List Plan → Step → Bool
 is_common stack plans s =
     option_map_or (λ known. is_short (shape stack known)) (entry_of plans s.entered) false && is_predicted s.work
+
+-- The number of the first decision of a step that didn't go as predicted, counted from 0 through all its visits, if there is one.
+abbrev pub first_missed : Step → Option ℕ
+first_missed s = position (λ d. not (is_usual d)) s.work.decided
 
 -- Whether an output is one of those to which plans belong: a packet, or a send that has nowhere to go.
 abbrev pub is_planned : Output → Bool

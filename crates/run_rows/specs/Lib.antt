@@ -6,3 +6,4 @@ pub mod Alias
 pub mod Leaving
 pub mod Generated
 pub mod Views
+pub mod States

@@ -7,6 +7,7 @@ ghost use Rattle.run_rows.specs.Towers.{FourPlaces, ThreePlaces};
 ghost use Rattle.run_rows.specs.Alias.{ThreeCasts};
 ghost use Rattle.run_rows.specs.Leaving.{Keeps, Leaves};
 ghost use Rattle.run_rows.specs.Generated.{Accepts, OneEvent};
+ghost use Rattle.run_rows.specs.States.{AreChained};
 ghost use Rattle.run_rows.specs.Views.{InstallsViews};
 
 /// A packet of the counter layer given twice, in both modes.
@@ -72,4 +73,9 @@ pub fn accepts()
 /// A view without a member that wasn't heard of, agreed on and installed.
 pub fn installs_views()
     ensures { InstallsViews }
+{}
+
+/// States that a layer can have.
+pub fn are_chained()
+    ensures { AreChained }
 {}
