@@ -1,8 +1,8 @@
 use Rattle.std.proofs.Common.{refl}
 use lib.Count.{ones_in, count_trailing_zeros}
-use Rattle.mean_rows.proofs.numbers_end.Goals as goal
+use Rattle.mean_rows.proofs.visits.numbers_end.Goals as goal
 
--- src/lib.rt:39:1
+-- src/visits.rt
 pub returns : goal.returns
 unfolding ones_in count_trailing_zeros
 returns c = (refl, refl, refl, refl, refl, refl, refl, refl, refl, refl, refl, refl)
