@@ -48,10 +48,10 @@ module _ (tokens behind_layers behind_stack inside_stack behind_places rest : Li
   file_refused is = file_goes_on ∙ ends_later rest (suc inside) (sym is)
 
   pub file_read : true ≡ nat_eq (length rest) 0 → 0 < length ps → All IsFirstFormLayer ls → All IsFirstFormPlace ps →
-      ReadsFile tokens record { layers = ls; places = ps; library = [] }
-  file_read is some layers_formed places_formed = record {
+      (library : List LayerTree) → library ≡ [] → ReadsFile tokens record { layers = ls; places = ps; library = library }
+  file_read is some layers_formed places_formed library none_of_it = record {
     fits = a.spelled _ (b.spelled _ (c.spelled _ (d.spelled _ (e.spelled [] (nothing_fits rest (sym is))))));
     accepts = file_goes_on ∙ ends_here rest (suc inside) (sym is);
     placed = λ none. absurd (omega (arith, ap length none));
-    formed = record { layers = layers_formed; places = places_formed; library = refl };
+    formed = record { layers = layers_formed; places = places_formed; library = none_of_it };
   }

@@ -1,5 +1,5 @@
 -- What a run of the machine says of the files that the tokens may be.
-use Rattle.std.proofs.Common.{◌≡◌, ℕ, if◌then◌else◌, true, List, [], ◌∷◌, map, Option, Some, None, refl, sym, ap, ◌∙◌}
+use Rattle.std.proofs.Common.{◌≡◌, ℕ, ◌≤◌, if◌then◌else◌, true, List, [], ◌∷◌, length, map, Option, Some, None, refl, sym, ap, ◌∙◌}
 use Rattle.layer_ast.specs.declared.names.At.{At}
 use Rattle.layer_ast.specs.declared.tokens.Lexed.{Lexed}
 use Rattle.layer_ast.specs.declared.tokens.Token.{Token}
@@ -71,14 +71,19 @@ module _ (text : List ℕ) (tokens : List Lexed) (bad_at : Option At) (cuts : re
     same_tokens : tokens ≡ (cut text).tokens
     same_tokens = ap (λ t. t.tokens) cuts
 
-    -- what was read of a text without a bad token, the text spells
-    pub read_spells : (f : FileTree) → bad_at ≡ None → ReadsFile tokens f → Spells text f
-    read_spells f good read = record {
-      good = sym (ap (λ t. t.bad_at) cuts) ∙ good;
-      fits = rw same_tokens at read.fits;
-      within = rw same_tokens at (accepted_within tokens 100 start read.accepts);
-      placed = read.placed;
-    }
+    -- what was read of a text without a bad token, the text spells, and it is of the first form
+    pub read_spells : (f : FileTree) → length text ≤ 1048576 → bad_at ≡ None → ReadsFile tokens f →
+        (length text ≤ 1048576) × Spells text f × IsFirstForm f
+    read_spells f short good read = (
+      short,
+      record {
+        good = sym (ap (λ t. t.bad_at) cuts) ∙ good;
+        fits = rw same_tokens at read.fits;
+        within = rw same_tokens at (accepted_within tokens 100 start read.accepts);
+        placed = read.placed;
+      },
+      read.formed,
+    )
 
     -- a text whose tokens the machine refuses spells no file of the first form
     pub refused_spells_none : (n : ℕ) → run 100 start tokens ≡ refused n → IsNoFile text

@@ -1,18 +1,11 @@
 use Rattle.std.proofs.Common.{arith, rules}
-use Rattle.layer_ast.specs.View.{file_tree}
-use Rattle.layer_parse.specs.Reading.{ReadsFile}
 use Rattle.layer_parse.proofs.Judge.{read_spells, refused_spells_none}
 use Rattle.layer_parse.proofs.parse.Goals as goal
 
 pub returns-in-Ok : goal.returns-in-Ok
 returns-in-Ok c =
-    let read : ReadsFile c.in_ok-tokens.tokens.tokens.items (file_tree c.in-Ok.file) =
-    rw c.deref.ensures.value at c.in-Ok.ensures in (
-      omega arith,
-      read_spells c.args.text.now c.in_ok-tokens.tokens.tokens.items c.in_ok-tokens.tokens.bad_at c.in_ok-tokens.ensures _
-          (search rules) read,
-      read.formed,
-    )
+    read_spells c.args.text.now c.in_ok-tokens.tokens.tokens.items c.in_ok-tokens.tokens.bad_at c.in_ok-tokens.ensures _
+    (omega arith) (search rules) (rw c.deref.ensures.value at c.in-Ok.ensures)
 
 pub returns-in-Err-Refused : goal.returns-in-Err-Refused
 returns-in-Err-Refused c = (

@@ -1,4 +1,4 @@
-use Rattle.std.proofs.Common.{◌≡◌, [], arith, rules}
+use Rattle.std.proofs.Common.{arith, rules}
 use Rattle.std.proofs.lemmas.List.{length-map}
 use Rattle.layer_parse.proofs.Ending.{file_refused, file_read}
 use Rattle.layer_parse.proofs.files.file.Goals as goal
@@ -10,8 +10,7 @@ returns-then-not-is_empty c =
 
 pub returns : goal.returns
 returns c =
-    let no_library : c.new-library.result.items ≡ [] = search rules in
-    rw no_library (
     file_read _ _ _ _ _ _ _ _ _ c.in_ok-layers.ensures.read c.in_ok-rest.ensures c.in_ok-rest-2.ensures
-    c.in_ok-places.ensures.read c.in_ok-rest-3.ensures c.if-not-is_empty.ensures (grind (arith, length-map, c.in_ok-places.ensures.some))
-    c.in_ok-layers.ensures.form c.in_ok-places.ensures.form)
+    c.in_ok-places.ensures.read c.in_ok-rest-3.ensures c.if-not-is_empty.ensures
+    (grind (arith, length-map, c.in_ok-places.ensures.some)) c.in_ok-layers.ensures.form c.in_ok-places.ensures.form _
+    (search rules)
