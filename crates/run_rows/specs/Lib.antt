@@ -7,3 +7,5 @@ pub mod Leaving
 pub mod Generated
 pub mod Views
 pub mod States
+pub mod Fragments
+pub mod Sends

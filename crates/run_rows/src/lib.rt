@@ -6,7 +6,9 @@ ghost use Rattle.run_rows.specs.Refusals.{Refuses, RefusesGiven};
 ghost use Rattle.run_rows.specs.Towers.{FourPlaces, ThreePlaces};
 ghost use Rattle.run_rows.specs.Alias.{ThreeCasts};
 ghost use Rattle.run_rows.specs.Leaving.{Keeps, Leaves};
+ghost use Rattle.run_rows.specs.Fragments.{JoinsPieces};
 ghost use Rattle.run_rows.specs.Generated.{Accepts, OneEvent};
+ghost use Rattle.run_rows.specs.Sends.{Repeats, Sends};
 ghost use Rattle.run_rows.specs.States.{AreChained};
 ghost use Rattle.run_rows.specs.Views.{InstallsViews};
 
@@ -78,4 +80,19 @@ pub fn installs_views()
 /// States that a layer can have.
 pub fn are_chained()
     ensures { AreChained }
+{}
+
+/// A body that is cut into pieces, whose packets arrive in the opposite order.
+pub fn joins_pieces()
+    ensures { JoinsPieces }
+{}
+
+/// Sends, in both modes.
+pub fn sends()
+    ensures { Sends }
+{}
+
+/// A loop, in bypass mode.
+pub fn repeats()
+    ensures { Repeats }
 {}
