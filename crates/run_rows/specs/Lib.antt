@@ -9,3 +9,4 @@ pub mod Views
 pub mod States
 pub mod Fragments
 pub mod Sends
+pub mod Nodes

@@ -8,6 +8,7 @@ ghost use Rattle.run_rows.specs.Alias.{ThreeCasts};
 ghost use Rattle.run_rows.specs.Leaving.{Keeps, Leaves};
 ghost use Rattle.run_rows.specs.Fragments.{JoinsPieces};
 ghost use Rattle.run_rows.specs.Generated.{Accepts, OneEvent};
+ghost use Rattle.run_rows.specs.Nodes.{Hands, Journals, Writes};
 ghost use Rattle.run_rows.specs.Sends.{Repeats, Sends};
 ghost use Rattle.run_rows.specs.States.{AreChained};
 ghost use Rattle.run_rows.specs.Views.{InstallsViews};
@@ -95,4 +96,11 @@ pub fn sends()
 /// A loop, in bypass mode.
 pub fn repeats()
     ensures { Repeats }
+{}
+
+/// Two turns of a node: its journal, what it writes, and what it hands to the network.
+pub fn node()
+    ensures journal { Journals }
+    ensures writes { Writes }
+    ensures hands { Hands }
 {}
