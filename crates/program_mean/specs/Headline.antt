@@ -1,7 +1,7 @@
 -- The program as a whole: from the words and the bytes of the files to what it writes, what it says and its status.
-use Rattle.std.specs.Prelude.{◌≡◌, ℕ, List, [], ◌++◌, Option, Some, None, IsSomeAnd, ◌⊎◌, false}
+use Rattle.std.specs.Prelude.{◌≡◌, ℕ, ◌+◌, ◌≤◌, List, [], ◌++◌, length, Option, Some, None, IsSomeAnd, ◌⊎◌, false}
 use Rattle.clap.specs.Walk.{Text}
-use Rattle.outside.specs.Count.{Rose}
+use Rattle.outside.specs.Count.{last_count, Rose}
 use Rattle.layer_mean.specs.Tree.{LayerTree}
 use Rattle.stack_mean.specs.Plan.{Plan}
 use Rattle.script_mean.specs.declared.script.Script.{Script}
@@ -10,7 +10,7 @@ use Rattle.job_mean.specs.Status.{FileFault, SecondFault, Ended, done, file_refu
 use Rattle.run_mean.specs.Journal.{Heard, Handed}
 use Rattle.run_mean.specs.Report.{report_lines, output_in}
 use Rattle.program_mean.specs.Judged.{Means, IsGood, Refuses}
-use Rattle.program_mean.specs.Output.{Checks, Replays, Loads, Surroundings, NodeWords, Serves, CannotListen, GoesDeaf}
+use Rattle.program_mean.specs.Output.{Checks, Replays, Loads, Surroundings, NodeWords, failures, Serves, CannotListen, GoesDeaf}
 use Rattle.program_mean.specs.Second.{second_fault}
 
 -- A count of faults before and after a run.
@@ -19,8 +19,8 @@ pub record Counted : Type 0 where
   pub after : ℕ
 
 -- All that surrounded a run of the program: its words; the bytes of the job's file and of its second file, each where a read met it; what a
--- node's clock and network told and were handed; the counts of faults of the shelf, of the output, of the network and of the standard
--- error; what the output and the standard error gained, and the status.
+-- node's clock and network told and were handed; the counts of faults of the shelf, of the output, of the network's listens and
+-- receives, of its sends and of the standard error; what the output and the standard error gained, and the status.
 pub record Run : Type 0 where
   pub words : List Text
   pub file : Option (List ℕ)
@@ -30,6 +30,7 @@ pub record Run : Type 0 where
   pub reads : Counted
   pub puts : Counted
   pub links : Counted
+  pub sends : Counted
   pub errors : Counted
   pub written : List ℕ
   pub said : List ℕ
@@ -149,11 +150,17 @@ pub data Says (r : Run) (end : Ended) : Type 0 where
   cut_off : Begins (error_line end) r.said → Fails r.errors → r.status ≡ status_number end → Says r end
   out_of_memory : Begins (error_line end) r.said → r.status ≡ 7 → Says r end
 
--- A run of the program: it ended in one way, and that was said.
+-- No more failures are told than were counted, unless the count stands at its last value.
+abbrev pub Covers : Counted → ℕ → Type 0
+Covers count failures = (count.before + failures ≤ count.after) ⊎ (count.after ≡ last_count)
+
+-- A run of the program: it ended in one way, and that was said. Each receive and each send of which it tells that it failed was counted.
 pub record Ran (print : List LayerTree → List ℕ) (r : Run) : Type 0 where
   pub end : Ended
   pub ends : Ends print r end
   pub says : Says r end
+  pub deaf : Covers r.links (failures r.surroundings.heard)
+  pub lost : Covers r.sends (length r.surroundings.lost)
 
 -- Whatever stack a file means and whatever script is replayed over it, the run with bypasses writes exactly the report of the layered
 -- meaning.
