@@ -7,6 +7,7 @@ ghost use Rattle.shape_laws.specs.Law.{PredictedRunsHaveTheShape};
 ghost use Rattle.shape_laws.specs.Marks.{LogsTellRuns};
 ghost use Rattle.shape_laws.specs.Parts.{RunsWithoutParts};
 ghost use Rattle.shape_laws.specs.Samples.{FlipRun, KeptRun, ReturnedPacket, SamplesReadNoParts};
+ghost use Rattle.shape_laws.specs.Watch.{WatchesTheFirstCase};
 
 /// A run that begins with an entry's event and goes as predicted throughout has the entry's shape: its visits and outputs have
 /// the shape's places, directions, kinds, tags and makers.
@@ -22,6 +23,11 @@ pub fn runs_without_parts()
 /// The log of visits, outputs and makers changes nothing of a run.
 pub fn logs_tell_runs()
     ensures { LogsTellRuns }
+{}
+
+/// What watches for conditions with two predicted ways draws the first case.
+pub fn watches_the_first_case()
+    ensures { WatchesTheFirstCase }
 {}
 
 /// A field that is drawn as constant has that number in every run.
