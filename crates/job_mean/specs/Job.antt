@@ -50,9 +50,9 @@ a_number low high given = do
   number_within low high text
 
 -- a number within bounds that is 0 where it isn't given
-abbrev pub a_number_or_none : ℕ → Option Text → Option ℕ
-a_number_or_none high None = Some 0
-a_number_or_none high (Some text) = number_within 0 high text
+abbrev pub a_number_or_zero : ℕ → Option Text → Option ℕ
+a_number_or_zero high None = Some 0
+a_number_or_zero high (Some text) = number_within 0 high text
 
 -- each number is below all those behind it
 abbrev pub is_ascending : List ℕ → Bool
@@ -112,7 +112,7 @@ node_job given = do
   turns ← a_number 0 1000000 given.turns
   members ← some_members given.me
   mode ← mode_of given.run
-  patience ← a_number_or_none 1000 given.patience
+  patience ← a_number_or_zero 1000 given.patience
   Some (node given.file plan turns members patience mode)
 
 -- the job of what was given, if it is one
