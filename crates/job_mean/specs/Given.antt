@@ -19,8 +19,10 @@ pub record Given : Type 0 where
   pub members : Option Text
   pub turns : Option Text
   pub me : Option Text
+  pub patience : Option Text
   pub wire : Bool
   pub count : Bool
+  pub raw : Bool
 
 -- whether a flag was given
 abbrev pub is_set : Text → List Row → Bool
@@ -41,8 +43,10 @@ given_in rows = do
     members = first_of (codes "members") rows;
     turns = first_of (codes "turns") rows;
     me = first_of (codes "me") rows;
+    patience = first_of (codes "patience") rows;
     wire = is_set (codes "wire") rows;
     count = is_set (codes "count") rows;
+    raw = is_set (codes "raw") rows;
   })
 
 -- what the words behind the program's name give, if `clap` takes them

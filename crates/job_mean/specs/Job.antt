@@ -12,21 +12,22 @@ pub data Mode : Type 0 where
   bypass : Mode
 
 -- what the program is to do: judge a file; print its bypasses; replay a script, with the packets' bytes or
--- the number of visits if wanted; replay a script that is made from a seed; run members over a network
+-- the number of visits if wanted; replay a script that is made from a seed, with datagrams in it if wanted; run members over a network
+-- of which so many receives may fail
 pub data Job : Type 0 where
   check : (file : Text) → Job
   synth : (file : Text) → Job
   replay : (file script : Text) (mode : Mode) (wire count : Bool) → Job
-  load : (file : Text) (seed events members : ℕ) (mode : Mode) → Job
-  node : (file plan : Text) (turns : ℕ) (members : List ℕ) (mode : Mode) → Job
+  load : (file : Text) (seed events members : ℕ) (raw : Bool) (mode : Mode) → Job
+  node : (file plan : Text) (turns : ℕ) (members : List ℕ) (patience : ℕ) (mode : Mode) → Job
 
 -- each word that not every job has, and whether it was given
 abbrev pub extras : Given → List (Text × Bool)
 extras given =
     (codes "second", is_some given.second) ∷ (codes "run", is_some given.run) ∷ (codes "seed", is_some given.seed) ∷
     (codes "events", is_some given.events) ∷ (codes "members", is_some given.members) ∷
-    (codes "turns", is_some given.turns) ∷ (codes "me", is_some given.me) ∷
-    (codes "wire", given.wire) ∷ (codes "count", given.count) ∷ []
+    (codes "turns", is_some given.turns) ∷ (codes "me", is_some given.me) ∷ (codes "patience", is_some given.patience) ∷
+    (codes "wire", given.wire) ∷ (codes "count", given.count) ∷ (codes "raw", given.raw) ∷ []
 
 -- a job refuses each word that it doesn't list
 abbrev pub with_only : List Text → Given → Option (Unit {0})
@@ -47,6 +48,11 @@ abbrev pub a_number : ℕ → ℕ → Option Text → Option ℕ
 a_number low high given = do
   text ← given
   number_within low high text
+
+-- a number within bounds that is 0 where it isn't given
+abbrev pub a_number_or_zero : ℕ → Option Text → Option ℕ
+a_number_or_zero high None = Some 0
+a_number_or_zero high (Some text) = number_within 0 high text
 
 -- each number is below all those behind it
 abbrev pub is_ascending : List ℕ → Bool
@@ -88,25 +94,26 @@ replay_job given = do
   mode ← mode_of given.run
   Some (replay given.file script mode given.wire given.count)
 
--- `load FILE --seed S --events E --members N`, may have `--run MODE`
+-- `load FILE --seed S --events E --members N`, may have `--run MODE` and `--raw`
 abbrev pub load_job : Given → Option Job
 load_job given = do
-  _ ← with_only (codes "seed" ∷ codes "events" ∷ codes "members" ∷ codes "run" ∷ []) given
+  _ ← with_only (codes "seed" ∷ codes "events" ∷ codes "members" ∷ codes "run" ∷ codes "raw" ∷ []) given
   seed ← a_number 0 4294967295 given.seed
   events ← a_number 0 99999 given.events
   members ← a_number 1 32 given.members
   mode ← mode_of given.run
-  Some (load given.file seed events members mode)
+  Some (load given.file seed events members given.raw mode)
 
--- `node FILE PLAN --turns T --me IDS`, may have `--run MODE`
+-- `node FILE PLAN --turns T --me IDS`, may have `--run MODE` and `--patience P`
 abbrev pub node_job : Given → Option Job
 node_job given = do
-  _ ← with_only (codes "second" ∷ codes "turns" ∷ codes "me" ∷ codes "run" ∷ []) given
+  _ ← with_only (codes "second" ∷ codes "turns" ∷ codes "me" ∷ codes "run" ∷ codes "patience" ∷ []) given
   plan ← given.second
   turns ← a_number 0 1000000 given.turns
   members ← some_members given.me
   mode ← mode_of given.run
-  Some (node given.file plan turns members mode)
+  patience ← a_number_or_zero 1000 given.patience
+  Some (node given.file plan turns members patience mode)
 
 -- the job of what was given, if it is one
 abbrev pub job : Given → Option Job

@@ -116,6 +116,7 @@ size (tree.sized n) = name n
 abbrev pub likely : Likely → List Printed → List Printed
 likely likely_word.First k = k
 likely likely_word.Else k = plain sign.Rare ∷ k
+likely likely_word.Two k = plain sign.Two ∷ k
 
 abbrev mutual
   -- the tokens of a statement

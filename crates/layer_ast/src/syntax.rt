@@ -204,14 +204,14 @@ pub enum Statement {
         block: Block,
         otherwise: Block,
     },
-    /// `"if" [ "rare" ] expression block`
+    /// `"if" [ "rare" | "two" ] expression block`
     When {
         at: At,
         likely: Likely,
         condition: Expression,
         block: Block,
     },
-    /// `"if" [ "rare" ] expression block "else" block`
+    /// `"if" [ "rare" | "two" ] expression block "else" block`
     Choose {
         at: At,
         likely: Likely,
@@ -244,6 +244,8 @@ pub enum Likely {
     First,
     /// `"if" "rare"`: past it.
     Else,
+    /// `"if" "two"`: into the first block in the first of two common cases, past it in the second.
+    Two,
 }
 
 /// `"with" NAME "(" [ arguments ] ")"` of a statement: the header that it puts on.

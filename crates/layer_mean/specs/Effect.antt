@@ -1,6 +1,6 @@
 -- What statements do.
-use Rattle.std.specs.Prelude.{ℕ, zero, suc, Bool, true, false, if◌then◌else◌, List, [], ◌∷◌, ◌++◌, map, min, slice_set, Option, Some, None, option_map}
-use Rattle.std.specs.List.{fold}
+use Rattle.std.specs.Prelude.{ℕ, zero, suc, Bool, true, false, not, if◌then◌else◌, List, [], ◌∷◌, ◌++◌, map, min, slice_set, Option, Some, None, option_map}
+use Rattle.std.specs.List.{fold, list_all, position}
 use Rattle.std.specs.Option.{option_map_or}
 use Rattle.msg_core.specs.Chain.{Content, pushed}
 use Rattle.msg_core.specs.declared.message.Header.{Header}
@@ -8,6 +8,8 @@ use Rattle.layer_ast.specs.declared.tokens.Dir.{Dir}
 use Rattle.layer_ast.specs.declared.tokens.Dir.TheVariants.{Up, Down}
 use Rattle.layer_ast.specs.declared.syntax.Likely.{Likely}
 use Rattle.layer_ast.specs.declared.syntax.Likely.TheVariants as likely
+use Rattle.layer_mean.specs.declared.run.Case.{Case}
+use Rattle.layer_mean.specs.declared.run.Case.TheVariants.{First, Second}
 use Rattle.layer_mean.specs.declared.run.Event.{Event}
 use Rattle.layer_mean.specs.declared.run.Row.{Row}
 use Rattle.layer_mean.specs.Event.{event_of}
@@ -15,15 +17,28 @@ use Rattle.layer_mean.specs.Tree.{ContentTree, EmissionTree, RowTree, TakenTree,
 use Rattle.layer_mean.specs.State.{State, flat_index, row_at, has_room, with_number, with_row, without_front}
 use Rattle.layer_mean.specs.Value.{Scope, is_true, val, mval, message_in}
 
--- How a decision of a visit went: as predicted, or not. What can't be predicted, such as a loop, is a decision that went
--- otherwise. (A condition with two predicted ways would be one more case here.)
+-- How a decision of a visit went: as predicted, or not; or, at a condition with two predicted ways, as it is predicted in this case.
+-- What can't be predicted, such as a loop, is a decision that didn't go as predicted.
 pub data Decision : Type 0 where
   usual : Decision
   unusual : Decision
+  forked : Case → Decision
 
-abbrev pub is_usual : Decision → Bool
-is_usual usual = true
-is_usual unusual = false
+-- Whether a decision went as it is predicted in a case.
+abbrev pub went_as : Case → Decision → Bool
+went_as case usual = true
+went_as case unusual = false
+went_as First (forked First) = true
+went_as First (forked Second) = false
+went_as Second (forked First) = false
+went_as Second (forked Second) = true
+
+-- Whether all decisions went as predicted in a case, and the number of the first that didn't, counted from 0.
+abbrev pub all_as : Case → List Decision → Bool
+all_as case decided = list_all (went_as case) decided
+
+abbrev pub first_missed : Case → List Decision → Option ℕ
+first_missed case decided = position (λ d. not (went_as case d)) decided
 
 -- What a stretch of statements comes to: the state and the scope behind it, the events that it sent, in order, and its decisions
 -- in order.
@@ -95,17 +110,14 @@ abbrev pub emitted : ℕ → EmissionTree → State → Scope → Event
 emitted place e s l = event_of e.kind (map (λ n. val n s l) e.numbers)
     (option_map (λ c. sent_as e.direction (header_of place c s l) (mval c.message s l)) e.content)
 
--- Whether a condition is predicted to hold.
-abbrev pub is_likely : Likely → Bool
-is_likely likely.First = true
-is_likely likely.Else = false
-
 -- Which of two acts a condition chooses, with the decision that this is.
 abbrev pub chosen : Bool → Likely → Outcome → Outcome → Outcome
 chosen true likely.First first second = decides usual first
 chosen true likely.Else first second = decides unusual first
+chosen true likely.Two first second = decides (forked First) first
 chosen false likely.First first second = decides unusual second
 chosen false likely.Else first second = decides usual second
+chosen false likely.Two first second = decides (forked Second) second
 
 -- A row that was looked for: with it one act is done, and else another.
 abbrev pub taking : Option Row → (Row → Outcome) → Outcome → Outcome

@@ -1,5 +1,6 @@
 pub mod Event
 pub mod Tree
+pub mod Headers
 pub mod State
 pub mod Value
 pub mod Effect

@@ -1,13 +1,13 @@
 -- The queue of tasks that moves a run on: first in, first out (after Ensemble's event queues; that a run has one list is this
 -- project's own). It is defined once, for any kind of event and world, and played by whatever knows a visit and an output.
 use Rattle.std.specs.Prelude.{ℕ, suc, zero, ◌+◌, ◌-◌, List, [], ◌∷◌, ◌++◌, map, length, Bool, true, false, nat_le, ◌&&◌, if◌then◌else◌, slice_index_or, slice_set}
-use Rattle.std.specs.List.{list_all}
 use Rattle.layer_ast.specs.declared.tokens.Dir.{Dir}
 use Rattle.layer_ast.specs.declared.tokens.Dir.TheVariants.{Up, Down}
+use Rattle.layer_mean.specs.declared.run.Case.{Case}
 use Rattle.layer_mean.specs.declared.run.Event.{Event}
 use Rattle.layer_mean.specs.Tree.{LayerTree, no_layer}
 use Rattle.layer_mean.specs.State.{State}
-use Rattle.layer_mean.specs.Effect.{Decision, is_usual}
+use Rattle.layer_mean.specs.Effect.{Decision, all_as}
 use Rattle.layer_mean.specs.Visit.{Visited, step, no_state}
 
 -- An event on its way. The lower edge of a stack is 0, its places are 1 and up, lowest first, and the upper edge is one more
@@ -115,6 +115,6 @@ starting w first = record { world = w; tasks = first ∷ [] }
 unfoldable pub run : ℕ → List LayerTree → List State → Task Event → Line Work Event
 run most stack states first = run_for (length stack) (layers stack) most (starting (unstarted states) first)
 
--- Whether every decision of a run went as predicted.
-abbrev pub is_predicted : Work → Bool
-is_predicted w = list_all is_usual w.decided
+-- Whether every decision of a run went as predicted in a case.
+abbrev pub is_predicted : Case → Work → Bool
+is_predicted case w = all_as case w.decided

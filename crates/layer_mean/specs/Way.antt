@@ -1,15 +1,19 @@
--- The predicted way of a handler: the steps that its visit takes where all goes as predicted (the common case of the SOSP 1999
--- paper, which a layer's text marks).
+-- The predicted way of a handler in a case: the steps that its visit takes where all goes as predicted in it (the common case of the
+-- SOSP 1999 paper, which a layer's text marks; that there may be two is this project's own).
 use Rattle.std.specs.Prelude.{ℕ, ◌+◌, Bool, true, false, List, [], ◌∷◌, ◌++◌, length, Option, Some, None}
 use Rattle.std.specs.List.{sum_by}
 use Rattle.std.specs.Option.{option_map_or}
 use Rattle.layer_ast.specs.declared.syntax.Likely.TheVariants as likely
+use Rattle.layer_mean.specs.declared.run.Case.{Case}
+use Rattle.layer_mean.specs.declared.run.Case.TheVariants.{First, Second}
 use Rattle.layer_mean.specs.Tree.{ExpressionTree, EmissionTree, RowTree, TakenTree, StatementTree, bind, assign, assign_square, push, take, branch, each, emit, StatementTrees, none, more, Expected, always, common, rare, HandlerTree}
 
--- A predicted step: a test that an expression is true, or 0; a number of the scope, of a cell or of a square cell that is set; a push
--- for which there is room; a take of a row that is there; an emission; or a loop, which can't be predicted.
+-- A predicted step: a test that an expression is true, or 0; a condition with two predicted ways, which is to go that of a case; a
+-- number of the scope, of a cell or of a square cell that is set; a push for which there is room; a take of a row that is there; an
+-- emission; or a loop, which can't be predicted.
 pub data Step : Type 0 where
   test : (wanted : Bool) → ExpressionTree → Step
+  fork : Case → ExpressionTree → Step
   set_slot : (slot : ℕ) → ExpressionTree → Step
   set_number : (cell : ℕ) (index value : ExpressionTree) → Step
   set_square : (cell : ℕ) (row column value : ExpressionTree) → Step
@@ -19,23 +23,25 @@ pub data Step : Type 0 where
   loop : Step
 
 abbrev mutual
-  -- The steps of a statement: a condition is predicted to choose its first block, and a rare one the other; a push to have room;
-  -- a take to find a row.
-  pub way : StatementTree → List Step
-  way (bind k e) = set_slot k e ∷ []
-  way (assign c i e) = set_number c i e ∷ []
-  way (assign_square c row column e) = set_square c row column e ∷ []
-  way (push c i capacity row otherwise) = put c i capacity row ∷ []
-  way (take c i taken block otherwise) = get c i taken ∷ ways block
-  way (branch likely.First e block otherwise) = test true e ∷ ways block
-  way (branch likely.Else e block otherwise) = test false e ∷ ways otherwise
-  way (each k below most block) = loop ∷ []
-  way (emit e) = send e ∷ []
+  -- The steps of a statement: a condition is predicted to choose its first block, a rare one the other, and one with two predicted
+  -- ways the first in the first case and the other in the second; a push to have room; a take to find a row.
+  pub way : Case → StatementTree → List Step
+  way case (bind k e) = set_slot k e ∷ []
+  way case (assign c i e) = set_number c i e ∷ []
+  way case (assign_square c row column e) = set_square c row column e ∷ []
+  way case (push c i capacity row otherwise) = put c i capacity row ∷ []
+  way case (take c i taken block otherwise) = get c i taken ∷ ways case block
+  way case (branch likely.First e block otherwise) = test true e ∷ ways case block
+  way case (branch likely.Else e block otherwise) = test false e ∷ ways case otherwise
+  way First (branch likely.Two e block otherwise) = fork First e ∷ ways First block
+  way Second (branch likely.Two e block otherwise) = fork Second e ∷ ways Second otherwise
+  way case (each k below most block) = loop ∷ []
+  way case (emit e) = send e ∷ []
 
   -- The steps of the statements of a block, in order.
-  pub ways : StatementTrees → List Step
-  ways none = []
-  ways (more x rest) = way x ++ ways rest
+  pub ways : Case → StatementTrees → List Step
+  ways case none = []
+  ways case (more x rest) = way case x ++ ways case rest
 
 -- The steps of a handler; one that is rare has no predicted way.
 abbrev pub expected_way : Expected → List Step → Option (List Step)
@@ -43,8 +49,8 @@ expected_way always steps = Some steps
 expected_way (common e) steps = Some (test true e ∷ steps)
 expected_way rare steps = None
 
-abbrev pub handler_way : HandlerTree → Option (List Step)
-handler_way h = expected_way h.expected (ways h.block)
+abbrev pub handler_way : Case → HandlerTree → Option (List Step)
+handler_way case h = expected_way h.expected (ways case h.block)
 
 -- How many predicted statements and arguments a step counts for: one, but two for a push or a take, and for an emission one for
 -- each number that it evaluates.

@@ -4,4 +4,4 @@
 
 mod run;
 
-pub use run::{Event, Row};
+pub use run::{Case, Event, Row};

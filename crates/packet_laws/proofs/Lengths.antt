@@ -6,7 +6,8 @@ use Rattle.std.proofs.lemmas.List.{length-append}
 use Rattle.msg_core.specs.declared.message.Header.{Header}
 use Rattle.msg_core.specs.declared.packet.Packet.{Packet}
 use Rattle.layer_mean.specs.Tree.{HeaderTree, LayerTree}
-use Rattle.packet_mean.specs.Chained.{header_none, declared, IsChain}
+use Rattle.layer_mean.specs.Headers.{header_none, declared}
+use Rattle.packet_mean.specs.Chained.{IsChain}
 use Rattle.packet_mean.specs.Plan.{variable, variable_fields}
 use Rattle.stack_mean.specs.Plan.{Plan}
 use Rattle.packet_mean.specs.Reading.{Reader, ◌>>=◌, given, byte, number, preamble}

@@ -1,17 +1,10 @@
 -- Which headers a message carries at a place of a stack: those of the layers from there on.
-use Rattle.std.specs.Prelude.{◌≡◌, ℕ, suc, ◌≤◌, false, MatchBool, List, [], ◌∷◌, length, drop, slice_get, codes, Option, IsSomeAnd}
+use Rattle.std.specs.Prelude.{◌≡◌, ℕ, suc, ◌≤◌, MatchBool, List, [], ◌∷◌, length, drop, IsSomeAnd}
 use Rattle.msg_core.specs.Chain.{Content}
 use Rattle.msg_core.specs.Parts.{longest_body}
 use Rattle.msg_core.specs.declared.message.Header.{Header}
-use Rattle.layer_mean.specs.Tree.{HeaderTree, LayerTree}
-
--- The header `none`, which each layer has beside those that it declares: no fields, and the layers above follow.
-abbrev pub header_none : HeaderTree
-header_none = record { name = codes "none"; fields = 0; ends = false }
-
--- The header that a tag of a layer stands for: `none` for 0, and the declared ones from 1 on.
-abbrev pub declared : LayerTree → ℕ → Option HeaderTree
-declared layer tag = slice_get (header_none ∷ layer.headers) tag
+use Rattle.layer_mean.specs.Headers.{declared}
+use Rattle.layer_mean.specs.Tree.{LayerTree}
 
 -- Headers are a chain of these layers, the first of which stands at a place: each layer has one, of a tag that it declares and with
 -- as many fields, until one ends the chain or the layers are over (the headers that Hayden's layers push).

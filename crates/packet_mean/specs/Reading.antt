@@ -9,7 +9,7 @@ use Rattle.msg_core.specs.declared.packet.Packet.{Packet}
 use Rattle.msg_core.specs.declared.packet.View.{View}
 use Rattle.layer_ast.specs.contracts.tokens.Kind as kind_row
 use Rattle.layer_mean.specs.Tree.{LayerTree}
-use Rattle.packet_mean.specs.Chained.{declared}
+use Rattle.layer_mean.specs.Headers.{declared}
 use Rattle.packet_mean.specs.Plan.{kind_of}
 use Rattle.stack_mean.specs.Plan.{Plan}
 use Rattle.packet_mean.specs.Spelling.{full_form, everyone}

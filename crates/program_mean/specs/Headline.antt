@@ -1,17 +1,16 @@
 -- The program as a whole: from the words and the bytes of the files to what it writes, what it says and its status.
-use Rattle.std.specs.Prelude.{◌≡◌, ℕ, List, [], ◌++◌, Option, Some, None, IsSomeAnd, ◌⊎◌, false}
-use Rattle.std.specs.Option.{option_map_or}
+use Rattle.std.specs.Prelude.{◌≡◌, ℕ, ◌+◌, List, [], ◌++◌, length, Option, Some, None, IsSomeAnd, ◌⊎◌, false}
 use Rattle.clap.specs.Walk.{Text}
-use Rattle.outside.specs.Count.{Rose}
+use Rattle.outside.specs.Count.{last_count, Rose}
 use Rattle.layer_mean.specs.Tree.{LayerTree}
 use Rattle.stack_mean.specs.Plan.{Plan}
 use Rattle.script_mean.specs.declared.script.Script.{Script}
 use Rattle.job_mean.specs.Job.{Mode, layered, bypass, Job, check, synth, replay, load, node, job_of_words}
 use Rattle.job_mean.specs.Status.{FileFault, SecondFault, Ended, done, file_refused, words_refused, second_refused, read_failed, write_failed, link_failed, no_memory, status_number, error_line}
-use Rattle.run_mean.specs.Journal.{Handed}
+use Rattle.run_mean.specs.Journal.{Heard, Handed}
 use Rattle.run_mean.specs.Report.{report_lines, output_in}
-use Rattle.program_mean.specs.Judged.{Means, Refuses}
-use Rattle.program_mean.specs.Output.{Checks, Replays, Loads, Surroundings, Serves}
+use Rattle.program_mean.specs.Judged.{Means, IsGood, Refuses}
+use Rattle.program_mean.specs.Output.{Checks, Replays, Loads, Surroundings, NodeWords, failures, Serves, CannotListen, GoesDeaf}
 use Rattle.program_mean.specs.Second.{second_fault}
 
 -- A count of faults before and after a run.
@@ -19,9 +18,9 @@ pub record Counted : Type 0 where
   pub before : ℕ
   pub after : ℕ
 
--- All that surrounded a run of the program: its words, the bytes of the job's files, as far as the shelf tells them, what a node's clock
--- and network told and were handed, the counts of faults of the shelf, of the output, of the network and of the standard error, what
--- the output and the standard error gained, and the status.
+-- All that surrounded a run of the program: its words; the bytes of the job's file and of its second file, each where a read met it; what a
+-- node's clock and network told and were handed; the counts of faults of the shelf, of the output, of the network's listens and
+-- receives, of its sends and of the standard error; what the output and the standard error gained, and the status.
 pub record Run : Type 0 where
   pub words : List Text
   pub file : Option (List ℕ)
@@ -31,17 +30,31 @@ pub record Run : Type 0 where
   pub reads : Counted
   pub puts : Counted
   pub links : Counted
+  pub sends : Counted
   pub errors : Counted
   pub written : List ℕ
   pub said : List ℕ
   pub status : ℕ
 
+-- A count rose, and a count stood still.
 abbrev pub Fails : Counted → Type 0
 Fails count = Rose count.before count.after
 
--- The bytes of the second file; a job that has none reads as if it were empty.
-abbrev pub second_text : Run → List ℕ
-second_text r = option_map_or (λ text. text) r.second []
+abbrev pub IsSound : Counted → Type 0
+IsSound count = count.after ≡ count.before
+
+-- A count rose by so many failures, unless it stands at its last value.
+abbrev pub RoseBy : Counted → ℕ → Type 0
+RoseBy count failures = (count.after ≡ count.before + failures) ⊎ (count.after ≡ last_count)
+
+-- Whether a job has a second file; one that has none reads as if it were empty.
+abbrev pub second_for : Job → Option (List ℕ) → Option (List ℕ)
+second_for (replay name script mode wire count) second = second
+second_for (node name plan turns me patience mode) second = second
+second_for _ second = Some []
+
+abbrev pub node_words : ℕ → List ℕ → ℕ → Mode → NodeWords
+node_words turns me patience mode = record { turns = turns; me = me; patience = patience; mode = mode }
 
 -- The whole output of a job over the bytes of its file. What `synth` prints of a stack is told beside this: it is defined with the
 -- bypasses.
@@ -50,47 +63,92 @@ pub record Prints (print : List LayerTree → List ℕ) (file out : List ℕ) : 
   pub means : Means file stack
   pub written : out ≡ print stack
 
-abbrev pub WritesOf : (List LayerTree → List ℕ) → Job → Run → List ℕ → List ℕ → Type 0
-WritesOf print (check name) r file out = Checks file out
-WritesOf print (synth name) r file out = Prints print file out
-WritesOf print (replay name script mode wire count) r file out = Replays file (second_text r) mode wire count out
-WritesOf print (load name seed events members mode) r file out = Loads file seed events members mode out
-WritesOf print (node name plan turns me mode) r file out = Serves file (second_text r) turns me mode r.surroundings out r.sent
+-- Nothing was handed to the network: a node alone hands it something.
+abbrev pub HandsNothing : Run → Type 0
+HandsNothing r = r.sent ≡ []
+
+abbrev pub WritesOf : (List LayerTree → List ℕ) → Job → Run → (file second out : List ℕ) → Type 0
+WritesOf print (check name) r file second out = Checks file out × HandsNothing r
+WritesOf print (synth name) r file second out = Prints print file out × HandsNothing r
+WritesOf print (replay name script mode wire count) r file second out = Replays file second mode wire count out × HandsNothing r
+WritesOf print (load name seed events members raw mode) r file second out =
+    Loads file seed events members raw mode out × HandsNothing r
+WritesOf print (node name plan turns me patience mode) r file second out =
+    Serves file second (node_words turns me patience mode) r.surroundings out r.sent
+
+-- The words are a job, both its files were read without a fault, and something holds of these.
+abbrev pub OfJob : Run → (Job → (file second : List ℕ) → Type 0) → Type 0
+OfJob r Holds = IsSomeAnd (job_of_words r.words) (λ job. IsSound r.reads × IsSomeAnd r.file (λ file.
+    IsSomeAnd (second_for job r.second) (λ second. Holds job file second)))
 
 -- These bytes are the whole output of a run's job.
 abbrev pub Writes : (List LayerTree → List ℕ) → Run → List ℕ → Type 0
-Writes print r out = IsSomeAnd (job_of_words r.words) (λ job. IsSomeAnd r.file (λ file. WritesOf print job r file out))
+Writes print r out = OfJob r (λ job file second. WritesOf print job r file second out)
 
--- A prefix of the whole output was written.
+-- A run whose clock and network told more, and to whose network more was handed.
+abbrev pub gone_on : Run → List ℕ → List Heard → List Handed → Run
+gone_on r clock heard sent = record r {
+  surroundings = record r.surroundings { clock = r.surroundings.clock ++ clock; heard = r.surroundings.heard ++ heard };
+  sent = r.sent ++ sent;
+}
+
+-- Of the network's listens and receives none failed but those receives that are told.
+abbrev pub HeardAll : Run → Type 0
+HeardAll r = RoseBy r.links (failures r.surroundings.heard)
+
+-- A run was broken off: what was written is a prefix of a whole output, and what was handed to the network one of what is handed on then,
+-- where a node's clock and network, had they been asked further, told this.
 pub record Began (print : List LayerTree → List ℕ) (r : Run) : Type 0 where
+  pub clock : List ℕ
+  pub heard : List Heard
+  pub sent : List Handed
   pub rest : List ℕ
-  pub whole : Writes print r (r.written ++ rest)
+  pub whole : Writes print (gone_on r clock heard sent) (r.written ++ rest)
+  pub heard_all : HeardAll r
 
--- The file of a run's job is refused, or it is good and the second file or the job's members are.
-abbrev pub RefusesFile : Run → FileFault → Type 0
-RefusesFile r fault = IsSomeAnd (job_of_words r.words) (λ job. IsSomeAnd r.file (λ file. Refuses file fault))
+-- Nothing was written, nothing was handed to the network, and nothing failed there.
+pub record WroteNothing (r : Run) : Type 0 where
+  pub written : r.written ≡ []
+  pub sent : r.sent ≡ []
+  pub sound : IsSound r.links
 
+-- The words are a job whose file was read without a fault and is refused.
+pub record RefusesFile (r : Run) (fault : FileFault) : Type 0 where
+  pub sound : IsSound r.reads
+  pub job : IsSomeAnd (job_of_words r.words) (λ job. Unit {0})
+  pub refused : IsSomeAnd r.file (λ file. Refuses file fault)
+  pub nothing : WroteNothing r
+
+-- The words are a job whose file is good; its second file, if it has one, was read without a fault; and that or the job's members are
+-- refused.
 pub record RefusesSecond (r : Run) (fault : SecondFault) : Type 0 where
   pub stack : List LayerTree
-  pub means : IsSomeAnd r.file (λ file. Means file stack)
-  pub refused : IsSomeAnd (job_of_words r.words) (λ job. second_fault job stack (second_text r) ≡ Some fault)
+  pub refused : OfJob r (λ job file second. Means file stack × (second_fault job stack second ≡ Some fault))
+  pub nothing : WroteNothing r
 
-abbrev pub WroteNothing : Run → Type 0
-WroteNothing r = r.written ≡ []
+-- The words are a job of which a read failed: that of its file, or, where the file is good, that of its second file.
+pub record ReadsFailed (r : Run) : Type 0 where
+  pub rose : Fails r.reads
+  pub unread : IsSomeAnd (job_of_words r.words) (λ job.
+      (r.file ≡ None) ⊎ ((second_for job r.second ≡ None) × IsSomeAnd r.file IsGood))
+  pub nothing : WroteNothing r
 
-abbrev pub HasJob : Run → Type 0
-HasJob r = IsSomeAnd (job_of_words r.words) (λ job. Unit {0})
+-- The words are a node's job whose files are good, and a listen failed, or one more receive than is borne.
+abbrev pub LinksFail : Job → Run → (file second : List ℕ) → Type 0
+LinksFail (node name plan turns me patience mode) r file second = let words = node_words turns me patience mode in
+    (CannotListen file second words r.surroundings r.written r.sent × RoseBy r.links 1)
+    ⊎ (GoesDeaf file second words r.surroundings r.written r.sent × HeardAll r)
+LinksFail _ r file second = ⊥
 
--- How a run may end, with the cause of each status. Where a read, a write or a link failed, the count of that object rose; want of memory is
--- free.
+-- How a run may end, with the cause of each status: what went well before stands with each. Want of memory is free.
 abbrev pub Ends : (List LayerTree → List ℕ) → Run → Ended → Type 0
-Ends print r done = Writes print r r.written
-Ends print r (file_refused fault) = RefusesFile r fault × WroteNothing r
-Ends print r words_refused = (job_of_words r.words ≡ None) × WroteNothing r
-Ends print r (second_refused fault) = RefusesSecond r fault × WroteNothing r
-Ends print r read_failed = HasJob r × Fails r.reads × WroteNothing r
+Ends print r done = Writes print r r.written × IsSound r.puts × HeardAll r
+Ends print r (file_refused fault) = RefusesFile r fault
+Ends print r words_refused = (job_of_words r.words ≡ None) × IsSound r.reads × WroteNothing r
+Ends print r (second_refused fault) = RefusesSecond r fault
+Ends print r read_failed = ReadsFailed r
 Ends print r write_failed = Fails r.puts × Began print r
-Ends print r link_failed = Fails r.links × Began print r
+Ends print r link_failed = IsSound r.puts × OfJob r (λ job file second. LinksFail job r file second)
 Ends print r no_memory = WroteNothing r ⊎ Began print r
 
 -- The line of a cause was said whole, or a prefix of it where the standard error failed or memory ran out, which is status 7.
@@ -103,11 +161,12 @@ pub data Says (r : Run) (end : Ended) : Type 0 where
   cut_off : Begins (error_line end) r.said → Fails r.errors → r.status ≡ status_number end → Says r end
   out_of_memory : Begins (error_line end) r.said → r.status ≡ 7 → Says r end
 
--- A run of the program: it ended in one way, and that was said.
+-- A run of the program: it ended in one way, and that was said. The sends that failed are those that are told.
 pub record Ran (print : List LayerTree → List ℕ) (r : Run) : Type 0 where
   pub end : Ended
   pub ends : Ends print r end
   pub says : Says r end
+  pub lost : RoseBy r.sends (length r.surroundings.lost)
 
 -- Whatever stack a file means and whatever script is replayed over it, the run with bypasses writes exactly the report of the layered
 -- meaning.

@@ -58,6 +58,11 @@ pub record Means (text : List ℕ) (stack : List LayerTree) : Type 0 where
   pub is_file : IsFile text file
   pub accepted : judged file ≡ Ok stack
 
+-- The bytes of a file mean a stack.
+pub record IsGood (text : List ℕ) : Type 0 where
+  pub stack : List LayerTree
+  pub means : Means text stack
+
 -- The bytes of a file spell one that is refused for this cause.
 pub record Condemns (text : List ℕ) (fault : FileFault) : Type 0 where
   pub small : length text ≤ longest_file

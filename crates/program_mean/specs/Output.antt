@@ -1,18 +1,17 @@
 -- What each job writes, over the bytes of its files: the headline is the case of a replay.
-use Rattle.std.specs.Prelude.{◌≡◌, ℕ, ◌<◌, ◌≤◌, All, Bool, List, length, Ok}
+use Rattle.std.specs.Prelude.{◌≡◌, ℕ, ◌+◌, ◌*◌, ◌==◌, ◌<◌, ◌≤◌, All, Bool, true, false, List, [], ◌∷◌, ◌++◌, count_by, length, Ok}
 use Rattle.std.specs.List.{concat}
 use Rattle.layer_mean.specs.Tree.{LayerTree}
 use Rattle.script_mean.specs.Generate.{generate}
 use Rattle.script_mean.specs.NodePlan.{node_plan}
 use Rattle.script_mean.specs.Script.{script_of}
-use Rattle.script_mean.specs.declared.event.ScriptEvent.{ScriptEvent}
 use Rattle.script_mean.specs.declared.plan.NodePlan.{NodePlan}
 use Rattle.script_mean.specs.declared.script.Script.{Script}
 use Rattle.stack_mean.specs.Acceptance.{rows_of}
 use Rattle.stack_mean.specs.Plans.{plans_of}
 use Rattle.job_mean.specs.Job.{Mode}
-use Rattle.run_mean.specs.Journal.{Heard, journal, node_run, node_lines, Handed, handed}
-use Rattle.run_mean.specs.Report.{output_in}
+use Rattle.run_mean.specs.Journal.{Heard, failure, Note, notes_of, node_run, note_lines, node_lines, Handed, handed}
+use Rattle.run_mean.specs.Report.{Moment, output_in}
 use Rattle.run_mean.specs.Tally.{tally, accepted_lines}
 use Rattle.program_mean.specs.Judged.{Means}
 
@@ -41,30 +40,87 @@ pub record Replays (file script_text : List ℕ) (mode : Mode) (wire count : Boo
   pub written : out ≡ concat (output_in stack (plans_of stack) script mode wire count)
 
 -- `load`: a generated script is run, and its lines are counted.
-pub record Loads (file : List ℕ) (seed events members : ℕ) (mode : Mode) (out : List ℕ) : Type 0 where
+pub record Loads (file : List ℕ) (seed events members : ℕ) (raw : Bool) (mode : Mode) (out : List ℕ) : Type 0 where
   pub stack : List LayerTree
   pub means : Means file stack
   pub room : HasRoom stack members
-  pub written : out ≡ concat (tally stack (plans_of stack) mode (generate seed events members))
+  pub written : out ≡ concat (tally stack (plans_of stack) mode (generate seed events members raw))
 
--- What the clock and the network of a node told: the moment of each turn, what each own member heard in each turn, and how often the
--- sending of each packet failed.
+-- What the clock and the network of a node told: the moment of each turn, what each own member heard in each turn, and the packet of each
+-- sending that failed, by its number.
 pub record Surroundings : Type 0 where
   pub clock : List ℕ
   pub heard : List Heard
-  pub failed : ℕ → ℕ
+  pub lost : List ℕ
 
--- `node`: own members of the plan's group run over a network. What is written and what is handed to the network are those of the journal,
--- which is a list of script events whatever the surroundings told.
-pub record Serves (file plan_text : List ℕ) (turns : ℕ) (me : List ℕ) (mode : Mode) (s : Surroundings) (out : List ℕ)
-    (sent : List Handed) : Type 0 where
+-- How often the sending of a packet failed.
+abbrev pub failed : Surroundings → ℕ → ℕ
+failed s k = count_by (λ lost. lost == k) s.lost
+
+-- What the words of a node say: how many turns it makes, its own members, how many failed receives it bears, and its mode.
+pub record NodeWords : Type 0 where
+  pub turns : ℕ
+  pub me : List ℕ
+  pub patience : ℕ
+  pub mode : Mode
+
+-- A node whose files are good: an accepted stack, and a plan of a group that has its members.
+pub record IsNode (file plan_text : List ℕ) (me : List ℕ) : Type 0 where
   pub stack : List LayerTree
   pub means : Means file stack
   pub plan : NodePlan
   pub spelled : node_plan plan_text ≡ Ok plan
   pub members : All (λ id. id < length plan.peers) me
   pub room : HasRoom stack (length plan.peers)
-  pub events : List ScriptEvent
-  pub is_journal : events ≡ journal plan me turns s.clock s.heard
-  pub written : out ≡ concat (node_lines stack (plans_of stack) s.failed (node_run stack (plans_of stack) plan events))
-  pub handed_on : sent ≡ handed mode stack (plans_of stack) (node_run stack (plans_of stack) plan events)
+
+-- The notes of a node, and the moments of its journal: a list of script events, whatever the surroundings told.
+abbrev pub noted : NodePlan → NodeWords → Surroundings → List Note
+noted plan words s = notes_of plan words.me words.turns words.patience s.clock s.heard
+
+abbrev pub played : List LayerTree → NodePlan → NodeWords → Surroundings → List Moment
+played stack plan words s = node_run stack (plans_of stack) plan (noted plan words s)
+
+-- What a node hands to the network.
+abbrev pub handed_by : List LayerTree → NodePlan → NodeWords → Surroundings → List Handed
+handed_by stack plan words s = handed words.mode stack (plans_of stack) (played stack plan words s)
+
+-- How many receives failed.
+abbrev pub is_failure : Heard → Bool
+is_failure failure = true
+is_failure _ = false
+
+abbrev pub failures : List Heard → ℕ
+failures heard = count_by is_failure heard
+
+-- `node`: own members of the plan's group run over a network through all turns, each with a moment and an answer for each own member, of
+-- which no more failed than are borne. What is written and what is handed to the network are those of the journal.
+pub record Serves (file plan_text : List ℕ) (words : NodeWords) (s : Surroundings) (out : List ℕ) (sent : List Handed) : Type 0 where
+  pub node : IsNode file plan_text words.me
+  pub moments : length s.clock ≡ words.turns
+  pub answers : length s.heard ≡ words.turns * length words.me
+  pub borne : failures s.heard ≤ words.patience
+  pub written :
+      out ≡ concat (node_lines node.stack (plans_of node.stack) (failed s) (noted node.plan words s) (played node.stack node.plan words s))
+  pub handed_on : sent ≡ handed_by node.stack node.plan words s
+
+-- A node that couldn't listen made no turn.
+pub record CannotListen (file plan_text : List ℕ) (words : NodeWords) (s : Surroundings) (out : List ℕ) (sent : List Handed) : Type 0 where
+  pub node : IsNode file plan_text words.me
+  pub moments : s.clock ≡ []
+  pub answers : s.heard ≡ []
+  pub written : out ≡ []
+  pub handed_on : sent ≡ []
+
+-- A node that ended at a failed receive, one more than it bears: the last answer, in the turn of the last moment. What was written before
+-- is the whole journal's.
+pub record GoesDeaf (file plan_text : List ℕ) (words : NodeWords) (s : Surroundings) (out : List ℕ) (sent : List Handed) : Type 0 where
+  pub node : IsNode file plan_text words.me
+  pub before : List Heard
+  pub last : s.heard ≡ before ++ failure ∷ []
+  pub borne : failures before ≡ words.patience
+  pub turns : length s.clock ≤ words.turns
+  pub within : length s.heard ≤ length s.clock * length words.me
+  pub begun : length s.clock * length words.me < length s.heard + length words.me
+  pub written :
+      out ≡ concat (note_lines node.stack (plans_of node.stack) (failed s) (noted node.plan words s) (played node.stack node.plan words s))
+  pub handed_on : sent ≡ handed_by node.stack node.plan words s

@@ -31,5 +31,5 @@ abbrev pub second_fault : Job → List LayerTree → List ℕ → Option SecondF
 second_fault (check file) stack text = None
 second_fault (synth file) stack text = None
 second_fault (replay file script mode wire count) stack text = after_script stack (script_of text)
-second_fault (load file seed events members mode) stack text = crowded stack members
-second_fault (node file plan turns me mode) stack text = after_plan stack me (node_plan text)
+second_fault (load file seed events members raw mode) stack text = crowded stack members
+second_fault (node file plan turns me patience mode) stack text = after_plan stack me (node_plan text)

@@ -1,16 +1,17 @@
--- Which steps are common, and which of their packets are sent short, under which plan. Both are told by the layers' texts and by the
--- layered run of the step.
-use Rattle.std.specs.Prelude.{ℕ, ◌+◌, Bool, true, false, not, ◌&&◌, nat_le, if◌then◌else◌, List, [], ◌∷◌, length, slice_get, Option, Some, None, option_map, Result, Ok, Err}
-use Rattle.std.specs.List.{filter, position}
+-- Which steps are common, in which case, and which of their packets are sent short, under which plan. All is told by the layers' texts
+-- and by the layered run of the step.
+use Rattle.std.specs.Prelude.{ℕ, ◌+◌, Bool, true, false, ◌&&◌, nat_le, if◌then◌else◌, List, [], ◌∷◌, slice_get, Option, Some, None, option_map, is_some, Result, Ok, Err}
 use Rattle.std.specs.Option.{option_and_then, option_map_or}
 use Rattle.msg_core.specs.declared.packet.Packet.{Packet}
 use Rattle.layer_mean.specs.Tree.{LayerTree}
-use Rattle.layer_mean.specs.Effect.{is_usual}
+use Rattle.layer_mean.specs.declared.run.Case.{Case}
+use Rattle.layer_mean.specs.declared.run.Case.TheVariants.{First, Second}
+use Rattle.layer_mean.specs.Effect as effect
 use Rattle.layer_mean.specs.Queue.{is_predicted}
 use Rattle.stack_mean.specs.NoShape.{NoShape}
 use Rattle.stack_mean.specs.Shape.{Known, packet_entry, Shape, shape}
 use Rattle.stack_mean.specs.Shape as entry
-use Rattle.stack_mean.specs.Plans.{is_packet, outs_of}
+use Rattle.stack_mean.specs.Plans.{plans_before}
 use Rattle.packet_mean.specs.Plan.{least_fit}
 use Rattle.stack_mean.specs.Plan.{Plan}
 use Rattle.packet_mean.specs.Spelling.{full_bytes, short_bytes}
@@ -37,15 +38,26 @@ abbrev pub is_short : Result Shape NoShape → Bool
 is_short (Ok s) = nat_le s.length longest_shape
 is_short (Err reason) = false
 
--- A step is common where its entry has a shape that isn't too long, and its run went as predicted in every visit. The form in which a
--- packet came plays no part.
-abbrev pub is_common : List LayerTree → List Plan → Step → Bool
-is_common stack plans s =
-    option_map_or (λ known. is_short (shape stack known)) (entry_of plans s.entered) false && is_predicted s.work
+-- A step is common in a case where its entry has a shape in it that isn't too long, and its run went as predicted in it in every visit.
+-- The form in which a packet came plays no part.
+abbrev pub is_common_in : List LayerTree → List Plan → Step → Case → Bool
+is_common_in stack plans s case =
+    option_map_or (λ known. is_short (shape stack known case)) (entry_of plans s.entered) false && is_predicted case s.work
 
--- The number of the first decision of a step that didn't go as predicted, counted from 0 through all its visits, if there is one.
-abbrev pub first_missed : Step → Option ℕ
-first_missed s = position (λ d. not (is_usual d)) s.work.decided
+-- The case of a step is the first in which it is common; it is common where there is one.
+abbrev pub case_of : List LayerTree → List Plan → Step → Option Case
+case_of stack plans s =
+    if is_common_in stack plans s First then Some First
+    else if is_common_in stack plans s Second then Some Second
+    else None
+
+abbrev pub is_common : List LayerTree → List Plan → Step → Bool
+is_common stack plans s = is_some (case_of stack plans s)
+
+-- The number of the first decision of a step that didn't go as predicted in a case, counted from 0 through all its visits, if there is
+-- one.
+abbrev pub first_missed : Case → Step → Option ℕ
+first_missed case s = effect.first_missed case s.work.decided
 
 -- Whether an output is one of those to which plans belong: a packet, or a send that has nowhere to go.
 abbrev pub is_planned : Output → Bool
@@ -53,17 +65,23 @@ is_planned (packet p) = true
 is_planned nowhere = true
 is_planned _ = false
 
--- The number of the first plan of an application's cast, and of its send, whose plans come behind those of the cast.
-abbrev pub first_plan : List LayerTree → Entered → Option ℕ
-first_plan stack (app_cast body) = Some 0
-first_plan stack (app_send to body) = Some (length (filter (λ out. is_packet out out.dir) (outs_of (shape stack entry.app_cast))))
-first_plan stack _ = None
+-- How many groups of plans stand before that of an application's cast or send in a case.
+abbrev pub groups_before : Entered → Case → Option ℕ
+groups_before (app_cast body) First = Some 0
+groups_before (app_send to body) First = Some 1
+groups_before (app_cast body) Second = Some 2
+groups_before (app_send to body) Second = Some 3
+groups_before _ case = None
+
+-- The number of the first plan of an application's cast or send in a case.
+abbrev pub first_plan : List LayerTree → Entered → Case → Option ℕ
+first_plan stack what case = option_map (plans_before stack) (groups_before what case)
 
 -- The number of the plan under which the packets of a step are sent short from the first on, if they are: in bypass mode, where the
--- step is a common one of an application.
+-- step is a common one of an application, the first plan of its case.
 abbrev pub short_from : Mode → List LayerTree → List Plan → Step → Option ℕ
 short_from layered stack plans s = None
-short_from bypass stack plans s = if is_common stack plans s then first_plan stack s.entered else None
+short_from bypass stack plans s = option_and_then (first_plan stack s.entered) (case_of stack plans s)
 
 -- The number of a plan that there is, of an output to which one belongs; each such output takes one number.
 abbrev pub plan_for : List Plan → Option ℕ → Output → Option ℕ

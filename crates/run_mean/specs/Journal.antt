@@ -1,7 +1,7 @@
 -- A node: some members of a group that run over a network. Its journal is a list of script events, whatever the network and the clock
 -- gave; what it writes is the report of these, and what it hands to the network are their packets.
-use Rattle.std.specs.Prelude.{ℕ, zero, suc, ◌+◌, ◌==◌, ◌&&◌, not, Bool, true, false, if◌then◌else◌, List, [], ◌∷◌, ◌++◌, map, length, take, drop, zip, replicate, slice_get, codes, Option, None, option_to_list}
-use Rattle.std.specs.List.{flat_map, filter, list_any}
+use Rattle.std.specs.Prelude.{ℕ, zero, suc, ◌+◌, ◌==◌, ◌&&◌, not, List, [], ◌∷◌, ◌++◌, map, length, take, drop, zip, replicate, slice_get, codes, Option, Some, None, option_to_list}
+use Rattle.std.specs.List.{flat_map, filter, filter_map, list_any}
 use Rattle.std.specs.Fmt.{decimal}
 use Rattle.msg_core.specs.declared.packet.Dest.{Dest}
 use Rattle.msg_core.specs.declared.packet.Dest.TheVariants.{All, Rank}
@@ -27,38 +27,65 @@ pub data Heard : Type 0 where
   silence : Heard
   failure : Heard
 
--- The datagrams of a turn as events of the members that heard them, up to the first failure, and whether there was none.
-pub record Hearing : Type 0 where
-  pub events : List ScriptEvent
-  pub goes_on : Bool
+-- What a node notes as it runs: an event that a member of its own takes, or that a member couldn't hear.
+pub data Note : Type 0 where
+  fed : ScriptEvent → Note
+  deaf : (id : ℕ) → Note
 
-abbrev pub hearing : List (ℕ × Heard) → Hearing
-hearing [] = record { events = []; goes_on = true }
-hearing ((id, datagram bytes) ∷ rest) = let h = hearing rest in record h { events = Raw id bytes ∷ h.events }
-hearing ((id, silence) ∷ rest) = hearing rest
-hearing ((id, failure) ∷ rest) = record { events = []; goes_on = false }
+-- What the members heard in a turn, and how many failures may still be borne; none where one more came than may be, behind which
+-- nothing is heard.
+pub record Hearing : Type 0 where
+  pub notes : List Note
+  pub patience : Option ℕ
+
+abbrev pub noting : Note → Hearing → Hearing
+noting note h = record h { notes = note ∷ h.notes }
+
+-- What members heard, of which so many failures may be borne: a datagram is an event of the member that heard it.
+abbrev pub hearing : ℕ → List (ℕ × Heard) → Hearing
+hearing patience [] = record { notes = []; patience = Some patience }
+hearing patience ((id, datagram bytes) ∷ rest) = noting (fed (Raw id bytes)) (hearing patience rest)
+hearing patience ((id, silence) ∷ rest) = hearing patience rest
+hearing zero ((id, failure) ∷ rest) = record { notes = []; patience = None }
+hearing (suc patience) ((id, failure) ∷ rest) = noting (deaf id) (hearing patience rest)
 
 -- The plan's events of a turn for a node's own members, in order.
 abbrev pub planned_events : NodePlan → List ℕ → ℕ → List ScriptEvent
 planned_events plan me t = map (λ x. x.1) (filter (λ x. (x.0 == t) && list_any (λ id. member_of x.1 == id) me) plan.turns)
 
--- The journal from a turn on: a tick of the turn's moment at each own member, what the members heard, and the plan's events. It ends where
--- there is no moment, and at a failure before which the turn's earlier datagrams still stand.
-abbrev pub journal_from : NodePlan → List ℕ → (t turns : ℕ) (moments : List ℕ) (heard : List Heard) → List ScriptEvent
-journal_from plan me t zero clock heard = []
-journal_from plan me t (suc turns) [] heard = []
-journal_from plan me t (suc turns) (moment ∷ clock) heard =
-    let h = hearing (zip me (take (length me) heard)) in
-    map (λ id. Tick id moment) me ++ h.events
-    ++ (if h.goes_on then planned_events plan me t ++ journal_from plan me (t + 1) turns clock (drop (length me) heard) else [])
+-- What goes on where patience is left.
+abbrev pub while_patient : Option ℕ → (ℕ → List Note) → List Note
+while_patient None next = []
+while_patient (Some left) next = next left
 
--- The journal of a node: of its plan, its own members, how many turns it makes, what its clock told in each and what its members heard.
-abbrev pub journal : NodePlan → List ℕ → ℕ → List ℕ → List Heard → List ScriptEvent
-journal plan me turns clock heard = journal_from plan me 0 turns clock heard
+-- The notes from a turn on: a tick of the turn's moment at each own member, what the members heard, and the plan's events. They end where
+-- there is no moment, and at a failure that isn't borne, before which what was heard earlier in the turn still stands.
+abbrev pub notes_from : NodePlan → List ℕ → (t turns patience : ℕ) (moments : List ℕ) (heard : List Heard) → List Note
+notes_from plan me t zero patience clock heard = []
+notes_from plan me t (suc turns) patience [] heard = []
+notes_from plan me t (suc turns) patience (moment ∷ clock) heard =
+    let h = hearing patience (zip me (take (length me) heard)) in
+    map (λ id. fed (Tick id moment)) me ++ h.notes
+    ++ while_patient h.patience (λ left.
+    map fed (planned_events plan me t) ++ notes_from plan me (t + 1) turns left clock (drop (length me) heard))
 
--- The moments of events under a plan's first line.
-abbrev pub node_run : List LayerTree → List Plan → NodePlan → List ScriptEvent → List Moment
-node_run stack plans plan events = moments stack plans (first_world stack plan.group plan.stamp (length plan.peers)) events
+-- The notes of a node: of its plan, its own members, how many turns it makes and how many failures it bears, what its clock told in each
+-- turn and what its members heard.
+abbrev pub notes_of : NodePlan → List ℕ → (turns patience : ℕ) → List ℕ → List Heard → List Note
+notes_of plan me turns patience clock heard = notes_from plan me 0 turns patience clock heard
+
+-- The event of a note, if it is one; the journal of a node is the events of its notes.
+abbrev pub event_in : Note → Option ScriptEvent
+event_in (fed event) = Some event
+event_in (deaf id) = None
+
+abbrev pub journal : List Note → List ScriptEvent
+journal notes = filter_map event_in notes
+
+-- The moments of a journal under a plan's first line.
+abbrev pub node_run : List LayerTree → List Plan → NodePlan → List Note → List Moment
+node_run stack plans plan notes =
+    moments stack plans (first_world stack plan.group plan.stamp (length plan.peers)) (journal notes)
 
 -- A datagram that is handed to the network: from a member, to a member.
 pub record Handed : Type 0 where
@@ -89,8 +116,7 @@ abbrev pub lost_annex : (failed : ℕ → ℕ) → Annex
 lost_annex failed k (packet p, plan) = replicate (failed k) (line (codes "lost" ∷ decimal k ∷ []))
 lost_annex failed k (_, plan) = []
 
--- What a node writes: behind `> ` the line of each event, then its report, with the packets that were lost; and how many events there
--- were.
+-- What a node writes of an event: behind `> ` its line, then its report, with the packets that were lost.
 abbrev pub node_moment_lines : List LayerTree → List Plan → (failed : ℕ → ℕ) → Moment → List (List ℕ)
 node_moment_lines stack plans failed m =
     line (codes ">" ∷ event_text m.event ∷ [])
@@ -98,5 +124,14 @@ node_moment_lines stack plans failed m =
     (λ s. lines_of_outputs stack (lost_annex failed) (member_of m.event) (first_number m) (with_plans plans None s.outputs))
     m m.happening.did
 
-abbrev pub node_lines : List LayerTree → List Plan → (failed : ℕ → ℕ) → List Moment → List (List ℕ)
-node_lines stack plans failed run = flat_map (node_moment_lines stack plans failed) run ++ end_line (length run) ∷ []
+-- What a node writes of its notes, whose events came to these moments: a line for each member that couldn't hear stands in its place.
+abbrev pub note_lines : List LayerTree → List Plan → (failed : ℕ → ℕ) → List Note → List Moment → List (List ℕ)
+note_lines stack plans failed (deaf id ∷ notes) run =
+    line (codes "deaf" ∷ decimal id ∷ []) ∷ note_lines stack plans failed notes run
+note_lines stack plans failed (fed event ∷ notes) (m ∷ run) =
+    node_moment_lines stack plans failed m ++ note_lines stack plans failed notes run
+note_lines stack plans failed _ _ = []
+
+-- All that a node writes where it makes all its turns: last how many events there were.
+abbrev pub node_lines : List LayerTree → List Plan → (failed : ℕ → ℕ) → List Note → List Moment → List (List ℕ)
+node_lines stack plans failed notes run = note_lines stack plans failed notes run ++ end_line (length run) ∷ []

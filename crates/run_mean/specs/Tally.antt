@@ -1,5 +1,5 @@
 -- What a run over a generated script writes in place of its report.
-use Rattle.std.specs.Prelude.{ℕ, nat_eq, List, [], ◌∷◌, ◌++◌, length, count_by, codes, is_some}
+use Rattle.std.specs.Prelude.{ℕ, nat_eq, Bool, false, Option, List, [], ◌∷◌, ◌++◌, length, count_by, codes, is_some}
 use Rattle.std.specs.List.{flat_map, sum_by, starts_with}
 use Rattle.std.specs.Fmt.{decimal}
 use Rattle.layer_mean.specs.Tree.{LayerTree}
@@ -8,6 +8,7 @@ use Rattle.stack_mean.specs.Plan.{Plan}
 use Rattle.job_mean.specs.Job.{Mode}
 use Rattle.run_mean.specs.Common.{as_sent}
 use Rattle.run_mean.specs.Lines.{line}
+use Rattle.run_mean.specs.Member.{Output, packet}
 use Rattle.run_mean.specs.Report.{run_of, moment_lines}
 use Rattle.run_mean.specs.World.{Did, taken}
 use Rattle.std.specs.Prelude.{None}
@@ -22,9 +23,14 @@ counted_words =
 abbrev pub count_of : List (List ℕ) → List ℕ → ℕ
 count_of lines word = count_by (λ l. starts_with nat_eq l (word ++ codes " ")) lines
 
+-- Whether an output is a packet that is sent short; a send that has nowhere to go is none.
+abbrev pub is_short_packet : Output × Option ℕ → Bool
+is_short_packet (packet p, plan) = is_some plan
+is_short_packet (_, plan) = false
+
 -- How many packets a step sends short in a mode.
 abbrev pub short_in : Mode → List LayerTree → List Plan → Did → ℕ
-short_in mode stack plans (taken s) = count_by (λ o. is_some o.1) (as_sent mode stack plans s)
+short_in mode stack plans (taken s) = count_by is_short_packet (as_sent mode stack plans s)
 short_in mode stack plans _ = 0
 
 -- The lines of each kind that the report has and the number of its events, and in a second line the number of packets that are sent

@@ -1,8 +1,9 @@
 -- Scripts that are made from a number.
-use Rattle.std.specs.Prelude.{ℕ, zero, suc, ◌+◌, ◌*◌, ◌/◌, ◌%◌, ◌==◌, max, nat_lt, List, [], ◌∷◌, ◌++◌, map, replicate, slice_index, slice_set, if◌then◌else◌}
+use Rattle.std.specs.Prelude.{ℕ, zero, suc, ◌+◌, ◌-◌, ◌*◌, ◌/◌, ◌%◌, ◌^◌, ◌==◌, Bool, ◌&&◌, max, nat_lt, List, [], ◌∷◌, ◌++◌, map, replicate, take, slice_index, slice_set, if◌then◌else◌}
+use Rattle.std.specs.Int.{w32, to_be_bytes}
 use Rattle.std.specs.List.{range_with_len}
 use Rattle.script_mean.specs.declared.event.ScriptEvent.{ScriptEvent}
-use Rattle.script_mean.specs.declared.event.ScriptEvent.TheVariants.{Cast, Send, Tick, Give}
+use Rattle.script_mean.specs.declared.event.ScriptEvent.TheVariants.{Cast, Send, Tick, Give, Raw}
 use Rattle.script_mean.specs.declared.script.Script.{Script}
 
 -- something made by draws from a seed, and the seed behind them
@@ -66,21 +67,56 @@ a_give member cursors = do
   way ← a_draw 8
   made (Give (given way (slice_index cursors member)).0 member, slice_set cursors member (given way (slice_index cursors member)).1)
 
+-- so many numbers below a bound
+abbrev pub draws : ℕ → ℕ → Drawn (List ℕ)
+draws zero bound = made []
+draws (suc k) bound = do
+  first ← a_draw bound
+  more ← draws k bound
+  made (first ∷ more)
+
+-- the bytes in front of a datagram's headers: a full form where the drawn number is even and else a short one, group and stamp 1, the
+-- first view of so many members, a sender, and that it is for all
+abbrev pub a_preamble : ℕ → ℕ → ℕ → List ℕ
+a_preamble form members sender =
+    (if form == 0 then 229 else 230) ∷ to_be_bytes w32 1 ++ to_be_bytes w32 1 ++ to_be_bytes w32 0
+    ++ to_be_bytes w32 (2 ^ members - 1) ++ sender ∷ 255 ∷ []
+
+-- bytes as they stand, or, one time in eight, fewer than twenty of them
+abbrev pub cut_short : List ℕ → ℕ → Drawn (List ℕ)
+cut_short bytes way =
+    if way == 0 then (do
+      left ← a_draw 20
+      made (take left bytes))
+    else made bytes
+
+-- a datagram that may be stray: a preamble, up to 63 small bytes, and now and then cut short
+abbrev pub a_datagram : ℕ → ℕ → Drawn ScriptEvent
+a_datagram members member = do
+  form ← a_draw 2
+  sender ← a_draw members
+  count ← a_draw 64
+  rest ← draws count 4
+  way ← a_draw 8
+  bytes ← cut_short (a_preamble form members sender ++ rest) way
+  made (Raw member bytes)
+
 -- the event of a choice of 16: two of them are a cast, one is a send, one a tick, which shows a time that
--- rises with each 16 events, and the others give a packet
-abbrev pub chosen : ℕ → ℕ → ℕ → ℕ → List ℕ → Drawn (ScriptEvent × List ℕ)
-chosen choice members number member cursors =
+-- rises with each 16 events, one a datagram where these are wanted, and the others give a packet
+abbrev pub chosen : Bool → ℕ → ℕ → ℕ → ℕ → List ℕ → Drawn (ScriptEvent × List ℕ)
+chosen raw choice members number member cursors =
     if nat_lt choice 2 then leaving cursors (a_cast number member)
     else if choice == 2 then leaving cursors (a_send members number member)
     else if choice == 3 then made (Tick member (number / 16), cursors)
+    else if raw && (choice == 15) then leaving cursors (a_datagram members member)
     else a_give member cursors
 
 -- the event of this number, counted from 0, and the cursors behind it
-abbrev pub an_event : ℕ → ℕ → List ℕ → Drawn (ScriptEvent × List ℕ)
-an_event members number cursors = do
+abbrev pub an_event : Bool → ℕ → ℕ → List ℕ → Drawn (ScriptEvent × List ℕ)
+an_event raw members number cursors = do
   choice ← a_draw 16
   member ← a_draw members
-  chosen choice members number member cursors
+  chosen raw choice members number member cursors
 
 -- how far a script is made: the seed, a cursor for each member, and the events so far
 pub record Generator : Type 0 where
@@ -93,14 +129,15 @@ abbrev pub with_event : List ScriptEvent → (ScriptEvent × List ℕ) × ℕ �
 with_event events drawn = record { seed = drawn.1; cursors = drawn.0.1; events = events ++ drawn.0.0 ∷ [] }
 
 -- the next event, of this number
-abbrev pub after_event : ℕ → ℕ → Generator → Generator
-after_event members number g = with_event g.events (an_event members number g.cursors g.seed)
+abbrev pub after_event : Bool → ℕ → ℕ → Generator → Generator
+after_event raw members number g = with_event g.events (an_event raw members number g.cursors g.seed)
 
 -- so many events of so many members
-abbrev pub generated : ℕ → ℕ → ℕ → Generator
-generated seed members zero = record { seed = seed; cursors = replicate members 0; events = [] }
-generated seed members (suc number) = after_event members number (generated seed members number)
+abbrev pub generated : ℕ → ℕ → Bool → ℕ → Generator
+generated seed members raw zero = record { seed = seed; cursors = replicate members 0; events = [] }
+generated seed members raw (suc number) = after_event raw members number (generated seed members raw number)
 
--- the script of so many events of so many members that is made from a seed; group and stamp are 1
-abbrev pub generate : ℕ → ℕ → ℕ → Script
-generate seed events members = record { group = 1; stamp = 1; members = members; events = (generated seed members events).events }
+-- the script of so many events of so many members that is made from a seed, with datagrams or without; group and stamp are 1
+abbrev pub generate : ℕ → ℕ → ℕ → Bool → Script
+generate seed events members raw =
+    record { group = 1; stamp = 1; members = members; events = (generated seed members raw events).events }

@@ -5,6 +5,7 @@ use Rattle.layer_ast.specs.declared.tokens.Dir.TheVariants.{Up, Down}
 use Rattle.layer_ast.specs.declared.tokens.Kind.TheVariants.{Cast, Send, Ack}
 use Rattle.layer_ast.specs.declared.syntax.Function.TheVariants.{Bit}
 use Rattle.layer_ast.specs.declared.syntax.Operator.TheVariants.{Add, Subtract, Multiply}
+use Rattle.layer_mean.specs.declared.run.Case.TheVariants.{First}
 use Rattle.layer_mean.specs.Tree.{part, ExpressionTree, number, me, local, size, binary, apply, pick, MessageTree, message, held, cut, tail, join, StatementTree, push, take, each, emit, none, always, common, rare, queue, LayerTree}
 use Rattle.stack_mean.specs.Acceptance.{cycle, too_many, accepted, largest_weight, largest_joins}
 use Rattle.stack_mean.specs.NoShape as no_shape
@@ -60,14 +61,14 @@ fixed = record {
 }
 
 abbrev pub ConstantFields : Type 0
-ConstantFields = map (λ out. out.headers) (outs_of (shape (fixed ∷ []) app_cast)) ≡
+ConstantFields = map (λ out. out.headers) (outs_of (shape (fixed ∷ []) app_cast First)) ≡
     (header 1 (Some 14 ∷ None ∷ None ∷ Some 6 ∷ []) ∷ []) ∷ []
 
 -- A message that no handler is for passes behind `none`, and can't be drawn behind another header.
 abbrev pub Unhandled : Type 0
 Unhandled =
-    (length_of (shape (counter ∷ []) (packet_entry Cast (0 ∷ []))) ≡ Ok 1) ×
-    (shape (counter ∷ []) (packet_entry Send (1 ∷ [])) ≡ Err (no_shape.rare 0))
+    (length_of (shape (counter ∷ []) (packet_entry Cast (0 ∷ [])) First) ≡ Ok 1) ×
+    (shape (counter ∷ []) (packet_entry Send (1 ∷ [])) First ≡ Err (no_shape.rare 0))
 
 -- A cast is cut, and its part taken back and sent; then a part that is held is sent.
 abbrev pub parting : LayerTree
@@ -97,8 +98,8 @@ stored_first = held 0 (number 0) (number 0) kept_rows
 -- Parts have no headers and can be drawn; what is made of a stored message can't be, except a part of it and a part before another.
 abbrev pub PartsAndStored : Type 0
 PartsAndStored =
-    (map (λ out. out.headers) (outs_of (shape (silent ∷ parting ∷ []) app_cast)) ≡
+    (map (λ out. out.headers) (outs_of (shape (silent ∷ parting ∷ []) app_cast First)) ≡
     (header 0 [] ∷ header 1 [] ∷ []) ∷ (header 0 [] ∷ header 1 [] ∷ []) ∷ []) ×
-    (shape (sending (tail stored_first (number 1)) ∷ []) app_cast ≡ Err (no_shape.stored 0)) ×
-    (shape (sending (join (cut (message 0) (number 0) (number 1)) stored_first) ∷ []) app_cast ≡ Err (no_shape.stored 0)) ×
-    (length_of (shape (sending (join (cut stored_first (number 0) (number 1)) (message 0)) ∷ []) app_cast) ≡ Ok 2)
+    (shape (sending (tail stored_first (number 1)) ∷ []) app_cast First ≡ Err (no_shape.stored 0)) ×
+    (shape (sending (join (cut (message 0) (number 0) (number 1)) stored_first) ∷ []) app_cast First ≡ Err (no_shape.stored 0)) ×
+    (length_of (shape (sending (join (cut stored_first (number 0) (number 1)) (message 0)) ∷ []) app_cast First) ≡ Ok 2)

@@ -1,5 +1,5 @@
--- A visit as its layer's text alone predicts it: what is sent, whatever the numbers and the bytes are.
-use Rattle.std.specs.Prelude.{ℕ, ◌==◌, if◌then◌else◌, List, [], ◌∷◌, ◌++◌, map, slice_index_or, slice_set, Option, Some, None, option_map, option_to_list, Result, Ok, Err}
+-- A visit as its layer's text alone predicts it in a case: what is sent, whatever the numbers and the bytes are.
+use Rattle.std.specs.Prelude.{ℕ, ◌==◌, Bool, true, false, if◌then◌else◌, List, [], ◌∷◌, ◌++◌, map, slice_index_or, slice_set, Option, Some, None, option_map, option_to_list, Result, Ok, Err}
 use Rattle.std.specs.Option.{option_map_or, option_and_then}
 use Rattle.layer_ast.specs.declared.tokens.Dir.{Dir}
 use Rattle.layer_ast.specs.declared.tokens.Dir.TheVariants.{Up, Down}
@@ -7,7 +7,9 @@ use Rattle.layer_ast.specs.declared.tokens.Kind.{Kind}
 use Rattle.layer_mean.specs.Tree.{Carried, part, whole, ExpressionTree, number, binary, apply, pick, MessageTree, message, nothing, held, cut, tail, join, ContentTree, EmissionTree, TakenTree, HandlerTree, LayerTree}
 use Rattle.layer_mean.specs.Value.{is_true, applied, function_of}
 use Rattle.layer_mean.specs.Visit.{handler_for, with_room}
-use Rattle.layer_mean.specs.Way.{Step, get, send, loop, handler_way, way_length}
+use Rattle.layer_mean.specs.Way.{Step, fork, get, send, loop, handler_way, way_length}
+use Rattle.layer_mean.specs.declared.run.Case.{Case}
+use Rattle.layer_mean.specs.declared.run.Case.TheVariants.{First}
 use Rattle.stack_mean.specs.NoShape as no_shape
 use Rattle.stack_mean.specs.NoShape.{NoShape, drawn_from}
 
@@ -91,6 +93,16 @@ abbrev pub draw_steps : ℕ → List Step → Drawing → Result Drawing NoShape
 draw_steps place [] d = Ok d
 draw_steps place (x ∷ xs) d = drawn_from (draw_steps place xs) (draw_step place x d)
 
+-- Whether steps meet a condition with two predicted ways before they end or one of them can't be drawn.
+abbrev pub forks_behind : (Drawing → Bool) → Result Drawing NoShape → Bool
+forks_behind go (Ok d) = go d
+forks_behind go (Err reason) = false
+
+abbrev pub steps_fork : ℕ → List Step → Drawing → Bool
+steps_fork place [] d = false
+steps_fork place (fork case e ∷ xs) d = true
+steps_fork place (x ∷ xs) d = forks_behind (steps_fork place xs) (draw_step place x d)
+
 -- What a visit sends, and how many predicted statements and arguments it counts for.
 pub record DrawnVisit : Type 0 where
   pub sent : List (Dir × DrawnEvent)
@@ -132,11 +144,24 @@ drawn_way place None d = Err (no_shape.rare place)
 drawn_way place (Some steps) d =
     drawn_from (λ e. Ok (record { sent = e.sent; length = way_length steps })) (draw_steps place steps d)
 
-abbrev pub drawn_handled : ℕ → Option HandlerTree → Dir → DrawnEvent → DrawnMet → Result DrawnVisit NoShape
-drawn_handled place None dir event m = drawn_unhandled place dir event m.tag m.headers
-drawn_handled place (Some h) dir event m = drawn_way place (handler_way h) (drawn_entered h m.headers)
+abbrev pub drawn_handled : Case → ℕ → Option HandlerTree → Dir → DrawnEvent → DrawnMet → Result DrawnVisit NoShape
+drawn_handled case place None dir event m = drawn_unhandled place dir event m.tag m.headers
+drawn_handled case place (Some h) dir event m = drawn_way place (handler_way case h) (drawn_entered h m.headers)
 
--- The predicted visit of the layer at a place.
-abbrev pub drawn_visit : ℕ → LayerTree → Dir → DrawnEvent → Result DrawnVisit NoShape
-drawn_visit place layer dir event =
-    let m = drawn_met dir event.headers in drawn_handled place (handler_for layer dir event.kind m.tag) dir event m
+-- The predicted visit of the layer at a place, in a case.
+abbrev pub drawn_visit : Case → ℕ → LayerTree → Dir → DrawnEvent → Result DrawnVisit NoShape
+drawn_visit case place layer dir event =
+    let m = drawn_met dir event.headers in drawn_handled case place (handler_for layer dir event.kind m.tag) dir event m
+
+-- Whether a visit's way in the first case meets a condition with two predicted ways before it ends or can't be drawn.
+abbrev pub way_forks : ℕ → Option (List Step) → Drawing → Bool
+way_forks place None d = false
+way_forks place (Some steps) d = steps_fork place steps d
+
+abbrev pub handled_forks : ℕ → Option HandlerTree → DrawnMet → Bool
+handled_forks place None m = false
+handled_forks place (Some h) m = way_forks place (handler_way First h) (drawn_entered h m.headers)
+
+abbrev pub visit_forks : ℕ → LayerTree → Dir → DrawnEvent → Bool
+visit_forks place layer dir event =
+    let m = drawn_met dir event.headers in handled_forks place (handler_for layer dir event.kind m.tag) m

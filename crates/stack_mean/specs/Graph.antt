@@ -42,11 +42,11 @@ abbrev pub nodes_of : List LayerTree → ℕ → Dir → Kind → List Node
 nodes_of stack at dir kind =
     map (λ tag. record { at = at; dir = dir; kind = kind; tag = tag }) (tags_for kind (header_layer stack dir at))
 
--- All nodes at the places of a stack, by their place from the lowest on, and at a place by their kind.
+-- All nodes of a stack, from its lower edge to its upper one, and at a place by their kind.
 abbrev pub nodes : List LayerTree → List Node
 nodes stack = flat_map
     (λ at. flat_map (λ kind. nodes_of stack at Up kind.1 ++ nodes_of stack at Down kind.1) kinds)
-    (range_with_len 1 (length stack))
+    (range_with_len 0 (length stack + 2))
 
 -- Whether a message is the one that a handler was entered with, or has its headers: a tail of it, or a part in front of it.
 abbrev pub keeps_headers : MessageTree → Bool

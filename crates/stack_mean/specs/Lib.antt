@@ -9,3 +9,4 @@ pub mod Plans
 pub mod SampleLayers
 pub mod Samples
 pub mod Cases
+pub mod TwoCases

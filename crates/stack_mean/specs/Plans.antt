@@ -1,13 +1,15 @@
--- The plans of a stack: one for each packet that an application's own cast or send is predicted to send.
-use Rattle.std.specs.Prelude.{ℕ, Bool, false, List, [], ◌++◌, map, take, Result, Ok, Err}
-use Rattle.std.specs.List.{filter, flat_map}
+-- The plans of a stack: one for each packet that an application's own cast or send is predicted to send, in one case or the other.
+use Rattle.std.specs.Prelude.{ℕ, Bool, false, List, [], ◌∷◌, map, take, length, Result, Ok, Err}
+use Rattle.std.specs.List.{filter, flat_map, sum_by}
 use Rattle.layer_ast.specs.declared.tokens.Dir.{Dir}
 use Rattle.layer_ast.specs.declared.tokens.Dir.TheVariants.{Up, Down}
+use Rattle.layer_mean.specs.declared.run.Case.{Case}
+use Rattle.layer_mean.specs.declared.run.Case.TheVariants.{First, Second}
 use Rattle.layer_mean.specs.Event.{carries}
 use Rattle.layer_mean.specs.Tree.{LayerTree}
 use Rattle.stack_mean.specs.Plan.{Plan}
 use Rattle.stack_mean.specs.NoShape.{NoShape}
-use Rattle.stack_mean.specs.Shape.{ShapeOut, Shape, app_cast, app_send, shape}
+use Rattle.stack_mean.specs.Shape.{Known, ShapeOut, Shape, app_cast, app_send, shape}
 
 -- The most plans of a stack.
 abbrev pub plans_limit : ℕ
@@ -31,7 +33,25 @@ abbrev pub outs_of : Result Shape NoShape → List ShapeOut
 outs_of (Ok s) = s.outs
 outs_of (Err reason) = []
 
--- The plans of a stack, in the order of the outputs; later packets have none.
+-- An application's own event in a case.
+pub record Group : Type 0 where
+  pub entry : Known
+  pub case : Case
+
+-- The groups in which plans stand: a cast and a send in the first case, then both in the second.
+abbrev pub groups : List Group
+groups =
+    record { entry = app_cast; case = First } ∷ record { entry = app_send; case = First } ∷
+    record { entry = app_cast; case = Second } ∷ record { entry = app_send; case = Second } ∷ []
+
+-- The packet outputs of a group, in order; none where it has no shape.
+abbrev pub packets_of : List LayerTree → Group → List ShapeOut
+packets_of stack g = filter (λ out. is_packet out out.dir) (outs_of (shape stack g.entry g.case))
+
+-- The number of the first plan of the group behind so many others.
+abbrev pub plans_before : List LayerTree → ℕ → ℕ
+plans_before stack number = sum_by (λ g. length (packets_of stack g)) (take number groups)
+
+-- The plans of a stack, in the order of the groups and of their outputs; later packets have none.
 abbrev pub plans_of : List LayerTree → List Plan
-plans_of stack = take plans_limit
-    (map plan_of (filter (λ out. is_packet out out.dir) (outs_of (shape stack app_cast) ++ outs_of (shape stack app_send))))
+plans_of stack = take plans_limit (map plan_of (flat_map (packets_of stack) groups))

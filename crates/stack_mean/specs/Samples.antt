@@ -5,6 +5,7 @@ use Rattle.layer_ast.specs.declared.tokens.Dir.{Dir}
 use Rattle.layer_ast.specs.declared.tokens.Dir.TheVariants.{Up, Down}
 use Rattle.layer_ast.specs.declared.tokens.Kind.TheVariants.{Cast, Send, Timer}
 use Rattle.layer_mean.specs.declared.run.Event.{Event}
+use Rattle.layer_mean.specs.declared.run.Case.TheVariants.{First}
 use Rattle.layer_mean.specs.Tree.{LayerTree}
 use Rattle.layer_mean.specs.Effect.{unusual}
 use Rattle.layer_mean.specs.Visit.{Visited, fresh, step}
@@ -50,9 +51,9 @@ MessageRows = rows_of (bottom ∷ mnak ∷ []) 5 ≡ 144
 -- Loops, rare handlers and messages that were stored can't be drawn; the first of them counts.
 abbrev pub NotDrawn : Type 0
 NotDrawn =
-    (shape (repeater ∷ []) app_cast ≡ Err (no_shape.loop 0)) × (shape (repeater ∷ []) app_send ≡ Err (no_shape.loop 0)) ×
-    (shape (bottom ∷ surprised ∷ late ∷ []) app_cast ≡ Err (no_shape.stored 2)) ×
-    (shape (late ∷ surprised ∷ bottom ∷ []) app_cast ≡ Err (no_shape.rare 1))
+    (shape (repeater ∷ []) app_cast First ≡ Err (no_shape.loop 0)) × (shape (repeater ∷ []) app_send First ≡ Err (no_shape.loop 0)) ×
+    (shape (bottom ∷ surprised ∷ late ∷ []) app_cast First ≡ Err (no_shape.stored 2)) ×
+    (shape (late ∷ surprised ∷ bottom ∷ []) app_cast First ≡ Err (no_shape.rare 1))
 
 -- How long a shape is, without its visits.
 abbrev pub length_of : Result Shape NoShape → Result ℕ NoShape
@@ -61,8 +62,8 @@ length_of = drawn_from (λ s. Ok s.length)
 -- Nine layers of which each but the highest doubles a cast make 256 visits and as many outputs; one more is too long.
 abbrev pub LongShapes : Type 0
 LongShapes =
-    (length_of (shape (replicate 8 doubler ++ silent ∷ []) app_cast) ≡ Ok 766) ×
-    (shape (replicate 8 doubler ++ silent ∷ silent ∷ []) app_cast ≡ Err no_shape.long)
+    (length_of (shape (replicate 8 doubler ++ silent ∷ []) app_cast First) ≡ Ok 766) ×
+    (shape (replicate 8 doubler ++ silent ∷ silent ∷ []) app_cast First ≡ Err no_shape.long)
 
 -- A header as shapes show it.
 abbrev pub header : ℕ → List (Option ℕ) → DrawnHeader
@@ -82,7 +83,7 @@ abbrev pub ordered : List LayerTree
 ordered = bottom ∷ local_copy ∷ total ∷ []
 
 abbrev pub OrderedShape : Type 0
-OrderedShape = shape ordered app_cast ≡ Ok (record {
+OrderedShape = shape ordered app_cast First ≡ Ok (record {
   visits = visit 2 Down 0 None ∷ visit 1 Down 1 (made_by 0 0) ∷ visit 0 Down 0 (made_by 1 0) ∷ visit 2 Up 1 (made_by 1 1) ∷ [];
   outs =
       out Down (header 1 (Some 1 ∷ []) ∷ header 0 [] ∷ header 1 (None ∷ None ∷ []) ∷ []) (made_by 2 0) ∷
@@ -95,7 +96,7 @@ abbrev pub kept : List LayerTree
 kept = bottom ∷ mnak ∷ local_copy ∷ total ∷ []
 
 abbrev pub KeptShape : Type 0
-KeptShape = shape kept app_cast ≡ Ok (record {
+KeptShape = shape kept app_cast First ≡ Ok (record {
   visits =
       visit 3 Down 0 None ∷ visit 2 Down 1 (made_by 0 0) ∷ visit 1 Down 0 (made_by 1 0) ∷ visit 3 Up 1 (made_by 1 1) ∷
       visit 0 Down 1 (made_by 2 0) ∷ [];
@@ -123,7 +124,7 @@ KeptPlans = plans_of kept ≡
 
 -- The shapes of the counter's four entries: its own cast and send, and the packets of both.
 abbrev pub CounterLengths : Type 0
-CounterLengths = map (λ k. length_of (shape (counter ∷ []) k))
+CounterLengths = map (λ k. length_of (shape (counter ∷ []) k First))
     (app_cast ∷ app_send ∷ packet_entry Cast (1 ∷ []) ∷ packet_entry Send (0 ∷ []) ∷ []) ≡ Ok 4 ∷ Ok 1 ∷ Ok 4 ∷ Ok 1 ∷ []
 
 -- An event for a layer without handlers, and what it makes of it at place 3.

@@ -1,18 +1,21 @@
--- The shape of an entry: which visits and outputs follow from it where all goes as predicted, told by the layers' texts alone.
--- (After the common paths of the SOSP 1999 paper.)
-use Rattle.std.specs.Prelude.{ℕ, ◌+◌, ◌-◌, nat_lt, if◌then◌else◌, List, [], ◌∷◌, map, length, Option, Some, Result, Ok, Err}
+-- The shape of an entry in a case: which visits and outputs follow from it where all goes as predicted in the case, told by the
+-- layers' texts alone. (After the common paths of the SOSP 1999 paper; that there may be two cases is this project's own.)
+use Rattle.std.specs.Prelude.{ℕ, ◌+◌, ◌-◌, Bool, false, ◌&&◌, ◌||◌, nat_lt, if◌then◌else◌, List, [], ◌∷◌, map, replicate, length, Option, Some, None, Result, Ok, Err}
 use Rattle.std.specs.Option.{option_map_or}
 use Rattle.layer_ast.specs.declared.tokens.Dir.{Dir}
 use Rattle.layer_ast.specs.declared.tokens.Dir.TheVariants.{Up, Down}
 use Rattle.layer_ast.specs.declared.tokens.Kind.{Kind}
 use Rattle.layer_ast.specs.declared.tokens.Kind.TheVariants.{Cast, Send}
+use Rattle.layer_mean.specs.declared.run.Case.{Case}
+use Rattle.layer_mean.specs.declared.run.Case.TheVariants.{First, Second}
+use Rattle.layer_mean.specs.Headers.{declared}
 use Rattle.layer_mean.specs.Tree.{LayerTree}
-use Rattle.layer_mean.specs.Queue.{Task, Turn, Player, run_for, layer_at}
+use Rattle.layer_mean.specs.Queue.{Task, Turn, Player, run_for, starting, layer_at}
 use Rattle.layer_mean.specs.Marked.{Source, Logged, Log, marked, marked_start}
 use Rattle.stack_mean.specs.Acceptance.{weight_limit}
 use Rattle.stack_mean.specs.NoShape as no_shape
 use Rattle.stack_mean.specs.NoShape.{NoShape, drawn_from}
-use Rattle.stack_mean.specs.Drawn.{DrawnHeader, DrawnEvent, DrawnVisit, drawn_visit}
+use Rattle.stack_mean.specs.Drawn.{DrawnHeader, DrawnEvent, DrawnVisit, drawn_visit, visit_forks}
 
 -- The visits so far, and how many predicted statements, arguments and outputs they count for.
 pub record Progress : Type 0 where
@@ -29,22 +32,26 @@ drawn_turn p (Err reason) = record { world = Err reason; sent = [] }
 drawn_turn p (Ok v) = record { world = Ok (record { visits = p.visits + 1; length = p.length + v.length }); sent = v.sent }
 
 -- A visit is looked at where none failed before, and where there may be one more.
-abbrev pub shaped_visit : List LayerTree → ℕ → Dir → DrawnEvent → Result Progress NoShape → Turn (Result Progress NoShape) DrawnEvent
-shaped_visit stack at dir event (Err reason) = record { world = Err reason; sent = [] }
-shaped_visit stack at dir event (Ok p) = if nat_lt p.visits visits_limit
-    then drawn_turn p (drawn_visit (at - 1) (layer_at stack at) dir event)
+abbrev pub shaped_visit : Case → List LayerTree → ℕ → Dir → DrawnEvent → Result Progress NoShape → Turn (Result Progress NoShape) DrawnEvent
+shaped_visit case stack at dir event (Err reason) = record { world = Err reason; sent = [] }
+shaped_visit case stack at dir event (Ok p) = if nat_lt p.visits visits_limit
+    then drawn_turn p (drawn_visit case (at - 1) (layer_at stack at) dir event)
     else record { world = Err no_shape.long; sent = [] }
 
 -- An output counts for one.
 abbrev pub with_output : Progress → Progress
 with_output p = record p { length = p.length + 1 }
 
--- The player of the queue that draws a run.
-abbrev pub shaper : List LayerTree → Player (Result Progress NoShape) DrawnEvent
-shaper stack = record {
-  visit = λ at dir event w. shaped_visit stack at dir event w;
+-- The player of the queue that draws a run in a case.
+abbrev pub shaper : Case → List LayerTree → Player (Result Progress NoShape) DrawnEvent
+shaper case stack = record {
+  visit = λ at dir event w. shaped_visit case stack at dir event w;
   output = λ dir event w. drawn_from (λ p. Ok (with_output p)) w;
 }
+
+-- Nothing is drawn yet.
+abbrev pub undrawn : Result Progress NoShape
+undrawn = Ok (record { visits = 0; length = 0 })
 
 -- The event that an entry begins with, as far as it is known: its direction, its kind and the tags of its headers.
 pub record Known : Type 0 where
@@ -67,12 +74,51 @@ abbrev pub entry_place : List LayerTree → Dir → ℕ
 entry_place stack Up = 1
 entry_place stack Down = length stack
 
+-- A header of a layer of which the tag alone is known: none of its fields is.
+abbrev pub unknown_header : LayerTree → ℕ → DrawnHeader
+unknown_header layer tag = record { tag = tag; fields = replicate (option_map_or (λ h. h.fields) (declared layer tag) 0) None }
+
+-- The headers of an entry, from these layers on; what stands behind the highest layer's has no fields.
+abbrev pub entry_headers : List LayerTree → List ℕ → List DrawnHeader
+entry_headers layers [] = []
+entry_headers [] (tag ∷ tags) = record { tag = tag; fields = [] } ∷ entry_headers [] tags
+entry_headers (layer ∷ above) (tag ∷ tags) = unknown_header layer tag ∷ entry_headers above tags
+
 abbrev pub entry_task : List LayerTree → Known → Task DrawnEvent
 entry_task stack k = record {
   at = entry_place stack k.dir;
   dir = k.dir;
-  event = record { kind = k.kind; headers = Some (map (λ tag. record { tag = tag; fields = [] }) k.tags) };
+  event = record { kind = k.kind; headers = Some (entry_headers stack k.tags) };
 }
+
+-- What is drawn in the first case, and whether a condition with two predicted ways was met.
+pub record Watched : Type 0 where
+  pub drawn : Result Progress NoShape
+  pub forks : Bool
+
+-- A visit that is looked at may meet one.
+abbrev pub meets_fork : List LayerTree → ℕ → Dir → DrawnEvent → Result Progress NoShape → Bool
+meets_fork stack at dir event (Err reason) = false
+meets_fork stack at dir event (Ok p) = nat_lt p.visits visits_limit && visit_forks (at - 1) (layer_at stack at) dir event
+
+abbrev pub watched : List LayerTree → ℕ → Dir → DrawnEvent → Watched → Turn (Result Progress NoShape) DrawnEvent → Turn Watched DrawnEvent
+watched stack at dir event w turn = record {
+  world = record { drawn = turn.world; forks = w.forks || meets_fork stack at dir event w.drawn };
+  sent = turn.sent;
+}
+
+-- The player that draws a run in the first case and watches for such conditions.
+abbrev pub watcher : List LayerTree → Player Watched DrawnEvent
+watcher stack = record {
+  visit = λ at dir event w. watched stack at dir event w (shaped_visit First stack at dir event w.drawn);
+  output = λ dir event w. record w { drawn = drawn_from (λ p. Ok (with_output p)) w.drawn };
+}
+
+-- The second case of an entry is made where its way in the first case meets a condition with two predicted ways before it ends or
+-- can't be drawn.
+unfoldable pub has_second_case : List LayerTree → Known → Bool
+has_second_case stack k = (run_for (length stack) (watcher stack) weight_limit
+    (starting (record { drawn = undrawn; forks = false }) (entry_task stack k))).world.forks
 
 -- A visit of a shape: its place, counted from 0, the event's direction and kind, the tag of the first header (0 where there is none),
 -- and the maker of the event.
@@ -128,8 +174,13 @@ shape_with log p = record { visits = map shape_visit log.visits; outs = map shap
 abbrev pub shape_of : Log (Result Progress NoShape) DrawnEvent → Result Shape NoShape
 shape_of log = drawn_from (λ p. Ok (shape_with log p)) log.world
 
--- The shape of an entry, or the first reason for which it has none. (As many turns as an accepted stack's heaviest entry weighs
--- are enough.)
-unfoldable pub shape : List LayerTree → Known → Result Shape NoShape
-shape stack k =
-    shape_of (run_for (length stack) (marked (shaper stack)) weight_limit (marked_start (Ok (record { visits = 0; length = 0 })) (entry_task stack k))).world
+-- What is drawn of an entry in a case, or the first reason for which it can't be. (As many turns as an accepted stack's heaviest entry
+-- weighs are enough.)
+unfoldable pub drawn_shape : List LayerTree → Known → Case → Result Shape NoShape
+drawn_shape stack k case =
+    shape_of (run_for (length stack) (marked (shaper case stack)) weight_limit (marked_start undrawn (entry_task stack k))).world
+
+-- The shape of an entry in a case, or the first reason for which it has none: the first case is always made.
+abbrev pub shape : List LayerTree → Known → Case → Result Shape NoShape
+shape stack k First = drawn_shape stack k First
+shape stack k Second = if has_second_case stack k then drawn_shape stack k Second else Err no_shape.same

@@ -1,5 +1,5 @@
 //! Small stacks, worked out by evaluation: the functions here are empty.
-#![tactic(auto, unfolding(crate::specs::Shape::shape, layer_ast::specs::Spelling::kinds, layer_mean::specs::Visit::step))]
+#![tactic(auto, unfolding(crate::specs::Shape::drawn_shape, crate::specs::Shape::has_second_case, layer_ast::specs::Spelling::kinds, layer_mean::specs::Visit::step))]
 
 ghost use Rattle.stack_mean.specs.Cases.{AllCounts, ConstantFields, HugeWeight, PartsAndStored, UnreachedCycles, Unhandled};
 ghost use Rattle.stack_mean.specs.Samples.{
@@ -19,6 +19,7 @@ ghost use Rattle.stack_mean.specs.Samples.{
   ReturnedHeaders,
   TwoEchoes,
 };
+ghost use Rattle.stack_mean.specs.TwoCases.{FailedCases, FlipPlans, FlipShapes};
 
 /// Casts that are sent back and back lie on a cycle.
 pub fn two_echoes()
@@ -123,4 +124,19 @@ pub fn unhandled()
 /// Parts, and messages that were stored.
 pub fn parts_and_stored()
     ensures { PartsAndStored }
+{}
+
+/// A layer with two common cases.
+pub fn flip_shapes()
+    ensures { FlipShapes }
+{}
+
+/// Its plans, in the order of the cases.
+pub fn flip_plans()
+    ensures { FlipPlans }
+{}
+
+/// Cases that can't be drawn.
+pub fn failed_cases()
+    ensures { FailedCases }
 {}
