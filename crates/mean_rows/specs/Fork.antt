@@ -11,7 +11,7 @@ use Rattle.layer_mean.specs.Tree.{number, me, local, element, binary, assign, br
 use Rattle.layer_mean.specs.State.{State}
 use Rattle.layer_mean.specs.State as state
 use Rattle.layer_mean.specs.Effect.{Decision, usual, unusual, forked, all_as, first_missed}
-use Rattle.layer_mean.specs.Visit.{Visited, step}
+use Rattle.layer_mean.specs.Visit.{step}
 use Rattle.mean_rows.specs.Words.{cast_down, block, handler, cell_of_one, passing, cast}
 
 -- Its handler goes with an expectation.

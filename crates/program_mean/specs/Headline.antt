@@ -1,7 +1,7 @@
 -- The program as a whole: from the words and the bytes of the files to what it writes, what it says and its status.
-use Rattle.std.specs.Prelude.{◌≡◌, ℕ, List, [], ◌++◌, Option, Some, None, IsSomeAnd, ◌⊎◌, false}
+use Rattle.std.specs.Prelude.{◌≡◌, ℕ, ◌+◌, List, [], ◌++◌, length, Option, Some, None, IsSomeAnd, ◌⊎◌, false}
 use Rattle.clap.specs.Walk.{Text}
-use Rattle.outside.specs.Count.{Rose}
+use Rattle.outside.specs.Count.{last_count, Rose}
 use Rattle.layer_mean.specs.Tree.{LayerTree}
 use Rattle.stack_mean.specs.Plan.{Plan}
 use Rattle.script_mean.specs.declared.script.Script.{Script}
@@ -10,7 +10,7 @@ use Rattle.job_mean.specs.Status.{FileFault, SecondFault, Ended, done, file_refu
 use Rattle.run_mean.specs.Journal.{Heard, Handed}
 use Rattle.run_mean.specs.Report.{report_lines, output_in}
 use Rattle.program_mean.specs.Judged.{Means, IsGood, Refuses}
-use Rattle.program_mean.specs.Output.{Checks, Replays, Loads, Surroundings, NodeWords, Serves, CannotListen, GoesDeaf}
+use Rattle.program_mean.specs.Output.{Checks, Replays, Loads, Surroundings, NodeWords, failures, Serves, CannotListen, GoesDeaf}
 use Rattle.program_mean.specs.Second.{second_fault}
 
 -- A count of faults before and after a run.
@@ -19,8 +19,8 @@ pub record Counted : Type 0 where
   pub after : ℕ
 
 -- All that surrounded a run of the program: its words; the bytes of the job's file and of its second file, each where a read met it; what a
--- node's clock and network told and were handed; the counts of faults of the shelf, of the output, of the network and of the standard
--- error; what the output and the standard error gained, and the status.
+-- node's clock and network told and were handed; the counts of faults of the shelf, of the output, of the network's listens and
+-- receives, of its sends and of the standard error; what the output and the standard error gained, and the status.
 pub record Run : Type 0 where
   pub words : List Text
   pub file : Option (List ℕ)
@@ -30,6 +30,7 @@ pub record Run : Type 0 where
   pub reads : Counted
   pub puts : Counted
   pub links : Counted
+  pub sends : Counted
   pub errors : Counted
   pub written : List ℕ
   pub said : List ℕ
@@ -41,6 +42,10 @@ Fails count = Rose count.before count.after
 
 abbrev pub IsSound : Counted → Type 0
 IsSound count = count.after ≡ count.before
+
+-- A count rose by so many failures, unless it stands at its last value.
+abbrev pub RoseBy : Counted → ℕ → Type 0
+RoseBy count failures = (count.after ≡ count.before + failures) ⊎ (count.after ≡ last_count)
 
 -- Whether a job has a second file; one that has none reads as if it were empty.
 abbrev pub second_for : Job → Option (List ℕ) → Option (List ℕ)
@@ -87,6 +92,10 @@ gone_on r clock heard sent = record r {
   sent = r.sent ++ sent;
 }
 
+-- Of the network's listens and receives none failed but those receives that are told.
+abbrev pub HeardAll : Run → Type 0
+HeardAll r = RoseBy r.links (failures r.surroundings.heard)
+
 -- A run was broken off: what was written is a prefix of a whole output, and what was handed to the network one of what is handed on then,
 -- where a node's clock and network, had they been asked further, told this.
 pub record Began (print : List LayerTree → List ℕ) (r : Run) : Type 0 where
@@ -95,11 +104,13 @@ pub record Began (print : List LayerTree → List ℕ) (r : Run) : Type 0 where
   pub sent : List Handed
   pub rest : List ℕ
   pub whole : Writes print (gone_on r clock heard sent) (r.written ++ rest)
+  pub heard_all : HeardAll r
 
--- Nothing was written, and nothing handed to the network.
+-- Nothing was written, nothing was handed to the network, and nothing failed there.
 pub record WroteNothing (r : Run) : Type 0 where
   pub written : r.written ≡ []
   pub sent : r.sent ≡ []
+  pub sound : IsSound r.links
 
 -- The words are a job whose file was read without a fault and is refused.
 pub record RefusesFile (r : Run) (fault : FileFault) : Type 0 where
@@ -125,18 +136,19 @@ pub record ReadsFailed (r : Run) : Type 0 where
 -- The words are a node's job whose files are good, and a listen failed, or one more receive than is borne.
 abbrev pub LinksFail : Job → Run → (file second : List ℕ) → Type 0
 LinksFail (node name plan turns me patience mode) r file second = let words = node_words turns me patience mode in
-    CannotListen file second words r.surroundings r.written r.sent ⊎ GoesDeaf file second words r.surroundings r.written r.sent
+    (CannotListen file second words r.surroundings r.written r.sent × RoseBy r.links 1)
+    ⊎ (GoesDeaf file second words r.surroundings r.written r.sent × HeardAll r)
 LinksFail _ r file second = ⊥
 
 -- How a run may end, with the cause of each status: what went well before stands with each. Want of memory is free.
 abbrev pub Ends : (List LayerTree → List ℕ) → Run → Ended → Type 0
-Ends print r done = Writes print r r.written × IsSound r.puts
+Ends print r done = Writes print r r.written × IsSound r.puts × HeardAll r
 Ends print r (file_refused fault) = RefusesFile r fault
 Ends print r words_refused = (job_of_words r.words ≡ None) × IsSound r.reads × WroteNothing r
 Ends print r (second_refused fault) = RefusesSecond r fault
 Ends print r read_failed = ReadsFailed r
 Ends print r write_failed = Fails r.puts × Began print r
-Ends print r link_failed = Fails r.links × IsSound r.puts × OfJob r (λ job file second. LinksFail job r file second)
+Ends print r link_failed = IsSound r.puts × OfJob r (λ job file second. LinksFail job r file second)
 Ends print r no_memory = WroteNothing r ⊎ Began print r
 
 -- The line of a cause was said whole, or a prefix of it where the standard error failed or memory ran out, which is status 7.
@@ -149,11 +161,12 @@ pub data Says (r : Run) (end : Ended) : Type 0 where
   cut_off : Begins (error_line end) r.said → Fails r.errors → r.status ≡ status_number end → Says r end
   out_of_memory : Begins (error_line end) r.said → r.status ≡ 7 → Says r end
 
--- A run of the program: it ended in one way, and that was said.
+-- A run of the program: it ended in one way, and that was said. The sends that failed are those that are told.
 pub record Ran (print : List LayerTree → List ℕ) (r : Run) : Type 0 where
   pub end : Ended
   pub ends : Ends print r end
   pub says : Says r end
+  pub lost : RoseBy r.sends (length r.surroundings.lost)
 
 -- Whatever stack a file means and whatever script is replayed over it, the run with bypasses writes exactly the report of the layered
 -- meaning.

@@ -1,5 +1,5 @@
 -- What each job writes, over the bytes of its files: the headline is the case of a replay.
-use Rattle.std.specs.Prelude.{◌≡◌, ℕ, ◌+◌, ◌*◌, ◌<◌, ◌≤◌, All, Bool, true, false, List, [], ◌∷◌, ◌++◌, count_by, length, Ok}
+use Rattle.std.specs.Prelude.{◌≡◌, ℕ, ◌+◌, ◌*◌, ◌==◌, ◌<◌, ◌≤◌, All, Bool, true, false, List, [], ◌∷◌, ◌++◌, count_by, length, Ok}
 use Rattle.std.specs.List.{concat}
 use Rattle.layer_mean.specs.Tree.{LayerTree}
 use Rattle.script_mean.specs.Generate.{generate}
@@ -46,12 +46,16 @@ pub record Loads (file : List ℕ) (seed events members : ℕ) (raw : Bool) (mod
   pub room : HasRoom stack members
   pub written : out ≡ concat (tally stack (plans_of stack) mode (generate seed events members raw))
 
--- What the clock and the network of a node told: the moment of each turn, what each own member heard in each turn, and how often the
--- sending of each packet failed.
+-- What the clock and the network of a node told: the moment of each turn, what each own member heard in each turn, and the packet of each
+-- sending that failed, by its number.
 pub record Surroundings : Type 0 where
   pub clock : List ℕ
   pub heard : List Heard
-  pub failed : ℕ → ℕ
+  pub lost : List ℕ
+
+-- How often the sending of a packet failed.
+abbrev pub failed : Surroundings → ℕ → ℕ
+failed s k = count_by (λ lost. lost == k) s.lost
 
 -- What the words of a node say: how many turns it makes, its own members, how many failed receives it bears, and its mode.
 pub record NodeWords : Type 0 where
@@ -96,7 +100,7 @@ pub record Serves (file plan_text : List ℕ) (words : NodeWords) (s : Surroundi
   pub answers : length s.heard ≡ words.turns * length words.me
   pub borne : failures s.heard ≤ words.patience
   pub written :
-      out ≡ concat (node_lines node.stack (plans_of node.stack) s.failed (noted node.plan words s) (played node.stack node.plan words s))
+      out ≡ concat (node_lines node.stack (plans_of node.stack) (failed s) (noted node.plan words s) (played node.stack node.plan words s))
   pub handed_on : sent ≡ handed_by node.stack node.plan words s
 
 -- A node that couldn't listen made no turn.
@@ -118,5 +122,5 @@ pub record GoesDeaf (file plan_text : List ℕ) (words : NodeWords) (s : Surroun
   pub within : length s.heard ≤ length s.clock * length words.me
   pub begun : length s.clock * length words.me < length s.heard + length words.me
   pub written :
-      out ≡ concat (note_lines node.stack (plans_of node.stack) s.failed (noted node.plan words s) (played node.stack node.plan words s))
+      out ≡ concat (note_lines node.stack (plans_of node.stack) (failed s) (noted node.plan words s) (played node.stack node.plan words s))
   pub handed_on : sent ≡ handed_by node.stack node.plan words s

@@ -1,2 +1,4 @@
 pub mod Refused
+pub mod FlipFile
 pub mod Written
+pub mod Node

@@ -4,6 +4,7 @@ use Rattle.job_mean.specs.Job.{layered, bypass}
 use Rattle.file_mean.specs.CounterFile as counter
 use Rattle.library_trees.specs.WholeStack as whole
 use Rattle.program_mean.specs.Output.{Checks, Replays}
+use Rattle.program_rows.specs.FlipFile as flip
 
 -- A script of a cast and a delivery.
 abbrev pub script : List ℕ
@@ -28,3 +29,17 @@ ReplaysShort = Replays counter.text script bypass true true short_report
 -- The stack of the whole library is accepted.
 abbrev pub ChecksLibrary : Type 0
 ChecksLibrary = Checks whole.text (codes "accepted 15\n")
+
+-- Three casts of a layer with two common cases: each is a common step, and its packet is short under the plan of its case.
+abbrev pub flips : List ℕ
+flips = codes "group 1 stamp 1 members 2\n" ++ codes "cast 0 -\n" ++ codes "cast 0 -\n" ++ codes "cast 0 -\n"
+
+abbrev pub flip_report : List ℕ
+flip_report =
+    codes "packet 1 0 all flip.a(1) -\n" ++ codes "wire 1 e60000000100000001000000000000000300ff0000000001\n"
+    ++ codes "packet 2 0 all flip.b(2) -\n" ++ codes "wire 2 e60000000100000001000000000000000300ff0200000002\n"
+    ++ codes "packet 3 0 all flip.a(3) -\n" ++ codes "wire 3 e60000000100000001000000000000000300ff0000000003\n"
+    ++ codes "end 3\n" ++ codes "visits 0\n"
+
+abbrev pub ReplaysFlips : Type 0
+ReplaysFlips = Replays flip.text flips bypass true true flip_report

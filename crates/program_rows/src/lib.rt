@@ -2,7 +2,8 @@
 #![tactic(auto)]
 
 ghost use Rattle.program_rows.specs.Refused.{RefusesBadByte, RefusesCycle, RefusesEmpty, RefusesUnknown, RefusesWeight};
-ghost use Rattle.program_rows.specs.Written.{ChecksLibrary, ReplaysCounter, ReplaysShort};
+ghost use Rattle.program_rows.specs.Node.{EndsThere, GoesOn};
+ghost use Rattle.program_rows.specs.Written.{ChecksLibrary, ReplaysCounter, ReplaysFlips, ReplaysShort};
 
 /// Files that are refused, with their causes.
 pub fn refuses()
@@ -25,6 +26,17 @@ pub fn replays_counter()
 /// The same with bypasses, with the packet's bytes and the number of visits.
 pub fn replays_short()
     ensures { ReplaysShort }
+{}
+
+/// A replay over a file whose layer has two common cases.
+pub fn replays_flips()
+    ensures { ReplaysFlips }
+{}
+
+/// A node whose receive fails, without patience and with it.
+pub fn node_goes_deaf()
+    ensures ends { EndsThere }
+    ensures patient { GoesOn }
 {}
 
 /// The judging of the whole library.

@@ -3,6 +3,7 @@ pub mod Draws
 pub mod Visits
 pub mod Runs
 pub mod Marks
+pub mod Watch
 pub mod Law
 pub mod Parts
 pub mod Constants

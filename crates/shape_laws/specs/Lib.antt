@@ -4,5 +4,6 @@ pub mod Known
 pub mod Law
 pub mod Parts
 pub mod Marks
+pub mod Watch
 pub mod Samples
 pub mod Constants

@@ -1,5 +1,5 @@
 -- A run, played and drawn.
-use Rattle.std.specs.Prelude.{◌≡◌, ℕ, ◌-◌, Option, true, List, [], ◌∷◌, map, Some, None, codes}
+use Rattle.std.specs.Prelude.{◌≡◌, ℕ, ◌-◌, Option, true, false, List, [], ◌∷◌, map, Some, None, codes, Ok}
 use Rattle.std.specs.List.{list_all}
 use Rattle.layer_ast.specs.declared.tokens.Dir.TheVariants.{Up, Down}
 use Rattle.layer_ast.specs.declared.tokens.Dir.{Dir}
@@ -8,13 +8,16 @@ use Rattle.layer_ast.specs.declared.tokens.Kind.TheVariants.{Cast}
 use Rattle.layer_mean.specs.Marked.{Source, Logged}
 use Rattle.stack_mean.specs.Shape.{ShapeVisit}
 use Rattle.layer_mean.specs.declared.run.Case.{Case}
-use Rattle.layer_mean.specs.declared.run.Case.TheVariants.{First}
+use Rattle.layer_mean.specs.declared.run.Case.TheVariants.{First, Second}
 use Rattle.layer_mean.specs.declared.run.Event.{Event}
 use Rattle.layer_mean.specs.State.{State}
+use Rattle.layer_mean.specs.State as state
 use Rattle.layer_mean.specs.Visit.{fresh}
 use Rattle.layer_mean.specs.Queue.{Task, is_predicted}
 use Rattle.stack_mean.specs.Samples.{kept, made_by, visit}
-use Rattle.stack_mean.specs.SampleLayers.{counter, echo, fan, repeater, late}
+use Rattle.stack_mean.specs.SampleLayers.{counter, echo, fan, repeater, late, silent}
+use Rattle.stack_mean.specs.Shape.{packet_entry, shape}
+use Rattle.stack_mean.specs.TwoCases.{flip}
 use Rattle.shape_laws.specs.Law.{headers_in, first_tag_in, marked_run}
 use Rattle.shape_laws.specs.Parts.{layer_reads_no_part}
 
@@ -68,3 +71,28 @@ KeptRun =
 -- The layers of the samples read no parts.
 abbrev pub SamplesReadNoParts : Type 0
 SamplesReadNoParts = (case : Case) → list_all (layer_reads_no_part case) (counter ∷ echo ∷ fan ∷ repeater ∷ late ∷ kept) ≡ true
+
+-- The cast of a layer with two common cases behind one other, by the same member: the run goes as predicted in the second case alone, and has
+-- the outputs of that case's shape.
+abbrev pub second_cast : Task Event
+second_cast = record first_cast { at = 1 }
+
+abbrev pub FlipRun : Type 0
+FlipRun =
+    let log = (marked_run (flip ∷ []) (record (fresh flip 0 2 0) { cells = state.numbers (1 ∷ []) ∷ [] } ∷ []) second_cast).world in
+    (is_predicted First log.world ≡ false) × (is_predicted Second log.world ≡ true) ×
+    (map as_out log.outs ≡
+    record { dir = Down; kind = Cast; tags = 2 ∷ []; made_by = made_by 0 0 } ∷ [])
+
+-- A packet's cast that is sent back keeps the headers of the layers above, of which the tags alone are known.
+abbrev pub ReturnedPacket : Type 0
+ReturnedPacket = shape (echo ∷ silent ∷ []) (packet_entry Cast (0 ∷ 1 ∷ [])) First ≡ Ok (record {
+  visits = visit 0 Up 0 None ∷ [];
+  outs = record {
+    dir = Down;
+    kind = Cast;
+    headers = record { tag = 0; fields = [] } ∷ record { tag = 1; fields = None ∷ [] } ∷ [];
+    made_by = made_by 0 0;
+  } ∷ [];
+  length = 2;
+})

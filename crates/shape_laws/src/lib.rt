@@ -6,7 +6,8 @@ ghost use Rattle.shape_laws.specs.Constants.{ConstantsAreValues};
 ghost use Rattle.shape_laws.specs.Law.{PredictedRunsHaveTheShape};
 ghost use Rattle.shape_laws.specs.Marks.{LogsTellRuns};
 ghost use Rattle.shape_laws.specs.Parts.{RunsWithoutParts};
-ghost use Rattle.shape_laws.specs.Samples.{KeptRun, SamplesReadNoParts};
+ghost use Rattle.shape_laws.specs.Samples.{FlipRun, KeptRun, ReturnedPacket, SamplesReadNoParts};
+ghost use Rattle.shape_laws.specs.Watch.{WatchesTheFirstCase};
 
 /// A run that begins with an entry's event and goes as predicted throughout has the entry's shape: its visits and outputs have
 /// the shape's places, directions, kinds, tags and makers.
@@ -24,6 +25,11 @@ pub fn logs_tell_runs()
     ensures { LogsTellRuns }
 {}
 
+/// What watches for conditions with two predicted ways draws the first case.
+pub fn watches_the_first_case()
+    ensures { WatchesTheFirstCase }
+{}
+
 /// A field that is drawn as constant has that number in every run.
 pub fn constants_are_values()
     ensures { ConstantsAreValues }
@@ -33,6 +39,18 @@ pub fn constants_are_values()
 #[tactic(auto, unfolding(layer_mean::specs::Visit::step))]
 pub fn kept_run()
     ensures { KeptRun }
+{}
+
+/// A cast that goes as predicted in the second case alone.
+#[tactic(auto, unfolding(layer_mean::specs::Visit::step))]
+pub fn flip_run()
+    ensures { FlipRun }
+{}
+
+/// A packet that is sent back at once: its headers, and of their fields how many there are.
+#[tactic(auto, unfolding(stack_mean::specs::Shape::drawn_shape))]
+pub fn returned_packet()
+    ensures { ReturnedPacket }
 {}
 
 /// Layers that read no parts.
