@@ -1,5 +1,5 @@
 -- What is drawn along a way is what walking it sends.
-use Rattle.std.proofs.Common.{◌≡◌, ℕ, zero, suc, Bool, true, false, List, [], ◌∷◌, ◌++◌, map, Option, Some, None, refl, sym, ap, subst, ◌∙◌}
+use Rattle.std.proofs.Common.{◌≡◌, ℕ, zero, suc, Bool, true, false, List, [], ◌∷◌, ◌++◌, map, Option, Some, None, refl, sym, subst}
 use Rattle.std.specs.Prelude.{if◌then◌else◌, nat_le, Result, Ok, Err, slice_index_or, slice_set, slice_index, option_map, length, ◌+◌}
 use Rattle.std.specs.Option.{option_map_or}
 use Rattle.msg_core.specs.Chain.{Content, plain}
@@ -10,23 +10,24 @@ use Rattle.layer_ast.specs.declared.tokens.Kind.{Kind}
 use Rattle.layer_mean.specs.declared.run.Case.TheVariants.{First, Second}
 use Rattle.layer_mean.specs.declared.run.Row.{Row}
 use Rattle.layer_mean.specs.Event.{carries, event_of}
-use Rattle.layer_mean.specs.Tree.{Carried, part, whole, MessageTree, message, nothing, held, cut, tail, join, ContentTree, EmissionTree, TakenTree}
+use Rattle.layer_mean.specs.declared.run.Event.{Event}
+use Rattle.layer_mean.specs.Tree.{Carried, part, whole, ExpressionTree, MessageTree, message, nothing, held, cut, tail, join, ContentTree, EmissionTree, TakenTree}
 use Rattle.layer_mean.specs.State.{State, row_at, has_room}
 use Rattle.layer_mean.specs.Value.{Scope, is_true, val, mval, message_in}
 use Rattle.layer_mean.specs.Effect as effect
 use Rattle.layer_mean.specs.Effect.{sent_as, header_of, emitted, with_slots}
 use Rattle.layer_mean.specs.Way.{Step, test, fork, set_slot, set_number, set_square, put, get, send, loop}
 use Rattle.stack_mean.specs.NoShape.{NoShape, drawn_from}
-use Rattle.stack_mean.specs.Drawn.{DrawnHeader, DrawnMessage, chained, unknown, drawn_row, drawn_message, Drawing, with_header, sent_headers, emission_headers, with_sent, with_taken, draw_step, draw_steps}
+use Rattle.stack_mean.specs.Drawn.{DrawnHeader, DrawnEvent, constant_of, DrawnMessage, chained, unknown, drawn_row, drawn_message, Drawing, with_header, sent_headers, emission_headers, with_sent, with_taken, draw_step, draw_steps}
 use Rattle.shape_laws.specs.Walk.{Here, onward, walk_step, walk, took}
 use Rattle.shape_laws.specs.Bare.{BareRow, BareMessage, BareTaken, BareContent, BareStep, BareBeyond, BareSteps}
-use Rattle.shape_laws.specs.Outline.{Outline, message_tags, drawn_tags, event_outline, drawn_outline}
-use Rattle.std.proofs.lemmas.List.{map-append}
+use Rattle.shape_laws.specs.Known.{Pairwise, IsKnownAs, HeadersAre, MessageIs, EventIs}
+use Rattle.shape_laws.proofs.Constants.{constants_are_values}
 
 -- what is known of a message is so
 abbrev pub Matches : DrawnMessage → Content → Type 0
 Matches unknown m = Unit {0}
-Matches (chained headers) m = drawn_tags headers ≡ message_tags m
+Matches (chained headers) m = HeadersAre headers m.headers
 
 abbrev pub Scopes : List DrawnMessage → List Content → Type 0
 Scopes [] [] = Unit {0}
@@ -35,11 +36,11 @@ Scopes _ _ = ⊥
 
 same_headers : (d : DrawnMessage) (m n : Content) → m.headers ≡ n.headers → Matches d m → Matches d n
 same_headers unknown m n e h = tt
-same_headers (chained headers) m n e h = h ∙ ap (map (λ x. x.tag)) e
+same_headers (chained headers) m n e h = subst (HeadersAre headers) e h
 
 look : (ds : List DrawnMessage) (ms : List Content) (k : ℕ) → Scopes ds ms →
     Matches (slice_index_or ds k (chained [])) (slice_index_or ms k (plain []))
-look [] [] k h = refl
+look [] [] k h = tt
 look (d ∷ ds) (m ∷ ms) zero h = h.0
 look (d ∷ ds) (m ∷ ms) (suc k) h = look ds ms k h.1
 look [] (m ∷ ms) k h = absurd h
@@ -54,7 +55,7 @@ fill [] (n ∷ ms) k d m h one = absurd h
 fill (c ∷ ds) [] k d m h one = absurd h
 
 row_matches : (carried : Carried) (row : Option Row) → BareRow carried row → Matches (drawn_row carried) (message_in carried row)
-row_matches part row bare = ap (map (λ x. x.tag)) (sym bare)
+row_matches part row bare = subst (HeadersAre []) (sym bare) tt
 row_matches (whole blank) row bare = tt
 
 join_headers : (p m : Content) → m.headers ≡ (parts.join p m).headers
@@ -66,22 +67,22 @@ join_headers p m = go (nat_le (length p.body + length m.body) 8192) where
 message_matches : (ds : List DrawnMessage) (x : MessageTree) (s : State) (l : Scope) → Scopes ds l.messages → BareMessage x s l →
     Matches (drawn_message ds x) (mval x s l)
 message_matches ds (message k) s l h bare = look ds l.messages k h
-message_matches ds nothing s l h bare = refl
+message_matches ds nothing s l h bare = tt
 message_matches ds (held c i row carried) s l h bare = row_matches carried (row_at s c (val i s l) (val row s l)) bare
-message_matches ds (cut m from n) s l h bare = refl
+message_matches ds (cut m from n) s l h bare = tt
 message_matches ds (tail m from) s l h bare =
     same_headers (drawn_message ds m) (mval m s l) (mval (tail m from) s l) refl (message_matches ds m s l h bare)
 message_matches ds (join p m) s l h bare =
     same_headers (drawn_message ds m) (mval m s l) (mval (join p m) s l) (join_headers (mval p s l) (mval m s l))
     (message_matches ds m s l h bare)
 
--- what is sent, in outline
-abbrev pub sent_outline : {E : Type 0} → (E → Outline) → Dir × E → Dir × Outline
-sent_outline f x = (x.0, f x.1)
+-- what is sent is as drawn
+abbrev pub SentIs : Dir × DrawnEvent → Dir × Event → Type 0
+SentIs d e = (d.0 ≡ e.0) × EventIs d.1 e.1
 
 -- a walk stands where a drawing does
 abbrev pub Stands : Drawing → Here → Type 0
-Stands d h = Scopes d.scope h.scope.messages × (map (sent_outline drawn_outline) d.sent ≡ map (sent_outline event_outline) h.sent)
+Stands d h = Scopes d.scope h.scope.messages × Pairwise SentIs d.sent h.sent
 
 abbrev pub Drawn : Result Drawing NoShape → Here → Type 0
 Drawn (Err reason) h = Unit {0}
@@ -109,25 +110,37 @@ taken_matches t row ds l h bare = go t.message bare where
   go None bare = base
   go (Some slot) bare = fill ds (with_slots t.numbers row.numbers l).messages slot.0 (drawn_row slot.1) _ base (row_matches slot.1 (Some row) bare)
 
--- an event in outline
-of_kind : (kind : Kind) (numbers : List ℕ) (headers : Option (List DrawnHeader)) (m : Option Content) →
-    option_map drawn_tags headers ≡ option_map message_tags m →
-    drawn_outline (record { kind = kind; headers = headers }) ≡ event_outline (event_of kind numbers m)
-of_kind kind numbers headers m e = go (carries kind) where
-  go : (b : Bool) → record { kind = kind; tags = option_map drawn_tags headers } ≡ event_outline (if b then record { kind = kind; peer = slice_index numbers 0; a = 0; b = 0; message = m } else record { kind = kind; peer = 0; a = slice_index numbers 0; b = slice_index numbers 1; message = m })
-  go true = ap (λ tags. record { kind = kind; tags = tags }) e
-  go false = ap (λ tags. record { kind = kind; tags = tags }) e
+-- an event of a kind is as drawn where its message is
+of_kind : (kind : Kind) (numbers : List ℕ) (headers : Option (List DrawnHeader)) (m : Option Content) → MessageIs headers m →
+    EventIs (record { kind = kind; headers = headers }) (event_of kind numbers m)
+of_kind kind numbers headers m is = go (carries kind) where
+  go : (b : Bool) → EventIs (record { kind = kind; headers = headers }) (if b then record { kind = kind; peer = slice_index numbers 0; a = 0; b = 0; message = m } else record { kind = kind; peer = 0; a = slice_index numbers 0; b = slice_index numbers 1; message = m })
+  go true = record { kind = refl; message = is }
+  go false = record { kind = refl; message = is }
 
--- lists that agree so far, and at one more
-pub one_more : {A B C : Type 0} (f : A → C) (g : B → C) (xs : List A) (ys : List B) (x : A) (y : B) →
-    map f xs ≡ map g ys → f x ≡ g y → map f (xs ++ x ∷ []) ≡ map g (ys ++ y ∷ [])
-one_more f g xs ys x y e h = map-append f xs (x ∷ []) ∙ (λ i. e i ++ h i ∷ []) ∙ sym (map-append g ys (y ∷ []))
+-- lists that agree so far, and further
+pub pairs_append : {A B : Type 0} (R : A → B → Type 0) (xs us : List A) (ys vs : List B) → Pairwise R xs ys → Pairwise R us vs →
+    Pairwise R (xs ++ us) (ys ++ vs)
+pairs_append R [] us [] vs h more = more
+pairs_append R (x ∷ xs) us (y ∷ ys) vs h more = (h.0, pairs_append R xs us ys vs h.1 more)
+pairs_append R [] us (y ∷ ys) vs h more = absurd h
+pairs_append R (x ∷ xs) us [] vs h more = absurd h
+
+-- fields that are written with numbers alone are these numbers
+field_known : (e : ExpressionTree) (s : State) (l : Scope) → IsKnownAs (constant_of e) (val e s l)
+field_known e s l = go (constant_of e) refl where
+  go : (c : Option ℕ) → constant_of e ≡ c → IsKnownAs c (val e s l)
+  go None is = tt
+  go (Some n) is = constants_are_values e n s l is
+
+fields_known : (es : List ExpressionTree) (s : State) (l : Scope) → Pairwise IsKnownAs (map constant_of es) (map (λ e. val e s l) es)
+fields_known [] s l = tt
+fields_known (e ∷ es) s l = (field_known e s l, fields_known es s l)
 
 pushed_matches : (place : ℕ) (dir : Dir) (c : ContentTree) (s : State) (l : Scope) (headers : List DrawnHeader) (m : Content) →
-    drawn_tags headers ≡ message_tags m →
-    drawn_tags (with_header dir c headers) ≡ message_tags (sent_as dir (header_of place c s l) m)
-pushed_matches place Up c s l headers m e = e
-pushed_matches place Down c s l headers m e = ap (λ tags. c.tag ∷ tags) e
+    HeadersAre headers m.headers → HeadersAre (with_header dir c headers) (sent_as dir (header_of place c s l) m).headers
+pushed_matches place Up c s l headers m is = is
+pushed_matches place Down c s l headers m is = (record { tag = refl; fields = fields_known c.fields s l }, is)
 
 emission_matches : (place : ℕ) (e : EmissionTree) (d : Drawing) (h : Here) → Stands d h → BareContent e.content h.state h.scope →
     Drawn (drawn_from (λ headers. Ok (with_sent d e headers)) (emission_headers place e.direction d.scope e.content))
@@ -139,12 +152,12 @@ emission_matches place e d h stands bare = go e.content bare where
   content_of : ContentTree → Content
   content_of c = sent_as e.direction (header_of place c h.state h.scope) (mval c.message h.state h.scope)
 
-  with_one : (headers : Option (List DrawnHeader)) (m : Option Content) → option_map drawn_tags headers ≡ option_map message_tags m →
+  with_one : (headers : Option (List DrawnHeader)) (m : Option Content) → MessageIs headers m →
       Stands (with_sent d e headers) (record h { sent = h.sent ++ (e.direction, event_of e.kind numbers m) ∷ [] })
   with_one headers m same = (
     stands.0,
-    one_more _ _ d.sent h.sent _ _ stands.1
-        (ap (λ o. (e.direction, o)) (of_kind e.kind numbers headers m same)),
+    pairs_append SentIs d.sent ((e.direction, record { kind = e.kind; headers = headers }) ∷ []) h.sent
+        ((e.direction, event_of e.kind numbers m) ∷ []) stands.1 ((refl, of_kind e.kind numbers headers m same), tt),
   )
 
   known : (c : ContentTree) (m : DrawnMessage) → Matches m (mval c.message h.state h.scope) →
@@ -152,12 +165,12 @@ emission_matches place e d h stands bare = go e.content bare where
       (record h { sent = h.sent ++ (e.direction, event_of e.kind numbers (Some (content_of c))) ∷ [] })
   known c unknown same = tt
   known c (chained headers) same = with_one (Some (with_header e.direction c headers)) (Some (content_of c))
-      (ap Some (pushed_matches place e.direction c h.state h.scope headers (mval c.message h.state h.scope) same))
+      (pushed_matches place e.direction c h.state h.scope headers (mval c.message h.state h.scope) same)
 
   go : (content : Option ContentTree) → BareContent content h.state h.scope →
       Drawn (drawn_from (λ headers. Ok (with_sent d e headers)) (emission_headers place e.direction d.scope content))
       (record h { sent = h.sent ++ (e.direction, event_of e.kind numbers (option_map content_of content)) ∷ [] })
-  go None bare = with_one None None refl
+  go None bare = with_one None None tt
   go (Some c) bare = known c (drawn_message d.scope c.message) (message_matches d.scope c.message h.state h.scope stands.0 bare)
 
 step_draws : (place : ℕ) (x : Step) (d : Drawing) (h : Here) → Stands d h → BareStep x h →

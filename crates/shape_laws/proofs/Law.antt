@@ -1,6 +1,6 @@
 -- A predicted run has the shape of its entry.
-use Rattle.std.proofs.Common.{◌≡◌, ℕ, Bool, true, false, List, [], ◌∷◌, map, Option, Some, None, refl, sym, ap, subst, ◌∙◌}
-use Rattle.std.specs.Prelude.{◌-◌, if◌then◌else◌, length, Result, Ok, Err, option_map}
+use Rattle.std.proofs.Common.{◌≡◌, ℕ, Bool, true, false, List, [], ◌∷◌, map, Option, Some, None, refl, sym, ap, subst}
+use Rattle.std.specs.Prelude.{◌-◌, if◌then◌else◌, length, Result, Ok, Err}
 use Rattle.std.specs.Option.{option_map_or}
 use Rattle.layer_mean.specs.declared.run.Case.{Case}
 use Rattle.layer_mean.specs.declared.run.Case.TheVariants.{First, Second}
@@ -11,56 +11,62 @@ use Rattle.stack_mean.specs.Acceptance.{weight_limit}
 use Rattle.stack_mean.specs.NoShape.{NoShape, drawn_from}
 use Rattle.stack_mean.specs.NoShape as no_shape
 use Rattle.stack_mean.specs.Drawn.{DrawnHeader, DrawnEvent}
-use Rattle.stack_mean.specs.Shape.{Known, Progress, ShapeVisit, Shape, undrawn, first_tag, shape_with, entry_headers, entry_task, has_second_case, shaper, shape_visit, shape_out, shape_of, drawn_shape, shape}
+use Rattle.stack_mean.specs.Shape.{Known, Progress, Shape, undrawn, first_tag, headers_of, shape_with, entry_task, has_second_case, shaper, shape_visit, shape_out, shape_of, drawn_shape, shape}
 use Rattle.shape_laws.specs.Bare.{BareRun}
-use Rattle.shape_laws.specs.Outline.{Outline, drawn_tags, event_outline, drawn_outline, logged_outline, task_outline, entry_outline}
-use Rattle.shape_laws.specs.Law.{OutOutline, first_of_tags, run_start, marked_run, as_visit, as_out, shape_out_outline, HasShape, PredictedRunsHaveTheShape}
+use Rattle.shape_laws.specs.Known.{Pairwise, HeadersAre, MessageIs, LoggedIs, BeginsAs}
+use Rattle.shape_laws.specs.Law.{headers_in, first_tag_in, run_start, marked_run, VisitIs, OutIs, HasShape, PredictedRunsHaveTheShape}
 use Rattle.shape_laws.proofs.Predicted.{AllAs}
 use Rattle.shape_laws.proofs.Marks.{logs_tell_runs}
 use Rattle.shape_laws.proofs.Runs.{DrawnLine, RunLine, InStep, runs_in_step}
 use Rattle.layer_mean.specs.Tree.{LayerTree}
 use Rattle.layer_mean.specs.State.{State}
-use Rattle.std.proofs.lemmas.Simd.{map-map}
+use Rattle.msg_core.specs.Chain.{Content}
+use Rattle.msg_core.specs.declared.message.Header.{Header}
 
-map_same : {A B : Type 0} (f g : A → B) → ((x : A) → f x ≡ g x) → (xs : List A) → map f xs ≡ map g xs
-map_same f g same [] = refl
-map_same f g same (x ∷ xs) = λ i. same x i ∷ map_same f g same xs i
+first_tag_same : (headers : List DrawnHeader) (hs : List Header) → HeadersAre headers hs → first_tag headers ≡ first_tag_in hs
+first_tag_same [] [] e = refl
+first_tag_same (h ∷ headers) (x ∷ hs) e = e.0.tag
+first_tag_same [] (x ∷ hs) e = absurd e
+first_tag_same (h ∷ headers) [] e = absurd e
 
-first_tag_same : (headers : List DrawnHeader) → first_of_tags (drawn_tags headers) ≡ first_tag headers
-first_tag_same [] = refl
-first_tag_same (h ∷ hs) = refl
+headers_same : (headers : Option (List DrawnHeader)) (m : Option Content) → MessageIs headers m →
+    HeadersAre (option_map_or (λ hs. hs) headers []) (option_map_or (λ c. c.headers) m [])
+headers_same None None e = tt
+headers_same (Some headers) (Some m) e = e
+headers_same None (Some m) e = absurd e
+headers_same (Some headers) None e = absurd e
 
-visit_told : (x : Logged DrawnEvent) → as_visit (logged_outline drawn_outline x) ≡ shape_visit x
-visit_told x = go x.marked.event.headers where
-  visit : ℕ → ShapeVisit
-  visit tag = record { place = x.at - 1; dir = x.dir; kind = x.marked.event.kind; tag = tag; made_by = x.marked.made_by }
+-- what is told of logs that are alike
+visits_told : (xs : List (Logged DrawnEvent)) (ys : List (Logged Event)) → Pairwise LoggedIs xs ys → Pairwise VisitIs (map shape_visit xs) ys
+visits_told [] [] h = tt
+visits_told (x ∷ xs) (y ∷ ys) h =
+    let one = h.0 in
+    let same = headers_same x.marked.event.headers y.marked.event.message one.marked.event.message in (
+      record {
+        place = ap (λ n. n - 1) one.at;
+        dir = one.dir;
+        kind = one.marked.event.kind;
+        tag = first_tag_same (headers_of x.marked.event) (headers_in y.marked.event) same;
+        made_by = one.marked.made_by;
+      },
+      visits_told xs ys h.1,
+    )
+visits_told [] (y ∷ ys) h = absurd h
+visits_told (x ∷ xs) [] h = absurd h
 
-  go : (headers : Option (List DrawnHeader)) →
-      visit (first_of_tags (option_map_or (λ tags. tags) (option_map drawn_tags headers) [])) ≡
-      visit (first_tag (option_map_or (λ hs. hs) headers []))
-  go None = refl
-  go (Some headers) = ap visit (first_tag_same headers)
-
-out_told : (x : Logged DrawnEvent) → as_out (logged_outline drawn_outline x) ≡ shape_out_outline (shape_out x)
-out_told x = go x.marked.event.headers where
-  out : List ℕ → OutOutline
-  out tags = record { dir = x.dir; kind = x.marked.event.kind; tags = tags; made_by = x.marked.made_by }
-
-  go : (headers : Option (List DrawnHeader)) →
-      out (option_map_or (λ tags. tags) (option_map drawn_tags headers) []) ≡ out (drawn_tags (option_map_or (λ hs. hs) headers []))
-  go None = refl
-  go (Some headers) = refl
-
--- what is told of logs that are alike is the same
-told : {A : Type 0} (f : Logged Outline → A) (g : Logged DrawnEvent → A) →
-    ((x : Logged DrawnEvent) → f (logged_outline drawn_outline x) ≡ g x) → (xs : List (Logged DrawnEvent)) (ys : List (Logged Event)) →
-    map (logged_outline drawn_outline) xs ≡ map (logged_outline event_outline) ys →
-    map (λ y. f (logged_outline event_outline y)) ys ≡ map g xs
-told f g same xs ys alike =
-    sym (map-map f (logged_outline event_outline) ys)
-    ∙ ap (map f) (sym alike)
-    ∙ map-map f (logged_outline drawn_outline) xs
-    ∙ map_same _ g same xs
+outs_told : (xs : List (Logged DrawnEvent)) (ys : List (Logged Event)) → Pairwise LoggedIs xs ys → Pairwise OutIs (map shape_out xs) ys
+outs_told [] [] h = tt
+outs_told (x ∷ xs) (y ∷ ys) h = let one = h.0 in (
+  record {
+    dir = one.dir;
+    kind = one.marked.event.kind;
+    headers = headers_same x.marked.event.headers y.marked.event.message one.marked.event.message;
+    made_by = one.marked.made_by;
+  },
+  outs_told xs ys h.1,
+)
+outs_told [] (y ∷ ys) h = absurd h
+outs_told (x ∷ xs) [] h = absurd h
 
 has_shape : (case : Case) (z : DrawnLine) (r : RunLine) (s : Shape) → shape_of z.world ≡ Ok s → InStep case z.world.world z r →
     AllAs case r.world.world.decided → HasShape s r.world
@@ -73,27 +79,14 @@ has_shape case z r s made step usual = go z.world.world made step where
   go (Ok p) made step =
       let a = step usual in
       let same : shape_at p ≡ s = cc in
-      subst (λ t. HasShape t r.world) same (record {
-        visits = told as_visit shape_visit visit_told z.world.visits r.world.visits a.visits;
-        outs =
-            told as_out (λ x. shape_out_outline (shape_out x)) out_told z.world.outs r.world.outs a.outs
-            ∙ sym (map-map shape_out_outline shape_out z.world.outs);
-      })
-
--- an entry's headers have its tags
-tags_told : (above : List LayerTree) (tags : List ℕ) → drawn_tags (entry_headers above tags) ≡ tags
-tags_told above [] = refl
-tags_told [] (tag ∷ tags) = ap (λ ts. tag ∷ ts) (tags_told [] tags)
-tags_told (layer ∷ above) (tag ∷ tags) = ap (λ ts. tag ∷ ts) (tags_told above tags)
-
-entry_told : (stack : List LayerTree) (k : Known) → task_outline drawn_outline (entry_task stack k) ≡ entry_outline stack k
-entry_told stack k = ap (λ tags. record (entry_outline stack k) { event = record { kind = k.kind; tags = Some tags } }) (tags_told stack k.tags)
+      subst (λ t. HasShape t r.world) same
+      (record { visits = visits_told z.world.visits r.world.visits a.visits; outs = outs_told z.world.outs r.world.outs a.outs })
 
 -- the law after any number of turns
 shape_after : (case : Case) (most : ℕ) (stack : List LayerTree) (k : Known) (s : Shape) (states : List State) (task : Task Event) →
     shape_of (run_for (length stack) (marked (shaper case stack)) most
     (marked_start undrawn (entry_task stack k))).world ≡ Ok s →
-    task_outline event_outline task ≡ entry_outline stack k →
+    BeginsAs (entry_task stack k) task →
     BareRun case stack (run_start states task) → is_predicted case (run most stack states task).world ≡ true →
     HasShape s (run_for (length stack) (marked (layers stack)) most (run_start states task)).world
 shape_after case most stack k s states task made begins bare predicted =
@@ -101,15 +94,15 @@ shape_after case most stack k s states task made begins bare predicted =
     let r : RunLine = run_start states task in
     has_shape case (run_for (length stack) (marked (shaper case stack)) most z) (run_for (length stack) (marked (layers stack)) most r) s made
     (runs_in_step case stack most z r (λ usual. record {
-      tasks = ap (λ t. record { at = t.at; dir = t.dir; event = record { event = t.event; made_by = None } } ∷ []) (entry_told stack k ∙ sym begins);
-      visits = refl;
-      outs = refl;
+      tasks = (record { at = begins.at; dir = begins.dir; marked = record { event = begins.event; made_by = refl } }, tt);
+      visits = tt;
+      outs = tt;
     }) bare)
     (subst (λ w. AllAs case w.decided) (sym (logs_tell_runs stack states task most).world) predicted)
 
 drawn_runs_have_the_shape : (case : Case) (stack : List LayerTree) (k : Known) (s : Shape) (states : List State) (task : Task Event) →
     drawn_shape stack k case ≡ Ok s →
-    task_outline event_outline task ≡ entry_outline stack k →
+    BeginsAs (entry_task stack k) task →
     BareRun case stack (run_start states task) → is_predicted case (run weight_limit stack states task).world ≡ true →
     HasShape s (marked_run stack states task).world
 unfolding drawn_shape

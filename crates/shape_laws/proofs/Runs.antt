@@ -1,9 +1,8 @@
 -- A predicted run and its shape are two queues in step.
-use Rattle.std.proofs.Common.{◌≡◌, ℕ, zero, suc, ◌-◌, Bool, true, false, List, [], ◌∷◌, ◌++◌, map, Option, Some, refl, sym, ap, subst, ◌∙◌}
+use Rattle.std.proofs.Common.{◌≡◌, ℕ, zero, suc, ◌-◌, Bool, true, false, List, [], ◌∷◌, ◌++◌, map, Option, Some, refl, sym, ap, subst}
 use Rattle.std.specs.Prelude.{if◌then◌else◌, nat_lt, length, Result, Ok, Err}
 use Rattle.std.specs.List.{enumerate_from}
 use Rattle.layer_mean.specs.Effect.{all_as}
-use Rattle.std.proofs.lemmas.List.{length-map, map-append}
 use Rattle.layer_ast.specs.declared.tokens.Dir.{Dir}
 use Rattle.layer_mean.specs.declared.run.Case.{Case}
 use Rattle.layer_mean.specs.declared.run.Event.{Event}
@@ -16,9 +15,9 @@ use Rattle.stack_mean.specs.NoShape as no_shape
 use Rattle.stack_mean.specs.Drawn.{DrawnEvent, DrawnVisit, drawn_visit}
 use Rattle.stack_mean.specs.Shape.{Progress, visits_limit, drawn_turn, shaper}
 use Rattle.shape_laws.specs.Bare.{BareVisit, BareNext, BareRun}
-use Rattle.shape_laws.specs.Outline.{Outline, event_outline, drawn_outline, logged_outline}
+use Rattle.shape_laws.specs.Known.{Pairwise, EventIs, TaskIs, LoggedIs}
 use Rattle.shape_laws.proofs.Predicted.{AllAs, usual_parts}
-use Rattle.shape_laws.proofs.Draws.{sent_outline, one_more}
+use Rattle.shape_laws.proofs.Draws.{SentIs, pairs_append}
 use Rattle.shape_laws.proofs.Visits.{VisitDrawn, visit_same}
 
 abbrev pub DrawnLine : Type 0
@@ -27,31 +26,29 @@ DrawnLine = Line (Log (Result Progress NoShape) DrawnEvent) (Marked DrawnEvent)
 abbrev pub RunLine : Type 0
 RunLine = Line (Log Work Event) (Marked Event)
 
--- a task in outline, with its maker
-abbrev pub made_task : {E : Type 0} → (E → Outline) → Task (Marked E) → Task (Marked Outline)
-made_task f t = record { at = t.at; dir = t.dir; event = record { event = f t.event.event; made_by = t.event.made_by } }
-
--- both have the same tasks, visits and outputs, in outline
+-- both have the same tasks, visits and outputs, as far as they are drawn
 pub record Alike (z : DrawnLine) (r : RunLine) : Type 0 where
-  pub tasks : map (made_task drawn_outline) z.tasks ≡ map (made_task event_outline) r.tasks
-  pub visits : map (logged_outline drawn_outline) z.world.visits ≡ map (logged_outline event_outline) r.world.visits
-  pub outs : map (logged_outline drawn_outline) z.world.outs ≡ map (logged_outline event_outline) r.world.outs
+  pub tasks : Pairwise TaskIs z.tasks r.tasks
+  pub visits : Pairwise LoggedIs z.world.visits r.world.visits
+  pub outs : Pairwise LoggedIs z.world.outs r.world.outs
 
 -- they do while all can be drawn and goes as predicted
 abbrev pub InStep : Case → Result Progress NoShape → DrawnLine → RunLine → Type 0
 InStep case (Err reason) z r = Unit {0}
 InStep case (Ok p) z r = AllAs case r.world.world.decided → Alike z r
 
--- the tasks of what a visit sends, in outline
-sent_from : {E : Type 0} (f : E → Outline) (at visit : ℕ) (sent : List (Dir × E)) (n : ℕ) →
-    map (made_task f) (tasks_of at (map (λ x. (x.1.0, record { event = x.1.1; made_by = Some (record { visit = visit; emission = x.0 }) })) (enumerate_from n sent)))
-    ≡ tasks_of at (map (λ x. (x.1.0, record { event = x.1.1; made_by = Some (record { visit = visit; emission = x.0 }) })) (enumerate_from n (map (sent_outline f) sent)))
-sent_from f at visit [] n = refl
-sent_from f at visit (x ∷ xs) n = ap (λ ts. made_task f (record { at = beyond x.0 at; dir = x.0; event = record { event = x.1; made_by = Some (record { visit = visit; emission = n }) } }) ∷ ts) (sent_from f at visit xs _)
-
-tasks_from : {E : Type 0} (f : E → Outline) (at visit : ℕ) (sent : List (Dir × E)) →
-    map (made_task f) (tasks_of at (marked_sent visit sent)) ≡ tasks_of at (marked_sent visit (map (sent_outline f) sent))
-tasks_from f at visit sent = sent_from f at visit sent 0
+-- the tasks of what a visit sends
+sent_from : (at visit : ℕ) (xs : List (Dir × DrawnEvent)) (ys : List (Dir × Event)) (n : ℕ) → Pairwise SentIs xs ys →
+    Pairwise TaskIs
+    (tasks_of at (map (λ x. (x.1.0, record { event = x.1.1; made_by = Some (record { visit = visit; emission = x.0 }) })) (enumerate_from n xs)))
+    (tasks_of at (map (λ x. (x.1.0, record { event = x.1.1; made_by = Some (record { visit = visit; emission = x.0 }) })) (enumerate_from n ys)))
+sent_from at visit [] [] n h = tt
+sent_from at visit (x ∷ xs) (y ∷ ys) n h = (
+  record { at = ap (λ d. beyond d at) h.0.0; dir = h.0.0; marked = record { event = h.0.1; made_by = refl } },
+  sent_from at visit xs ys _ h.1,
+)
+sent_from at visit [] (y ∷ ys) n h = absurd h
+sent_from at visit (x ∷ xs) [] n h = absurd h
 
 -- a line behind a visit, and behind an output
 abbrev after_visit : {W E : Type 0} → ℕ → Dir → Marked E → List (Task (Marked E)) → List (Logged E) → List (Logged E) → Turn W E → Line (Log W E) (Marked E)
@@ -63,34 +60,28 @@ after_visit at dir e rest visits outs turn = record {
 abbrev marking : {E : Type 0} → E → Option Source → Marked E
 marking e maker = record { event = e; made_by = maker }
 
-same_length : (vs : List (Logged DrawnEvent)) (ws : List (Logged Event)) →
-    map (logged_outline drawn_outline) vs ≡ map (logged_outline event_outline) ws → length vs ≡ length ws
-same_length vs ws e = sym (length-map vs (logged_outline drawn_outline)) ∙ ap length e ∙ length-map ws (logged_outline event_outline)
+same_length : (vs : List (Logged DrawnEvent)) (ws : List (Logged Event)) → Pairwise LoggedIs vs ws → length vs ≡ length ws
+same_length [] [] h = refl
+same_length (v ∷ vs) (w ∷ ws) h = ap suc (same_length vs ws h.1)
+same_length [] (w ∷ ws) h = absurd h
+same_length (v ∷ vs) [] h = absurd h
 
-module _ (case : Case) (at : ℕ) (dir : Dir) (maker : Option Source) (d : DrawnEvent) (e : Event) (same : drawn_outline d ≡ event_outline e)
+module _ (case : Case) (at : ℕ) (dir : Dir) (maker : Option Source) (d : DrawnEvent) (e : Event) (same : EventIs d e)
     (p : Progress) (w : Work) (z : DrawnLine) (r : RunLine) where
-  log_same : logged_outline drawn_outline (record { at = at; dir = dir; marked = marking d maker }) ≡
-      logged_outline event_outline (record { at = at; dir = dir; marked = marking e maker })
-  log_same = ap (λ o. record { at = at; dir = dir; marked = marking o maker }) same
+  log_same : LoggedIs (record { at = at; dir = dir; marked = marking d maker }) (record { at = at; dir = dir; marked = marking e maker })
+  log_same = record { at = refl; dir = refl; marked = record { event = same; made_by = refl } }
 
-  visit_alike : (dv : DrawnVisit) (v : Visited) → Alike z r →
-      map (sent_outline drawn_outline) dv.sent ≡ map (sent_outline event_outline) v.sent →
+  visit_alike : (dv : DrawnVisit) (v : Visited) → Alike z r → Pairwise SentIs dv.sent v.sent →
       Alike (after_visit at dir (marking d maker) z.tasks z.world.visits z.world.outs (drawn_turn p (Ok dv)))
       (after_visit at dir (marking e maker) r.tasks r.world.visits r.world.outs (visited at w v))
   visit_alike dv v alike sent = record {
-    tasks =
-        map-append (made_task drawn_outline) z.tasks _
-        ∙ (λ i. alike.tasks i ++ behind i)
-        ∙ sym (map-append (made_task event_outline) r.tasks _);
-    visits = one_more _ _ z.world.visits r.world.visits _ _ alike.visits log_same;
+    tasks = pairs_append TaskIs z.tasks _ r.tasks _ alike.tasks behind;
+    visits = pairs_append LoggedIs z.world.visits _ r.world.visits _ alike.visits (log_same, tt);
     outs = alike.outs;
   } where
-    behind : map (made_task drawn_outline) (tasks_of at (marked_sent (length z.world.visits) dv.sent)) ≡
-        map (made_task event_outline) (tasks_of at (marked_sent (length r.world.visits) v.sent))
-    behind =
-        tasks_from drawn_outline at (length z.world.visits) dv.sent
-        ∙ (λ i. tasks_of at (marked_sent (same_length z.world.visits r.world.visits alike.visits i) (sent i)))
-        ∙ sym (tasks_from event_outline at (length r.world.visits) v.sent)
+    behind : Pairwise TaskIs (tasks_of at (marked_sent (length z.world.visits) dv.sent)) (tasks_of at (marked_sent (length r.world.visits) v.sent))
+    behind = subst (λ n. Pairwise TaskIs (tasks_of at (marked_sent (length z.world.visits) dv.sent)) (tasks_of at (marked_sent n v.sent)))
+        (same_length z.world.visits r.world.visits alike.visits) (sent_from at (length z.world.visits) dv.sent v.sent 0 sent)
 
   -- a visit keeps them in step
   visit_in_step : (x : Result DrawnVisit NoShape) (v : Visited) → (AllAs case w.decided → Alike z r) →
@@ -122,7 +113,7 @@ task_for e x = record { at = x.0; dir = x.1; event = marking e x.2 }
 
 -- one turn keeps them in step
 turn_in_step : (case : Case) (stack : List LayerTree) (at : ℕ) (dir : Dir) (maker : Option Source) (d : DrawnEvent) (e : Event) →
-    drawn_outline d ≡ event_outline e → (p : Progress) (vs os : List (Logged DrawnEvent)) (rest : List (Task (Marked DrawnEvent)))
+    EventIs d e → (p : Progress) (vs os : List (Logged DrawnEvent)) (rest : List (Task (Marked DrawnEvent)))
     (log : RunLog) (us : List (Task (Marked Event))) →
     (AllAs case log.world.decided → Alike (record { world = drawing p vs os; tasks = rest }) (record { world = log; tasks = us })) →
     (is_place (length stack) at ≡ true → BareVisit case (at - 1) (layer_at stack at) (state_at log.world at) dir e) →
@@ -161,7 +152,8 @@ turn_in_step case stack at dir maker d e same p vs os rest log us alike bare = g
   go false placed = λ usual. let a = alike usual in record {
     tasks = a.tasks;
     visits = a.visits;
-    outs = one_more _ _ os log.outs _ _ a.outs (ap (λ o. record { at = 0; dir = dir; marked = marking o maker }) same);
+    outs = pairs_append LoggedIs os _ log.outs _ a.outs
+        (record { at = refl; dir = refl; marked = record { event = same; made_by = refl } }, tt);
   }
 
 -- what was decided before a turn is as predicted where all is behind it
@@ -183,15 +175,6 @@ never : (case : Case) (x : Result Progress NoShape) (z : DrawnLine) (r : RunLine
 never case (Err reason) z r h = tt
 never case (Ok p) z r h = λ usual. absurd (h usual)
 
--- the first task and the others of tasks in outline
-abbrev first_task : Task (Marked Outline) → List (Task (Marked Outline)) → Task (Marked Outline)
-first_task other [] = other
-first_task other (t ∷ ts) = t
-
-abbrev other_tasks : List (Task (Marked Outline)) → List (Task (Marked Outline))
-other_tasks [] = []
-other_tasks (t ∷ ts) = ts
-
 failed_next : (case : Case) (stack : List LayerTree) (zs : List (Task (Marked DrawnEvent))) (reason : NoShape) (vs os : List (Logged DrawnEvent))
     (r : RunLine) →
     let z = drawn_next case stack zs (record { world = Err reason; visits = vs; outs = os }) in InStep case z.world.world z r
@@ -212,8 +195,8 @@ drawn_next_in_step : (case : Case) (stack : List LayerTree) (zs : List (Task (Ma
     let z = drawn_next case stack zs (drawing p vs os) in InStep case z.world.world z (run_next stack rs log)
 drawn_next_in_step case stack [] p vs os [] log alike bare = alike
 drawn_next_in_step case stack [] p vs os (u ∷ us) log alike bare =
-    λ usual. absurd (cc (alike (usual_before case stack (u ∷ us) log usual)).tasks)
-drawn_next_in_step case stack (t ∷ rest) p vs os [] log alike bare = never case _ _ _ (λ usual. cc (alike usual).tasks)
+    λ usual. absurd (alike (usual_before case stack (u ∷ us) log usual)).tasks
+drawn_next_in_step case stack (t ∷ rest) p vs os [] log alike bare = never case _ _ _ (λ usual. (alike usual).tasks)
 drawn_next_in_step case stack (t ∷ rest) p vs os (u ∷ us) log alike bare = go (all_as case log.world.decided) refl where
   z : Task (Marked DrawnEvent) → DrawnLine
   z task = drawn_next case stack (task ∷ rest) (drawing p vs os)
@@ -221,12 +204,12 @@ drawn_next_in_step case stack (t ∷ rest) p vs os (u ∷ us) log alike bare = g
   go : (b : Bool) → all_as case log.world.decided ≡ b → InStep case (z t).world.world (z t) (run_next stack (u ∷ us) log)
   go true usual =
       let a = alike usual in
-      let head : made_task drawn_outline t ≡ made_task event_outline u = ap (first_task (made_task drawn_outline t)) a.tasks in
+      let head = a.tasks.0 in
       let key : ◌≡◌ {A = ℕ × Dir × Option Source} (t.at, t.dir, t.event.made_by) (u.at, u.dir, u.event.made_by) =
-      ap (λ x. (x.at, x.dir, x.event.made_by)) head in
+      λ i. (head.at i, head.dir i, head.marked.made_by i) in
       subst (λ x. InStep case (z (task_for t.event.event x)).world.world (z (task_for t.event.event x)) (run_next stack (u ∷ us) log)) (sym key)
-      (turn_in_step case stack u.at u.dir u.event.made_by t.event.event u.event.event (ap (λ x. x.event.event) head) p vs os rest log us
-      (λ again. record { tasks = ap other_tasks a.tasks; visits = a.visits; outs = a.outs }) bare)
+      (turn_in_step case stack u.at u.dir u.event.made_by t.event.event u.event.event head.marked.event p vs os rest log us
+      (λ again. record { tasks = a.tasks.1; visits = a.visits; outs = a.outs }) bare)
   go false unusual = never case _ _ _ (λ usual. cc (usual_before case stack (u ∷ us) log usual, unusual))
 
 -- one turn keeps them in step, whatever came before

@@ -1,7 +1,6 @@
 -- What is drawn of a visit is what it sends, where it goes as predicted.
-use Rattle.std.proofs.Common.{◌≡◌, ℕ, zero, suc, Bool, true, false, List, [], ◌∷◌, ◌++◌, map, Option, Some, None, refl, sym, ap, subst}
+use Rattle.std.proofs.Common.{◌≡◌, ℕ, zero, suc, Bool, true, false, List, [], ◌∷◌, ◌++◌, Option, Some, None, refl, sym, subst}
 use Rattle.std.specs.Prelude.{if◌then◌else◌, ◌==◌, Result, Ok, Err, option_map, option_to_list}
-use Rattle.std.specs.Option.{option_map_or}
 use Rattle.msg_core.specs.Chain.{Content, plain, pushed, popped, first_of}
 use Rattle.msg_core.specs.declared.message.Header.{Header}
 use Rattle.layer_ast.specs.declared.tokens.Dir.{Dir}
@@ -18,17 +17,17 @@ use Rattle.stack_mean.specs.NoShape.{NoShape, drawn_from}
 use Rattle.stack_mean.specs.NoShape as no_shape
 use Rattle.stack_mean.specs.Drawn.{DrawnHeader, DrawnMessage, chained, DrawnEvent, Drawing, draw_steps, DrawnVisit, DrawnMet, popped_of, drawn_met, drawn_on, drawn_unhandled, drawn_entered, drawn_way, drawn_handled, drawn_visit}
 use Rattle.shape_laws.specs.Bare.{BareWay, BareHandled, BareVisit}
-use Rattle.shape_laws.specs.Outline.{message_tags, drawn_tags, event_outline, drawn_outline}
+use Rattle.shape_laws.specs.Known.{Pairwise, HeadersAre, MessageIs, EventIs}
 use Rattle.shape_laws.proofs.Predicted.{AllAs, here, start, Went, handler_goes}
-use Rattle.shape_laws.proofs.Draws.{Scopes, sent_outline, Stands, Drawn, Draws, way_draws}
+use Rattle.shape_laws.proofs.Draws.{Scopes, SentIs, Stands, Drawn, Draws, way_draws}
 
 -- what is drawn of a visit is what it sent
 abbrev pub VisitDrawn : Result DrawnVisit NoShape → List (Dir × Event) → Type 0
 VisitDrawn (Err reason) sent = Unit {0}
-VisitDrawn (Ok v) sent = map (sent_outline drawn_outline) v.sent ≡ map (sent_outline event_outline) sent
+VisitDrawn (Ok v) sent = Pairwise SentIs v.sent sent
 
 more_room : (ds : List DrawnMessage) (ms : List Content) → Scopes ds ms → Scopes (ds ++ chained [] ∷ []) (ms ++ plain [] ∷ [])
-more_room [] [] h = (refl, tt)
+more_room [] [] h = (tt, tt)
 more_room (d ∷ ds) (m ∷ ms) h = (h.0, more_room ds ms h.1)
 more_room [] (m ∷ ms) h = absurd h
 more_room (d ∷ ds) [] h = absurd h
@@ -38,53 +37,46 @@ with_room_too : (k : ℕ) (ds : List DrawnMessage) (ms : List Content) → Scope
 with_room_too zero ds ms h = h
 with_room_too (suc k) ds ms h = with_room_too k (ds ++ chained [] ∷ []) (ms ++ plain [] ∷ []) (more_room ds ms h)
 
-own_message : (headers : Option (List DrawnHeader)) (m : Option Content) → option_map drawn_tags headers ≡ option_map message_tags m →
+own_message : (headers : Option (List DrawnHeader)) (m : Option Content) → MessageIs headers m →
     Scopes (option_to_list (option_map chained headers)) (option_to_list m)
 own_message None None e = tt
-own_message (Some headers) (Some m) e = (ap (λ o. option_map_or (λ tags. tags) o []) e, tt)
-own_message None (Some m) e = absurd (cc e)
-own_message (Some headers) None e = absurd (cc e)
+own_message (Some headers) (Some m) e = (e, tt)
+own_message None (Some m) e = absurd e
+own_message (Some headers) None e = absurd e
 
 -- what is met on arrival
 abbrev MetSame : DrawnMet → Met → Type 0
-MetSame d m = (d.tag ≡ m.tag) × (option_map drawn_tags d.headers ≡ option_map message_tags m.message)
+MetSame d m = (d.tag ≡ m.tag) × MessageIs d.headers m.message
 
-abbrev rest : List ℕ → List ℕ
-rest [] = []
-rest (x ∷ xs) = xs
-
-popped_same : (hs : List DrawnHeader) (ns : List Header) (body : List ℕ) → drawn_tags hs ≡ map (λ n. n.tag) ns →
+popped_same : (hs : List DrawnHeader) (ns : List Header) (body : List ℕ) → HeadersAre hs ns →
     MetSame (popped_of hs) (behind (first_of ns) (popped (record { headers = ns; body = body })))
-popped_same [] [] body e = (refl, refl)
-popped_same (h ∷ hs) (n ∷ ns) body e = (cc, ap (λ tags. Some (rest tags)) e)
-popped_same [] (n ∷ ns) body e = absurd (cc e)
-popped_same (h ∷ hs) [] body e = absurd (cc e)
+popped_same [] [] body e = (refl, tt)
+popped_same (h ∷ hs) (n ∷ ns) body e = (e.0.tag, e.1)
+popped_same [] (n ∷ ns) body e = absurd e
+popped_same (h ∷ hs) [] body e = absurd e
 
-met_same : (dir : Dir) (headers : Option (List DrawnHeader)) (m : Option Content) →
-    option_map drawn_tags headers ≡ option_map message_tags m → MetSame (drawn_met dir headers) (met dir m)
-met_same dir None None e = (refl, refl)
-met_same Up (Some headers) (Some m) e =
-    popped_same headers m.headers m.body (ap (λ o. option_map_or (λ tags. tags) o []) e)
+met_same : (dir : Dir) (headers : Option (List DrawnHeader)) (m : Option Content) → MessageIs headers m →
+    MetSame (drawn_met dir headers) (met dir m)
+met_same dir None None e = (refl, tt)
+met_same Up (Some headers) (Some m) e = popped_same headers m.headers m.body e
 met_same Down (Some headers) (Some m) e = (refl, e)
-met_same dir None (Some m) e = absurd (cc e)
-met_same dir (Some headers) None e = absurd (cc e)
+met_same dir None (Some m) e = absurd e
+met_same dir (Some headers) None e = absurd e
 
 -- one event that is sent on
 passes_on : (dir : Dir) (e : Event) (d : DrawnEvent) (headers : Option (List DrawnHeader)) (m : Option Content) →
-    d.kind ≡ e.kind → option_map drawn_tags headers ≡ option_map message_tags m →
-    map (sent_outline drawn_outline) (drawn_on dir d headers).sent ≡
-    map (sent_outline event_outline) ((dir, record e { message = m }) ∷ [])
-passes_on dir e d headers m kind same = λ i. (dir, record { kind = kind i; tags = same i }) ∷ []
+    d.kind ≡ e.kind → MessageIs headers m → Pairwise SentIs (drawn_on dir d headers).sent ((dir, record e { message = m }) ∷ [])
+passes_on dir e d headers m kind same = ((refl, record { kind = kind; message = same }), tt)
 
 unhandled_same : (case : Case) (place : ℕ) (s : State) (dir : Dir) (e : Event) (d : DrawnEvent) (tag : ℕ) (m : Met)
     (headers : Option (List DrawnHeader)) (content : Option Content) →
-    d.kind ≡ e.kind → tag ≡ m.tag → option_map drawn_tags headers ≡ option_map message_tags content →
+    d.kind ≡ e.kind → tag ≡ m.tag → MessageIs headers content →
     AllAs case (unhandled place s dir e m content).decided →
     VisitDrawn (drawn_unhandled place dir d tag headers) (unhandled place s dir e m content).sent
-unhandled_same case place s dir e d tag m None None kind popped same h = passes_on dir e d None None kind refl
+unhandled_same case place s dir e d tag m None None kind popped same h = passes_on dir e d None None kind tt
 unhandled_same case place s Down e d tag m (Some headers) (Some c) kind popped same h =
     passes_on Down e d (Some (record { tag = 0; fields = [] } ∷ headers)) (Some (pushed (record { layer = place; tag = 0; fields = [] }) c)) kind
-    (ap (λ o. Some (0 ∷ option_map_or (λ tags. tags) o [])) same)
+    (record { tag = refl; fields = tt }, same)
 unhandled_same case place s Up e d tag m (Some headers) (Some c) kind popped same h =
     subst (λ t. VisitDrawn (if t == 0 then Ok (drawn_on Up d (Some headers)) else Err (no_shape.rare place)) (unhandled place s Up e m (Some c)).sent)
     (sym popped) (go (m.tag == 0) h) where
@@ -93,8 +85,8 @@ unhandled_same case place s Up e d tag m (Some headers) (Some c) kind popped sam
           (if b then sent_on s Up e (Some c) else record { state = s; sent = []; decided = unusual ∷ [] }).sent
       go true h = passes_on Up e d (Some headers) (Some c) kind same
       go false h = tt
-unhandled_same case place s dir e d tag m None (Some c) kind popped same h = absurd (cc same)
-unhandled_same case place s dir e d tag m (Some headers) None kind popped same h = absurd (cc same)
+unhandled_same case place s dir e d tag m None (Some c) kind popped same h = absurd same
+unhandled_same case place s dir e d tag m (Some headers) None kind popped same h = absurd same
 
 way_drawn : (place : ℕ) (w : Option (List Step)) (s : State) (l : Scope) (o : Outcome) (d : Drawing) → Stands d (start [] s l) →
     BareWay place w s l → Went place w s l o → VisitDrawn (drawn_way place w d) o.sent
@@ -113,16 +105,16 @@ handled_same case place None s dir e d dm m kind same bare h =
     unhandled_same case place s dir e d dm.tag m dm.headers m.message kind same.0 same.1 h
 handled_same case place (Some x) s dir e d dm m kind same bare h =
     way_drawn place (handler_way case x) s (entered x e m) _ (drawn_entered x dm.headers)
-    (with_room_too x.messages _ _ (own_message dm.headers m.message same.1), refl) bare
+    (with_room_too x.messages _ _ (own_message dm.headers m.message same.1), tt) bare
     (handler_goes case place x s (entered x e m) h)
 
 pub visit_same : (case : Case) (place : ℕ) (layer : LayerTree) (s : State) (dir : Dir) (e : Event) (d : DrawnEvent) →
-    drawn_outline d ≡ event_outline e → BareVisit case place layer s dir e → AllAs case (step place layer s dir e).decided →
+    EventIs d e → BareVisit case place layer s dir e → AllAs case (step place layer s dir e).decided →
     VisitDrawn (drawn_visit case place layer dir d) (step place layer s dir e).sent
 unfolding step
 visit_same case place layer s dir e d same bare h =
-    let kind : d.kind ≡ e.kind = ap (λ o. o.kind) same in
-    let m = met_same dir d.headers e.message (ap (λ o. o.tags) same) in
+    let kind = same.kind in
+    let m = met_same dir d.headers e.message same.message in
     let chosen : handler_for layer dir e.kind (met dir e.message).tag ≡ handler_for layer dir d.kind (drawn_met dir d.headers).tag =
     λ i. handler_for layer dir (sym kind i) (sym m.0 i) in
     subst (λ x. VisitDrawn (drawn_handled case place x dir d (drawn_met dir d.headers))

@@ -1,6 +1,6 @@
 pub mod Walk
 pub mod Bare
-pub mod Outline
+pub mod Known
 pub mod Law
 pub mod Parts
 pub mod Marks

@@ -1,8 +1,12 @@
 -- A run, played and drawn.
-use Rattle.std.specs.Prelude.{◌≡◌, true, false, List, [], ◌∷◌, map, Some, None, codes, Ok}
+use Rattle.std.specs.Prelude.{◌≡◌, ℕ, ◌-◌, Option, true, false, List, [], ◌∷◌, map, Some, None, codes, Ok}
 use Rattle.std.specs.List.{list_all}
 use Rattle.layer_ast.specs.declared.tokens.Dir.TheVariants.{Up, Down}
+use Rattle.layer_ast.specs.declared.tokens.Dir.{Dir}
+use Rattle.layer_ast.specs.declared.tokens.Kind.{Kind}
 use Rattle.layer_ast.specs.declared.tokens.Kind.TheVariants.{Cast}
+use Rattle.layer_mean.specs.Marked.{Source, Logged}
+use Rattle.stack_mean.specs.Shape.{ShapeVisit}
 use Rattle.layer_mean.specs.declared.run.Case.{Case}
 use Rattle.layer_mean.specs.declared.run.Case.TheVariants.{First, Second}
 use Rattle.layer_mean.specs.declared.run.Event.{Event}
@@ -14,8 +18,7 @@ use Rattle.stack_mean.specs.Samples.{kept, made_by, visit}
 use Rattle.stack_mean.specs.SampleLayers.{counter, echo, fan, repeater, late, silent}
 use Rattle.stack_mean.specs.Shape.{packet_entry, shape}
 use Rattle.stack_mean.specs.TwoCases.{flip}
-use Rattle.shape_laws.specs.Outline.{event_outline, logged_outline}
-use Rattle.shape_laws.specs.Law.{marked_run, as_visit, as_out}
+use Rattle.shape_laws.specs.Law.{headers_in, first_tag_in, marked_run}
 use Rattle.shape_laws.specs.Parts.{layer_reads_no_part}
 
 -- The first of two members casts the letter x, over fresh layers.
@@ -29,15 +32,39 @@ first_cast = record {
   event = record { kind = Cast; peer = 0; a = 0; b = 0; message = Some (record { headers = []; body = codes "x" }) };
 }
 
+-- A visit of a run as a shape tells it, and an output of which the fields aren't told.
+abbrev pub as_visit : Logged Event → ShapeVisit
+as_visit x = record {
+  place = x.at - 1;
+  dir = x.dir;
+  kind = x.marked.event.kind;
+  tag = first_tag_in (headers_in x.marked.event);
+  made_by = x.marked.made_by;
+}
+
+pub record OutOutline : Type 0 where
+  pub dir : Dir
+  pub kind : Kind
+  pub tags : List ℕ
+  pub made_by : Option Source
+
+abbrev pub as_out : Logged Event → OutOutline
+as_out x = record {
+  dir = x.dir;
+  kind = x.marked.event.kind;
+  tags = map (λ h. h.tag) (headers_in x.marked.event);
+  made_by = x.marked.made_by;
+}
+
 -- The run goes as predicted, and has the visits and the outputs of the shape.
 abbrev pub KeptRun : Type 0
 KeptRun =
     let log = (marked_run kept fresh_states first_cast).world in
     (is_predicted First log.world ≡ true) ×
-    (map (λ x. as_visit (logged_outline event_outline x)) log.visits ≡
+    (map as_visit log.visits ≡
     visit 3 Down 0 None ∷ visit 2 Down 1 (made_by 0 0) ∷ visit 1 Down 0 (made_by 1 0) ∷ visit 3 Up 1 (made_by 1 1) ∷
     visit 0 Down 1 (made_by 2 0) ∷ []) ×
-    (map (λ x. as_out (logged_outline event_outline x)) log.outs ≡
+    (map as_out log.outs ≡
     record { dir = Up; kind = Cast; tags = []; made_by = made_by 3 0 } ∷
     record { dir = Down; kind = Cast; tags = 1 ∷ 1 ∷ 0 ∷ 1 ∷ []; made_by = made_by 4 0 } ∷ [])
 
@@ -54,7 +81,7 @@ abbrev pub FlipRun : Type 0
 FlipRun =
     let log = (marked_run (flip ∷ []) (record (fresh flip 0 2 0) { cells = state.numbers (1 ∷ []) ∷ [] } ∷ []) second_cast).world in
     (is_predicted First log.world ≡ false) × (is_predicted Second log.world ≡ true) ×
-    (map (λ x. as_out (logged_outline event_outline x)) log.outs ≡
+    (map as_out log.outs ≡
     record { dir = Down; kind = Cast; tags = 2 ∷ []; made_by = made_by 0 0 } ∷ [])
 
 -- A packet's cast that is sent back keeps the headers of the layers above, of which the tags alone are known.
