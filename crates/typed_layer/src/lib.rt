@@ -1,0 +1,16 @@
+//! Layers as members run them: at their place of a stack, with numbers in place of names, the values of params in place of
+//! these, and the handler for an event found by an index. Contracts see a layer as the plain tree that its meaning is defined
+//! on.
+#![tactic(auto)]
+
+mod handlers;
+#[cfg(test)]
+mod tests;
+mod tree;
+
+pub use handlers::{Handlers, MOST_HANDLERS};
+pub use tree::{
+    Blank, Block, Carried, Cell, Content, Emission, Expected, Expression, Form, Handler,
+    HeaderForm, ItemMessage, Items, MOST_NUMBERS, MessageExpression, Numbers, Row, Statement,
+    Taken, TakenMessage, TypedLayer,
+};
