@@ -4,3 +4,4 @@ pub mod Sorts
 pub mod Values
 pub mod Statements
 pub mod Visits
+pub mod Runs

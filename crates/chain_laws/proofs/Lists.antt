@@ -1,6 +1,6 @@
 -- Facts of the items of lists, place by place.
-use Rattle.std.proofs.Common.{◌≡◌, ℕ, zero, suc, Bool, true, false, List, [], ◌∷◌, ◌++◌, map, Option, Some, None, refl, sym, ap, subst}
-use Rattle.std.specs.Prelude.{IsSomeAnd, replicate, slice_get, slice_index, slice_index_or, slice_set, take, drop}
+use Rattle.std.proofs.Common.{◌≡◌, ℕ, zero, suc, List, [], ◌∷◌, ◌++◌, map, Option, Some, None, refl, subst}
+use Rattle.std.specs.Prelude.{IsSomeAnd, replicate, slice_get, slice_index_or, slice_set, take, drop}
 use Rattle.std.specs.List.{AllByRecursion, AllZip}
 use Rattle.layer_mean.specs.Visit.{with_room}
 

@@ -1,24 +1,22 @@
 -- All numbers of a visit are below 2^32, and all bodies have at most 8,192 bytes.
-use Rattle.std.proofs.Common.{◌≡◌, ℕ, zero, suc, ◌+◌, ◌*◌, ◌-◌, ◌<◌, ◌≤◌, Bool, true, false, List, [], ◌∷◌, ◌++◌, length, map, Option, Some, None, refl, sym, ap, subst, arith}
-use Rattle.std.specs.Prelude.{◌^◌, ◌%◌, ◌/◌, ◌==◌, ◌&&◌, nat_lt, nat_le, not, if◌then◌else◌, min, slice_get, slice_index, slice_index_or, take, drop}
-use Rattle.std.specs.List.{AllByRecursion, AllZip}
-use Rattle.std.specs.Option.{option_map_or}
+use Rattle.std.proofs.Common.{◌≡◌, ℕ, zero, suc, ◌+◌, ◌*◌, ◌-◌, ◌<◌, ◌≤◌, Bool, true, false, List, [], ◌++◌, length, refl, arith}
+use Rattle.std.specs.Prelude.{◌^◌, ◌%◌, ◌/◌, nat_lt, nat_le, if◌then◌else◌, take, drop}
 use Rattle.std.specs.Int.Bits.{and_lt}
-use Rattle.std.specs.Int.Count.{ones_in, count_trailing_zeros}
+use Rattle.std.specs.Int.Count.{ones_in}
 use Rattle.std.proofs.lemmas.Nat.{or_lt, xor_lt, trailing_le}
 use Rattle.std.proofs.Math.Nat.{mod-lt}
 use Rattle.std.proofs.Math.Pow.{pow-lt}
 use Rattle.std.proofs.lemmas.Bool.{ltb-true, leb-true}
 use Rattle.std.proofs.Math.ListN.{length-take, length-drop, length-append}
-use Rattle.msg_core.specs.Chain.{Content, plain}
+use Rattle.msg_core.specs.Chain.{Content}
 use Rattle.msg_core.specs.Parts as parts
 use Rattle.msg_core.specs.Parts.{longest_body}
 use Rattle.layer_ast.specs.declared.syntax.Function.{Function}
 use Rattle.layer_ast.specs.declared.syntax.Function.TheVariants.{Not, Bit, Count, Lowest}
 use Rattle.layer_ast.specs.declared.syntax.Operator.{Operator}
 use Rattle.layer_ast.specs.declared.syntax.Operator.TheVariants.{Add, Subtract, Multiply, Equal, NotEqual, Less, LessOrEqual, Greater, GreaterOrEqual, And, Or, BitAnd, BitOr, BitXor}
-use Rattle.packet_mean.specs.ChainedState.{IsNumber, Numbers, IsBody}
-use Rattle.layer_mean.specs.Value.{of_bool, is_true, wrapped, applied, function_of}
+use Rattle.packet_mean.specs.ChainedState.{IsNumber, IsBody}
+use Rattle.layer_mean.specs.Value.{of_bool, wrapped, applied, function_of}
 use Rattle.chain_laws.proofs.Lists.{each_append, each_drop, each_take}
 
 pub zero_small : IsNumber 0

@@ -1,11 +1,11 @@
 -- Messages by their sorts, and what a state keeps.
-use Rattle.std.proofs.Common.{◌≡◌, ℕ, zero, suc, ◌<◌, ◌≤◌, Bool, true, false, List, [], ◌∷◌, ◌++◌, ◌∙◌, length, map, Option, Some, None, refl, sym, ap, subst, arith}
-use Rattle.std.specs.Prelude.{nat_lt, ◌&&◌, slice_get, slice_index, slice_index_or, slice_set, drop, option_and_then, option_map}
+use Rattle.std.proofs.Common.{◌≡◌, ℕ, ◌<◌, true, List, [], ◌∷◌, ◌++◌, ◌∙◌, length, Option, Some, None, refl, sym, subst, arith}
+use Rattle.std.specs.Prelude.{nat_lt, slice_get, slice_index_or, drop, option_and_then}
 use Rattle.std.specs.List.{AllByRecursion, AllZip}
 use Rattle.std.specs.Option.{option_map_or}
 use Rattle.std.proofs.Math.ListN.{length-drop, length-set, length-append}
 use Rattle.std.proofs.lemmas.Bool.{and_parts, ltb-true}
-use Rattle.msg_core.specs.Chain.{Content, plain}
+use Rattle.msg_core.specs.Chain.{Content}
 use Rattle.msg_core.specs.declared.message.Header.{Header}
 use Rattle.layer_ast.specs.declared.syntax.Sort.{Sort}
 use Rattle.layer_ast.specs.declared.syntax.Sort.TheVariants.{Int, Msg, Part}
@@ -15,9 +15,9 @@ use Rattle.layer_mean.specs.State as state
 use Rattle.layer_mean.specs.State.{State, Contents, no_cell, numbers_in, queues_in, cell_at, number_at, rows_at, row_at, has_room, with_cell, written, with_number, filled, with_rows, with_row, without_front}
 use Rattle.layer_mean.specs.Value.{Scope, number_in, message_in, missing}
 use Rattle.packet_mean.specs.ChainedState.{IsNumber, Numbers, IsBody, IsMessage, KeptHeaders, EndsWith, IsRow, IsQueue, HoldsForm, IsState}
-use Rattle.chain_laws.specs.Typed.{Queue, queue_in, queue_at, sort_of, HasBlank, Carries}
-use Rattle.chain_laws.proofs.Lists.{Where, there, where_is, each_where, each_or, each_so, each_set, each_change, each_append, each_drop, zip_at, zip_change}
-use Rattle.chain_laws.proofs.Small.{zero_small, no_body, body_number}
+use Rattle.chain_laws.specs.Typed.{Queue, queue_in, queue_at, sort_of}
+use Rattle.chain_laws.proofs.Lists.{Where, each_where, each_or, each_so, each_set, each_change, each_append, each_drop, zip_at, zip_change}
+use Rattle.chain_laws.proofs.Small.{zero_small, no_body}
 
 -- the headers of a message of a sort; of a slot that holds none yet nothing is said
 abbrev pub HeadersOf : (List Header → Type 0) → Sort → List Header → Type 0

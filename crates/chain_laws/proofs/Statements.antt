@@ -1,15 +1,14 @@
 -- What statements do keeps states and scopes, and what they send is chained.
-use Rattle.std.proofs.Common.{◌≡◌, ◌∙◌, ℕ, zero, suc, ◌≤◌, ◌<◌, Bool, true, false, List, [], ◌∷◌, ◌++◌, length, map, Option, Some, None, refl, sym, ap, subst, arith}
-use Rattle.std.specs.Prelude.{◌^◌, if◌then◌else◌, min, slice_get, slice_index, slice_index_or, slice_set, option_map, IsSomeAnd}
-use Rattle.std.specs.List.{AllByRecursion, AllZip, fold}
-use Rattle.std.specs.Option.{option_map_or}
+use Rattle.std.proofs.Common.{◌≡◌, ◌∙◌, ℕ, zero, suc, ◌<◌, Bool, true, false, List, [], ◌∷◌, length, map, Option, Some, None, refl, subst, arith}
+use Rattle.std.specs.Prelude.{◌^◌, if◌then◌else◌, min, slice_index, option_map}
+use Rattle.std.specs.List.{AllByRecursion, fold}
 use Rattle.std.proofs.lemmas.List.{length-map}
-use Rattle.msg_core.specs.Chain.{Content, plain, pushed}
+use Rattle.msg_core.specs.Chain.{Content, pushed}
 use Rattle.msg_core.specs.declared.message.Header.{Header}
 use Rattle.layer_ast.specs.declared.syntax.Likely.{Likely}
 use Rattle.layer_ast.specs.declared.syntax.Likely.TheVariants as likely
 use Rattle.layer_ast.specs.declared.syntax.Sort.{Sort}
-use Rattle.layer_ast.specs.declared.syntax.Sort.TheVariants.{Int, Msg, Part}
+use Rattle.layer_ast.specs.declared.syntax.Sort.TheVariants.{Int, Msg}
 use Rattle.layer_ast.specs.declared.tokens.Dir.{Dir}
 use Rattle.layer_ast.specs.declared.tokens.Dir.TheVariants.{Up, Down}
 use Rattle.layer_ast.specs.declared.tokens.Kind.{Kind}
@@ -17,16 +16,16 @@ use Rattle.layer_mean.specs.declared.run.Event.{Event}
 use Rattle.layer_mean.specs.declared.run.Row.{Row}
 use Rattle.layer_mean.specs.Event.{carries, event_of}
 use Rattle.layer_mean.specs.Headers.{declared}
-use Rattle.layer_mean.specs.Tree.{Carried, part, whole, HeaderTree, ExpressionTree, MessageTree, ContentTree, EmissionTree, RowTree, TakenTree, ItemsTree, StatementTree, bind, assign, assign_square, push, take, branch, each, emit, StatementTrees, none, more, LayerTree}
+use Rattle.layer_mean.specs.Tree.{Carried, HeaderTree, MessageTree, ContentTree, EmissionTree, RowTree, StatementTree, bind, assign, assign_square, push, take, branch, each, emit, StatementTrees, none, more, LayerTree}
 use Rattle.layer_mean.specs.State.{State, flat_index, row_at, rows_at, has_room, with_number, with_row, without_front}
 use Rattle.layer_mean.specs.Value.{Scope, is_true, val, mval, message_in}
-use Rattle.layer_mean.specs.Effect.{Decision, Outcome, Act, done, after, in_order, decides, with_slot, with_message, turns, row_of, with_slots, with_taken, header_of, sent_as, emitted, chosen, taking, does, acts}
-use Rattle.packet_mean.specs.ChainedState.{IsNumber, Numbers, IsBody, IsMessage, EndsWith, IsRow, IsQueue, IsState, Brings, IsEvent}
-use Rattle.chain_laws.specs.Typed.{Small, Queue, queue_at, sort_of, sort_under, Carries, Sorted, Pushed, Content as SendsContent, Sends, Ends, Pushes, Takes, with_taken_sort, Typed, TypedAll}
+use Rattle.layer_mean.specs.Effect.{Outcome, Act, done, after, in_order, with_slot, turns, row_of, with_slots, with_taken, header_of, sent_as, emitted, chosen, taking, does, acts}
+use Rattle.packet_mean.specs.ChainedState.{IsNumber, Numbers, IsMessage, EndsWith, IsRow, IsState, Brings, IsEvent}
+use Rattle.chain_laws.specs.Typed.{Small, sort_of, sort_under, Pushed, Content as SendsContent, Sends, Ends, Pushes, Takes, with_taken_sort, Typed, TypedAll}
 use Rattle.chain_laws.proofs.Lists.{Where, there, each_where, each_or, each_set, each_append, zip_set, zip_back}
-use Rattle.chain_laws.proofs.Small.{zero_small, no_body}
+use Rattle.chain_laws.proofs.Small.{zero_small}
 use Rattle.chain_laws.proofs.Sorts.{HeadersOf, Is, kept_of, IsScope, Kept, kept, KeptRow, row_at_kept, number_keeps, front_keeps, row_keeps, rows_hold}
-use Rattle.chain_laws.proofs.Values.{val_small, vals_small, message_in_is, ends_is, mval_is}
+use Rattle.chain_laws.proofs.Values.{val_small, vals_small, message_in_is, mval_is}
 
 -- the headers of an event that is sent in a direction
 abbrev pub sent_headers : (P Q : List Header → Type 0) → Dir → List Header → Type 0
@@ -156,7 +155,7 @@ module _ (P Q : List Header → Type 0) (layer : LayerTree) (place : ℕ) (blank
       let keeps = slots_keep sorts slots row.numbers l small scope in
       let rows = h.0.rows in
       let it_is : Is P (sort_of it.1) (message_in it.1 (Some row)) = message_in_is P blank it.1 rows.items (Some row) stands.blank_is h.0.blanks h.0.sort
-          (subst (Where (IsRow P rows.items)) is (each_where (IsRow P rows.items) (rows_at s c i) 0 (rows_hold P layer s c i rows state h.0.listed))) in
+      (subst (Where (IsRow P rows.items)) is (each_where (IsRow P rows.items) (rows_at s c i) 0 (rows_hold P layer s c i rows state h.0.listed))) in
       record {
         numbers_are = keeps.numbers_are;
         messages_are = zip_set (Is P) sorts m.messages it.0 (sort_of it.1) (message_in it.1 (Some row)) keeps.messages_are it_is;

@@ -1,20 +1,18 @@
 -- The numbers of expressions are numbers, and messages have bodies and the headers of their sorts.
-use Rattle.std.proofs.Common.{◌≡◌, ℕ, zero, suc, ◌≤◌, Bool, true, false, List, [], ◌∷◌, ◌++◌, ◌+◌, length, map, Option, Some, None, refl, sym, ap, subst, arith}
-use Rattle.std.specs.Prelude.{nat_le, if◌then◌else◌, slice_get, slice_index, slice_index_or, option_map}
-use Rattle.std.specs.List.{AllByRecursion, AllZip}
+use Rattle.std.proofs.Common.{◌≡◌, ℕ, Bool, true, false, List, [], ◌++◌, ◌+◌, length, map, Option, Some, None, refl, sym, subst, arith}
+use Rattle.std.specs.Prelude.{nat_le, if◌then◌else◌, option_map}
+use Rattle.std.specs.List.{AllByRecursion}
 use Rattle.std.specs.Option.{option_map_or}
 use Rattle.msg_core.specs.Chain.{Content, plain}
-use Rattle.msg_core.specs.Parts as parts
 use Rattle.msg_core.specs.Parts.{longest_body}
 use Rattle.msg_core.specs.declared.message.Header.{Header}
 use Rattle.layer_ast.specs.declared.syntax.Sort.{Sort}
-use Rattle.layer_ast.specs.declared.syntax.Sort.TheVariants.{Int, Msg, Part}
 use Rattle.layer_mean.specs.declared.run.Row.{Row}
 use Rattle.layer_mean.specs.Tree.{Carried, part, whole, ItemsTree, ExpressionTree, number, me, count, ltime, local, element, square, rows, item, size, binary, apply, pick, MessageTree, message, nothing, held, cut, tail, join, LayerTree}
 use Rattle.layer_mean.specs.State.{State, flat_index, rows_at, row_at}
 use Rattle.layer_mean.specs.Value.{Scope, is_true, val, mval, missing, message_in}
-use Rattle.packet_mean.specs.ChainedState.{IsNumber, Numbers, IsBody, IsMessage, EndsWith, IsRow, IsState}
-use Rattle.chain_laws.specs.Typed.{Small, Queue, sort_of, HasBlank, Carries, Sorted}
+use Rattle.packet_mean.specs.ChainedState.{IsNumber, Numbers, IsBody, EndsWith, IsRow, IsState}
+use Rattle.chain_laws.specs.Typed.{Small, sort_of, HasBlank, Carries, Sorted}
 use Rattle.chain_laws.proofs.Lists.{Where, each_where, each_or, each_map, zip_at}
 use Rattle.chain_laws.proofs.Small.{applied_small, function_small, pick_small, no_body, body_number, cut_body, tail_body, join_body}
 use Rattle.chain_laws.proofs.Sorts.{HeadersOf, Is, same_kept, IsScope, Kept, kept, number_at_small, rows_at_kept, row_at_kept, number_in_small, message_in_body, rows_hold}

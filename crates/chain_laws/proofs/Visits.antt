@@ -1,19 +1,17 @@
 -- A visit keeps chains: the handler that is chosen, or what a missing one does.
-use Rattle.std.proofs.Common.{◌≡◌, ◌∙◌, ℕ, zero, suc, ◌<◌, ◌≤◌, Bool, true, false, List, [], ◌∷◌, ◌++◌, length, map, Option, Some, None, refl, sym, ap, subst, arith}
-use Rattle.std.specs.Prelude.{◌==◌, ◌&&◌, MatchBool, if◌then◌else◌, drop, replicate, slice_get, slice_index_or, option_to_list}
+use Rattle.std.proofs.Common.{◌≡◌, ℕ, zero, suc, ◌<◌, ◌≤◌, Bool, true, false, List, [], ◌∷◌, ◌++◌, map, Option, Some, None, refl, sym, ap, subst, arith}
+use Rattle.std.specs.Prelude.{◌==◌, ◌&&◌, MatchBool, if◌then◌else◌, drop, slice_get, slice_index_or, option_to_list}
 use Rattle.std.specs.List.{AllByRecursion, AllZip, find}
-use Rattle.std.specs.Option.{option_map_or}
 use Rattle.std.proofs.lemmas.Bool.{and_parts, eqb-true}
 use Rattle.std.proofs.Math.ListN.{length-replicate}
 use Rattle.std.proofs.lemmas.Option.{get_or_from_slice_get}
 use denote.Enum.Bare.{sameb, same_true}
 use Rattle.msg_core.specs.Chain.{Content, plain, pushed, popped, first_of}
-use Rattle.msg_core.specs.Parts.{longest_body}
 use Rattle.msg_core.specs.declared.message.Header.{Header}
 use Rattle.layer_ast.specs.contracts.tokens.Dir as dir_row
 use Rattle.layer_ast.specs.contracts.tokens.Kind as kind_row
 use Rattle.layer_ast.specs.declared.syntax.Sort.{Sort}
-use Rattle.layer_ast.specs.declared.syntax.Sort.TheVariants.{Int, Msg, Part}
+use Rattle.layer_ast.specs.declared.syntax.Sort.TheVariants.{Int}
 use Rattle.layer_ast.specs.declared.tokens.Dir.{Dir}
 use Rattle.layer_ast.specs.declared.tokens.Dir.TheVariants.{Up, Down}
 use Rattle.layer_ast.specs.declared.tokens.Kind.{Kind}
@@ -22,20 +20,19 @@ use Rattle.layer_mean.specs.declared.run.Event.{Event}
 use Rattle.layer_mean.specs.Event.{carries, arguments, arguments_for}
 use Rattle.layer_mean.specs.Headers.{declared, header_none}
 use Rattle.layer_mean.specs.Tree.{HeaderTree, Expected, always, common, rare, HandlerTree, Form, numbers, queue, queues, CellTree, LayerTree, no_layer}
-use Rattle.layer_mean.specs.State as state
-use Rattle.layer_mean.specs.State.{State, Contents, size_of}
+use Rattle.layer_mean.specs.State.{State, size_of}
 use Rattle.layer_mean.specs.Value.{Scope, is_true, val}
 use Rattle.layer_mean.specs.Effect.{usual, unusual, Outcome, decides, in_order, acts}
-use Rattle.layer_mean.specs.Visit.{no_scope, bare_state, fresh_cell, fresh, Met, behind, met, is_for, handler_for, with_room, entered, none_header, Visited, sent_on, unhandled, expecting, handled, step}
+use Rattle.layer_mean.specs.Visit.{no_scope, bare_state, fresh_cell, fresh, Met, behind, met, is_for, handler_for, entered, none_header, Visited, sent_on, unhandled, expecting, handled, step}
 use Rattle.packet_mean.specs.Chained.{IsChain}
-use Rattle.packet_mean.specs.ChainedState.{IsNumber, Numbers, IsBody, IsFrom, IsMessage, HoldsForm, IsState, IsChainedState, Brings, IsEvent, from_place, IsChainedEvent}
-use Rattle.chain_laws.specs.Typed.{Small, sort_under, TypedAll, met_sorts, sorts_of, TypedHandler, TypedForm, TypedLayer}
-use Rattle.chain_laws.specs.Visits.{StandsTyped, sent_place, IsChainedSent, StaysChained, VisitsKeepChains, FreshIsChained}
-use Rattle.chain_laws.proofs.Lists.{Where, there, some_and, where_is, each_append, each_so, each_same, each_room, zip_room}
+use Rattle.packet_mean.specs.ChainedState.{IsNumber, Numbers, IsBody, IsFrom, IsMessage, HoldsForm, IsState, Brings, IsEvent, IsChainedEvent}
+use Rattle.chain_laws.specs.Typed.{sort_under, met_sorts, sorts_of, TypedHandler, TypedForm, TypedLayer}
+use Rattle.chain_laws.specs.Visits.{IsChainedSent, VisitsKeepChains, FreshIsChained}
+use Rattle.chain_laws.proofs.Lists.{Where, there, some_and, each_append, each_so, each_same, each_room, zip_room}
 use Rattle.chain_laws.proofs.Small.{zero_small, no_body}
-use Rattle.chain_laws.proofs.Sorts.{HeadersOf, Is, IsScope, Kept}
+use Rattle.chain_laws.proofs.Sorts.{HeadersOf, Is, IsScope}
 use Rattle.chain_laws.proofs.Values.{val_small}
-use Rattle.chain_laws.proofs.Statements.{sent_headers, IsSent, Popped, Stands, KeepsAt, Keeps, block_keeps}
+use Rattle.chain_laws.proofs.Statements.{sent_headers, IsSent, Popped, Stands, Keeps, block_keeps}
 
 -- the headers with which an event comes in a direction
 abbrev pub come_headers : (P Q : List Header → Type 0) → Dir → List Header → Type 0
@@ -101,9 +98,13 @@ module _ (P Q : List Header → Type 0) (layer : LayerTree) (place : ℕ) (blank
       record {
         fields_are = p.fields;
         messages_are = rw p.declares (record { headers = p.behind; body = is }, tt);
-        passes = (refl, is, λ none.
-            let e : p.declaration ≡ header_none = cc (ap (λ tag. declared layer tag) none, p.declares) in
-            subst (λ (d : HeaderTree). HeadersOf P (sort_under d.ends) p.rest) e p.behind);
+        passes = (
+          refl,
+          is,
+          λ none.
+              let e : p.declaration ≡ header_none = cc (ap (λ tag. declared layer tag) none, p.declares) in
+              subst (λ (d : HeaderTree). HeadersOf P (sort_under d.ends) p.rest) e p.behind,
+        );
       }
 
   met_is : (dir : Dir) (b : Bool) (m : Option Content) → Brings (come_headers P Q dir) b m → IsMet P layer dir b (met dir m)
@@ -123,20 +124,26 @@ module _ (P Q : List Header → Type 0) (layer : LayerTree) (place : ℕ) (blank
   }
   unhandled_leaves s Down e m (Some c) state event passes = record {
     state = state;
-    sent = (with_other P Q e (Some (pushed (none_header place) c)) event (brings_some Q (carries e.kind) _ passes.0 (record {
-      headers = stands.push_is (none_header place) header_none c.headers refl refl refl tt passes.1.headers;
-      body = passes.1.body;
-    })), tt);
+    sent = (
+      with_other P Q e (Some (pushed (none_header place) c)) event (brings_some Q (carries e.kind) _ passes.0 (record {
+        headers = stands.push_is (none_header place) header_none c.headers refl refl refl tt passes.1.headers;
+        body = passes.1.body;
+      })),
+      tt,
+    );
   }
   unhandled_leaves s Up e m (Some c) state event passes = go (m.tag == 0) refl where
     go : (b : Bool) → (m.tag == 0) ≡ b →
         Leaves P Q layer (if b then sent_on s Up e (Some c) else record { state = s; sent = []; decided = unusual ∷ [] })
     go true is = record {
       state = state;
-      sent = (with_other Q P e (Some c) event (brings_some P (carries e.kind) c passes.0 (record {
-        headers = passes.2 (eqb-true m.tag 0 is);
-        body = passes.1;
-      })), tt);
+      sent = (
+        with_other Q P e (Some c) event (brings_some P (carries e.kind) c passes.0 (record {
+          headers = passes.2 (eqb-true m.tag 0 is);
+          body = passes.1;
+        })),
+        tt,
+      );
     }
     go false is = record { state = state; sent = tt }
 
@@ -267,14 +274,14 @@ form_fresh : (P : List Header → Type 0) (me n ltime : ℕ) (form : Form) → m
 form_fresh P me n ltime (numbers shape initial) below most small h = (
   length-replicate (size_of n shape) (val initial (bare_state me n ltime) no_scope),
   each_same IsNumber (size_of n shape) (val initial (bare_state me n ltime) no_scope)
-  (val_small (bare_state me n ltime) no_scope (record {
-    me = omega (arith, below, most);
-    count = omega (arith, most);
-    ltime = small;
-    cells = tt;
-    numbers_are = tt;
-    bodies = tt;
-  }) initial h),
+      (val_small (bare_state me n ltime) no_scope (record {
+        me = omega (arith, below, most);
+        count = omega (arith, most);
+        ltime = small;
+        cells = tt;
+        numbers_are = tt;
+        bodies = tt;
+      }) initial h),
 )
 form_fresh P me n ltime (queue capacity items) below most small h =
     (refl, (record { bounded = h; within = omega arith; rows_are = tt }, tt))

@@ -11,7 +11,7 @@ use Rattle.layer_ast.specs.declared.tokens.Dir.{Dir}
 use Rattle.layer_ast.specs.declared.tokens.Dir.TheVariants.{Up, Down}
 use Rattle.layer_mean.specs.Event.{carries}
 use Rattle.layer_mean.specs.Headers.{declared}
-use Rattle.layer_mean.specs.Tree.{Carried, part, whole, ExpressionTree, number, binary, pick, MessageTree, message, nothing, held, cut, tail, join, ContentTree, EmissionTree, RowTree, ItemsTree, Form, numbers, queue, queues, StatementTree, bind, assign, assign_square, push, take, branch, each, emit, StatementTrees, none, more, HandlerTree, LayerTree}
+use Rattle.layer_mean.specs.Tree.{Carried, part, whole, ExpressionTree, number, binary, pick, MessageTree, message, nothing, held, cut, tail, join, ContentTree, RowTree, ItemsTree, Form, numbers, queue, queues, StatementTree, bind, assign, assign_square, push, take, branch, each, emit, StatementTrees, none, more, HandlerTree, LayerTree}
 use Rattle.layer_mean.specs.Visit.{with_room}
 use Rattle.packet_mean.specs.ChainedState.{IsNumber}
 

@@ -1,5 +1,5 @@
 -- Visits of a typed layer keep chains.
-use Rattle.std.specs.Prelude.{◌≡◌, ℕ, suc, ◌<◌, ◌≤◌, List, slice_get, slice_index_or, Some}
+use Rattle.std.specs.Prelude.{◌≡◌, ℕ, suc, ◌<◌, ◌≤◌, List, slice_get, Some}
 use Rattle.std.specs.List.{AllByRecursion}
 use Rattle.msg_core.specs.declared.message.Header.{Header}
 use Rattle.msg_core.specs.View.{most_members}
@@ -9,7 +9,7 @@ use Rattle.layer_mean.specs.declared.run.Event.{Event}
 use Rattle.layer_mean.specs.Tree.{LayerTree}
 use Rattle.layer_mean.specs.State.{State}
 use Rattle.layer_mean.specs.Visit.{Visited, step, fresh}
-use Rattle.packet_mean.specs.ChainedState.{IsNumber, IsFrom, IsEvent, IsState, IsChainedState, IsChainedEvent}
+use Rattle.packet_mean.specs.ChainedState.{IsNumber, IsFrom, IsEvent, IsChainedState, IsChainedEvent}
 use Rattle.chain_laws.specs.Typed.{TypedLayer}
 
 -- A layer stands typed at a place of a stack, with these blank headers above, which are a chain from there.
