@@ -3,7 +3,7 @@ use Rattle.std.specs.Prelude.{ℕ, ◌+◌, Bool, true, false, List, [], ◌∷�
 use Rattle.std.specs.List.{find, filter, position}
 use Rattle.layer_ast.specs.declared.names.Name.{Name}
 use Rattle.layer_ast.specs.declared.names.Word.{Word}
-use Rattle.layer_ast.specs.Tree.{DeclarationTree, param, int, rows_cell, rows_array, header, LayerTree, NamesTree}
+use Rattle.layer_ast.specs.Tree.{DeclarationTree, param, int, rows_cell, rows_array, header, ItemTree, ItemsTree, LayerTree, NamesTree}
 
 -- The name that a declaration declares.
 abbrev pub declared_name : DeclarationTree → Name
@@ -54,3 +54,7 @@ header_tag layer word = option_map (λ k. k + 1) (position (declares word) (head
 abbrev pub names_in : Option NamesTree → List Name
 names_in None = []
 names_in (Some names) = names.first ∷ names.rest
+
+-- The items of a row.
+abbrev pub items_in : ItemsTree → List ItemTree
+items_in items = items.first ∷ items.rest

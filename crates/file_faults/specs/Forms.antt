@@ -1,5 +1,5 @@
 -- What a declared name may be used as.
-use Rattle.std.specs.Prelude.{Bool, true, false, List, [], ◌∷◌}
+use Rattle.std.specs.Prelude.{Bool, true, false, List, []}
 use Rattle.std.specs.Option.{option_map_or}
 use denote.Enum.Bare.{sameb}
 use Rattle.layer_ast.specs.contracts.syntax.Shape as shape_row
@@ -8,7 +8,7 @@ use Rattle.layer_ast.specs.declared.names.Word.{Word}
 use Rattle.layer_ast.specs.declared.syntax.Ending.TheVariants.{Ends}
 use Rattle.layer_ast.specs.declared.syntax.Shape.{Shape}
 use Rattle.layer_ast.specs.Tree.{DeclarationTree, int, rows_cell, rows_array, header, ItemTree, LayerTree, QueueTree, queue, queue_at}
-use Rattle.file_faults.specs.Declared.{declaration_of, names_in}
+use Rattle.file_faults.specs.Declared.{declaration_of, items_in, names_in}
 
 -- Whether a layer declares a word, as something of which a test holds.
 abbrev pub declared_as : (DeclarationTree → Bool) → LayerTree → Word → Bool
@@ -33,8 +33,8 @@ is_end _ = false
 
 -- The items of the rows that a declaration declares, and of the queue or array of queues of a word; other words have none.
 abbrev pub items_of : DeclarationTree → List ItemTree
-items_of (rows_cell at name capacity items) = items.first ∷ items.rest
-items_of (rows_array at name capacity items) = items.first ∷ items.rest
+items_of (rows_cell at name capacity items) = items_in items
+items_of (rows_array at name capacity items) = items_in items
 items_of _ = []
 
 abbrev pub row_of : LayerTree → Word → List ItemTree

@@ -33,7 +33,3 @@ arguments_of Send = a_number ∷ a_message ∷ []
 arguments_of Stable = a_number ∷ a_number ∷ []
 arguments_of Ack = a_number ∷ a_number ∷ []
 arguments_of _ = a_number ∷ []
-
--- Whether events of a kind have a message.
-abbrev pub has_message : Kind → Bool
-has_message kind = list_any (λ wanted. allows wanted Msg) (arguments_of kind)

@@ -48,4 +48,4 @@ number_outside most (sized name) = []
 -- Whether a size is, at a place of the stack, within its limit as far as it is a param of the layer.
 abbrev pub is_within_at : LayerTree → PlaceTree → SizeTree → ℕ → Bool
 is_within_at layer place (fixed at number) most = true
-is_within_at layer place (sized name) most = option_map_or (is_within most) (param_value layer place name.word) true
+is_within_at layer place (sized name) most = option_map_or (is_within most) (param_value layer place.given name.word) true

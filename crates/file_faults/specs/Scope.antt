@@ -1,7 +1,7 @@
 -- Which names are visible where: a layer's own names everywhere in it, a handler's names in its condition and block, and a local
 -- from its declaration to the end of its block.
-use Rattle.std.specs.Prelude.{Bool, if◌then◌else◌, List, [], ◌∷◌, ◌++◌, map, flat_map, bytes_eq, Option, Some, slice_index_or}
-use Rattle.std.specs.List.{list_any, enumerate_from}
+use Rattle.std.specs.Prelude.{Bool, if◌then◌else◌, List, [], ◌∷◌, ◌++◌, map, flat_map, bytes_eq, Option, Some}
+use Rattle.std.specs.List.{list_any}
 use Rattle.std.specs.Option.{option_map_or}
 use Rattle.layer_ast.specs.declared.names.Name.{Name}
 use Rattle.layer_ast.specs.declared.names.Word.{Word}
@@ -35,7 +35,9 @@ is_visible scope word = list_any (λ name. bytes_eq name.word word) (visible sco
 
 -- Names as locals of these sorts in order; further names are numbers.
 abbrev pub locals_as : List Sort → List Name → List Local
-locals_as sorts names = map (λ x. record { name = x.1; sort = slice_index_or sorts x.0 Int }) (enumerate_from 0 names)
+locals_as sorts [] = []
+locals_as [] (name ∷ names) = record { name = name; sort = Int } ∷ locals_as [] names
+locals_as (sort ∷ sorts) (name ∷ names) = record { name = name; sort = sort } ∷ locals_as sorts names
 
 -- A scope with further locals.
 abbrev pub with_locals : Scope → List Local → Scope

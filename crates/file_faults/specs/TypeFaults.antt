@@ -11,10 +11,11 @@ use Rattle.layer_ast.specs.declared.tokens.Dir.{Dir}
 use Rattle.layer_ast.specs.declared.tokens.Dir.TheVariants.{Up, Down}
 use Rattle.layer_ast.specs.declared.tokens.Kind.{Kind}
 use Rattle.layer_ast.specs.Tree.{ExpressionTree, QueueTree, ArgumentTree, PushedTree, SizeTree, fixed, sized, StatementTree, bind, set, set_square, push, take, when, choose, each, emit, Expected, common, HandlerTree, DeclarationTree, int, rows_cell, rows_array, LayerTree, FileTree}
+use Rattle.layer_mean.specs.Event.{carries}
 use Rattle.file_faults.specs.Declared.{is_header, is_param, names_in}
 use Rattle.file_faults.specs.Earliest.{earliest, unless}
 use Rattle.file_faults.specs.Forms.{declared_as, fields_of, is_end, is_numbers, queue_name, row_of}
-use Rattle.file_faults.specs.Kinds.{a_number, arguments_of, has_message}
+use Rattle.file_faults.specs.Kinds.{a_number, arguments_of}
 use Rattle.file_faults.specs.Places.{faults_of_layers}
 use Rattle.file_faults.specs.Scope.{Scope, handler_statements, head_scope, layer_scope, popped_names}
 use Rattle.file_faults.specs.Sorts.{argument_sort, expression_at, is_initial, size_at}
@@ -59,7 +60,7 @@ with_faults layer at name fields allowed =
 -- The faults of the header that an emission puts on.
 abbrev pub pushed_faults : Scope → At → Dir → Kind → PushedTree → List TypeFault
 pushed_faults scope at dir event pushed =
-    with_faults scope.layer at pushed.name (length (arguments_in pushed.fields)) (pushes dir && has_message event)
+    with_faults scope.layer at pushed.name (length (arguments_in pushed.fields)) (pushes dir && carries event)
     ++ flat_map (argument_faults scope a_number) (arguments_in pushed.fields)
 
 -- Whether the header that an emission puts on ends; without `with` it is the one that every layer has, which passes.
@@ -69,7 +70,7 @@ ends_with layer pushed = option_map_or (λ p. declared_as is_end layer p.name.wo
 -- The sort of the message of an emission, where it has one and it is known.
 abbrev pub sent_sort : Scope → Kind → List ArgumentTree → Option Sort
 sent_sort scope event arguments =
-    if has_message event then option_and_then (argument_sort scope) (slice_get arguments 1) else None
+    if carries event then option_and_then (argument_sort scope) (slice_get arguments 1) else None
 
 -- The faults of an emission.
 abbrev pub emission_faults : Scope → At → Dir → Kind → List ArgumentTree → Option PushedTree → List TypeFault
@@ -117,7 +118,7 @@ expected_type_faults scope _ = []
 
 -- Whether a handler may take a header off: on the way up, with a message.
 abbrev pub takes_off : HandlerTree → Bool
-takes_off handler = not (pushes handler.direction) && has_message handler.kind
+takes_off handler = not (pushes handler.direction) && carries handler.kind
 
 -- The faults of a handler.
 abbrev pub handler_type_faults : LayerTree → HandlerTree → List TypeFault

@@ -1,23 +1,19 @@
 -- The layer that a layer of a file is at a place of its stack.
-use Rattle.std.specs.Prelude.{ℕ, ◌-◌, List, [], ◌++◌, map, length, filter_map, Bool, true, false, is_some, Option, Some, None, option_to_list}
+use Rattle.std.specs.Prelude.{ℕ, ◌-◌, List, ◌++◌, map, length, filter_map, is_some, Option, Some, None, option_to_list}
 use Rattle.std.specs.Option.{option_map_or, option_zip}
-use Rattle.layer_ast.specs.declared.names.Name.{Name}
-use Rattle.layer_ast.specs.declared.syntax.Ending.{Ending}
-use Rattle.layer_ast.specs.declared.syntax.Ending.TheVariants.{Passes, Ends}
 use Rattle.layer_ast.specs.Tree as ast
 use Rattle.layer_mean.specs.Event.{carries}
 use Rattle.layer_mean.specs.Tree.{number, Expected, always, common, rare, HandlerTree, ItemsTree, numbers, queue, queues, CellTree, HeaderTree, LayerTree}
-use Rattle.file_faults.specs.Declared.{names_in}
-use Rattle.file_mean.specs.Names.{Placed, Names, own_names, with_numbers, with_messages, tag_of, size_value, numbers_among, message_among, items_in, carried_in}
+use Rattle.file_faults.specs.Declared.{items_in, names_in}
+use Rattle.file_faults.specs.Forms.{is_end}
+use Rattle.file_faults.specs.Scope.{popped_names}
+use Rattle.file_mean.specs.Names.{Placed, Names, own_names, with_numbers, with_messages, tag_of, size_value, numbers_among, message_among, carried_in}
 use Rattle.file_mean.specs.Values.{number_of}
 use Rattle.file_mean.specs.Statements.{behind_all, statements_of}
 
--- The header that a handler takes off, by its tag and the names of its fields: without one it is `none`, which has tag 0.
+-- The header that a handler takes off, by its tag: without one it is `none`, which has tag 0.
 abbrev pub popped_tag : Placed → Option ast.PoppedTree → ℕ
 popped_tag p popped = option_map_or (λ h. tag_of p h.name) popped 0
-
-abbrev pub popped_names : Option ast.PoppedTree → List Name
-popped_names popped = option_map_or (λ h. names_in h.fields) popped []
 
 -- The names that a handler brings: its event's numbers, then the fields of the header that it takes off, and its message.
 abbrev pub handler_names : Placed → ast.HandlerTree → Names
@@ -67,15 +63,10 @@ cell_in p (ast.rows_array at name capacity items) =
     Some (record { name = name.word; form = queues (size_value p capacity) (row_items p (items_in items)) })
 cell_in p _ = None
 
--- Whether a header closes the chain.
-abbrev pub is_end : Ending → Bool
-is_end Passes = false
-is_end Ends = true
-
 -- The header that a declaration declares, if it does.
 abbrev pub header_in : ast.DeclarationTree → Option HeaderTree
 header_in (ast.header at name fields ending) =
-    Some (record { name = name.word; fields = length (names_in fields); ends = is_end ending })
+    Some (record { name = name.word; fields = length (names_in fields); ends = is_end (ast.header at name fields ending) })
 header_in _ = None
 
 -- A layer at its place: cells and headers in the order of their declarations, and its handlers.

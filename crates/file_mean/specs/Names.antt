@@ -1,16 +1,17 @@
 -- What the names of a layer file stand for: params and cells of a layer at a place, and the slots of what a handler declares.
-use Rattle.std.specs.Prelude.{ℕ, ◌+◌, ◌-◌, List, [], ◌∷◌, ◌++◌, map, take, length, zip, find, Bool, true, false, bytes_eq, Option, Some, None, option_map, option_and_then, unwrap_or}
+use Rattle.std.specs.Prelude.{ℕ, ◌+◌, ◌-◌, List, [], ◌++◌, map, take, length, zip, Bool, true, false, bytes_eq, Option, Some, None, option_and_then, unwrap_or}
 use Rattle.std.specs.List.{last_or, position, range_with_len}
 use Rattle.std.specs.Map.{lookup}
-use Rattle.std.specs.Option.{option_or, option_map_or}
+use Rattle.std.specs.Option.{option_map_or}
 use Rattle.msg_core.specs.declared.message.Header.{Header}
 use Rattle.layer_ast.specs.declared.names.Name.{Name}
 use Rattle.layer_ast.specs.declared.names.Word.{Word}
 use Rattle.layer_ast.specs.declared.syntax.Sort.{Sort}
 use Rattle.layer_ast.specs.declared.syntax.Sort.TheVariants.{Int, Msg, Part}
-use Rattle.layer_ast.specs.Tree.{DeclarationTree, param, rows_cell, rows_array, ItemTree, ItemsTree, LayerTree, GivenTree, SizeTree, fixed, sized}
+use Rattle.layer_ast.specs.Tree.{DeclarationTree, rows_cell, rows_array, ItemTree, LayerTree, GivenTree, SizeTree, fixed, sized}
 use Rattle.layer_mean.specs.Tree.{Carried, part, whole}
 use Rattle.file_faults.specs.Declared.{declaration_of, cell_number, header_tag}
+use Rattle.file_faults.specs.Places.{param_value}
 
 -- A layer at a place of a stack, with the params that the place gives and the header `none` of each place above, lowest first.
 pub record Placed : Type 0 where
@@ -18,23 +19,10 @@ pub record Placed : Type 0 where
   pub given : List GivenTree
   pub blank : List Header
 
--- The value that a param is declared with.
-abbrev pub declared_value : DeclarationTree → Option ℕ
-declared_value (param at name value) = Some value
-declared_value _ = None
-
--- The value that a place gives a param.
-abbrev pub given_value : List GivenTree → Word → Option ℕ
-given_value given word = option_map (λ g. g.value) (find (λ g. bytes_eq g.name.word word) given)
-
--- The value of a param: what the place gives, or else the declared one.
-abbrev pub param_value : Placed → Word → Option ℕ
-param_value p word = option_or (given_value p.given word) (option_and_then declared_value (declaration_of p.layer word))
-
 -- The value of a size: a number, or that of a param.
 abbrev pub size_value : Placed → SizeTree → ℕ
 size_value p (fixed at value) = value
-size_value p (sized name) = unwrap_or (param_value p name.word) 0
+size_value p (sized name) = unwrap_or (param_value p.layer p.given name.word) 0
 
 -- The number of the cell of a name, and the tag of its header.
 abbrev pub cell_of : Placed → Name → ℕ
@@ -43,23 +31,11 @@ cell_of p name = unwrap_or (cell_number p.layer name.word) 0
 abbrev pub tag_of : Placed → Name → ℕ
 tag_of p name = unwrap_or (header_tag p.layer name.word) 0
 
--- The items of a row.
-abbrev pub items_in : ItemsTree → List ItemTree
-items_in items = items.first ∷ items.rest
-
--- The items of the rows of a queue, and its capacity; what is no queue has none.
-abbrev pub items_declared : DeclarationTree → List ItemTree
-items_declared (rows_cell at name capacity items) = items_in items
-items_declared (rows_array at name capacity items) = items_in items
-items_declared _ = []
-
+-- The capacity of a queue; what is no queue has none.
 abbrev pub capacity_declared : Placed → DeclarationTree → ℕ
 capacity_declared p (rows_cell at name capacity items) = size_value p capacity
 capacity_declared p (rows_array at name capacity items) = size_value p capacity
 capacity_declared p _ = 0
-
-abbrev pub items_of : Placed → Name → List ItemTree
-items_of p queue = option_map_or items_declared (declaration_of p.layer queue.word) []
 
 abbrev pub capacity_of : Placed → Name → ℕ
 capacity_of p queue = option_map_or (capacity_declared p) (declaration_of p.layer queue.word) 0

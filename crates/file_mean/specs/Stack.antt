@@ -1,17 +1,13 @@
 -- The stack that a file means.
-use Rattle.std.specs.Prelude.{ℕ, ◌+◌, ◌-◌, List, ◌++◌, map, length, find, bytes_eq, Option}
+use Rattle.std.specs.Prelude.{ℕ, ◌+◌, ◌-◌, List, map, length}
 use Rattle.std.specs.List.{enumerate_from, range_with_len}
 use Rattle.std.specs.Option.{option_map_or}
 use Rattle.msg_core.specs.declared.message.Header.{Header}
-use Rattle.layer_ast.specs.declared.names.Word.{Word}
 use Rattle.layer_ast.specs.Tree as ast
 use Rattle.layer_mean.specs.Tree.{LayerTree, no_layer}
 use Rattle.layer_mean.specs.Visit.{none_header}
+use Rattle.file_faults.specs.Places.{layer_at}
 use Rattle.file_mean.specs.Layers.{layer_of}
-
--- The layer that a place names: one of the file, or else one that the library brings.
-abbrev pub layer_named : ast.FileTree → Word → Option ast.LayerTree
-layer_named file word = find (λ layer. bytes_eq layer.name.word word) (file.layers ++ file.library)
 
 -- The header `none` of each place above the one of this number, of so many places, the lowest first.
 abbrev pub blank_above : ℕ → ℕ → List Header
@@ -25,7 +21,7 @@ placed_layer file number place = option_map_or
       given = place.given;
       blank = blank_above number (length file.places);
     }))
-    (layer_named file place.name.word) no_layer
+    (layer_at file place) no_layer
 
 -- The stack that a file means: the layer at each place, lowest first. (Of a file with a fault of names or types it says nothing
 -- that is used.)

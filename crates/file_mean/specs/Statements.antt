@@ -1,5 +1,5 @@
 -- Statements of a layer file with numbers for names.
-use Rattle.std.specs.Prelude.{ℕ, List, [], ◌∷◌, map, length, is_some, Option, Some, None, option_map, option_to_list}
+use Rattle.std.specs.Prelude.{ℕ, List, [], ◌∷◌, map, length, is_some, Option, Some, option_map, option_to_list}
 use Rattle.std.specs.List.{range_with_len}
 use Rattle.std.specs.Option.{option_map_or}
 use Rattle.layer_ast.specs.declared.names.Name.{Name}
@@ -9,13 +9,10 @@ use Rattle.layer_ast.specs.Tree as ast
 use Rattle.layer_mean.specs.Event.{carries}
 use Rattle.layer_mean.specs.Tree.{ExpressionTree, number, EmissionTree, RowTree, TakenTree, StatementTree, bind, assign, assign_square, push, take, branch, each, emit, StatementTrees, none, more}
 use Rattle.file_faults.specs.Declared.{names_in}
+use Rattle.file_faults.specs.Forms.{queue_name}
+use Rattle.file_faults.specs.Uses.{arguments_in}
 use Rattle.file_mean.specs.Names.{Names, cell_of, tag_of, capacity_of, size_value, numbers_among, message_among, with_numbers, with_messages}
-use Rattle.file_mean.specs.Values.{number_of, queue_name, queue_carries, queue_cell, queue_index, argument_number, argument_message}
-
--- The arguments of a list that may be missing.
-abbrev pub arguments_in : Option ast.ArgumentsTree → List ast.ArgumentTree
-arguments_in None = []
-arguments_in (Some arguments) = arguments.first ∷ arguments.rest
+use Rattle.file_mean.specs.Values.{number_of, queue_carries, queue_cell, queue_index, argument_number, argument_message}
 
 -- The tag and the fields of the header that an emission puts on: without one it is `none`, which has tag 0.
 abbrev pub pushed_tag : Names → Option ast.PushedTree → ℕ

@@ -1,25 +1,25 @@
 -- Expressions and messages of a layer file with numbers for names.
-use Rattle.std.specs.Prelude.{ℕ, Option, option_map, unwrap_or}
+use Rattle.std.specs.Prelude.{ℕ, List, Option, option_map, unwrap_or}
 use Rattle.std.specs.Option.{option_or}
 use Rattle.layer_ast.specs.declared.names.Name.{Name}
 use Rattle.layer_ast.specs.Tree as ast
 use Rattle.layer_mean.specs.Tree.{Carried, part, ExpressionTree, number, me, count, ltime, local, element, square, rows, item, size, binary, apply, pick, MessageTree, message, nothing, held, cut, tail, join}
-use Rattle.file_mean.specs.Names.{Names, param_value, cell_of, items_of, carried_in, item_number, number_slot, message_slot}
+use Rattle.file_faults.specs.Forms.{queue_name, row_of}
+use Rattle.file_faults.specs.Places.{param_value}
+use Rattle.file_mean.specs.Names.{Names, cell_of, carried_in, item_number, number_slot, message_slot}
 
 -- The number of a name: one that the handler declares, the value of a param, or a cell of one number.
 abbrev pub named_number : Names → Name → ExpressionTree
 named_number names name = unwrap_or
-    (option_or (option_map local (number_slot names name)) (option_map number (param_value names.place name.word)))
+    (option_or (option_map local (number_slot names name)) (option_map number (param_value names.place.layer names.place.given name.word)))
     (element (cell_of names.place name) (number 0))
 
--- The name of a queue; its rows' items are declared with it.
-abbrev pub queue_name : ast.QueueTree → Name
-queue_name (ast.queue name) = name
-queue_name (ast.queue_at name index) = name
+-- The items of the rows of a queue, and what these rows carry.
+abbrev pub queue_row : Names → ast.QueueTree → List ast.ItemTree
+queue_row names q = row_of names.place.layer (queue_name q).word
 
--- What the rows of a queue carry.
 abbrev pub queue_carries : Names → ast.QueueTree → Option Carried
-queue_carries names q = carried_in names.place (items_of names.place (queue_name q))
+queue_carries names q = carried_in names.place (queue_row names q)
 
 abbrev pub queue_cell : Names → ast.QueueTree → ℕ
 queue_cell names q = cell_of names.place (queue_name q)
@@ -37,7 +37,7 @@ abbrev mutual
       square (cell_of names.place name) (number_of names row) (number_of names column)
   number_of names (ast.rows at q) = rows (queue_cell names q) (queue_index names q)
   number_of names (ast.item at q row label) = item (queue_cell names q) (queue_index names q) (number_of names row)
-      (item_number (items_of names.place (queue_name q)) label)
+      (item_number (queue_row names q) label)
   number_of names (ast.size at m) = size (message_of names m)
   number_of names (ast.binary at left operator right) = binary operator (number_of names left) (number_of names right)
   number_of names (ast.apply at function operand) = apply function (number_of names operand)
