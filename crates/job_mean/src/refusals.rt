@@ -9,6 +9,7 @@ pub fn refuse_by_clap()
     ensures fourth_word { job_of_words (codes "replay" ∷ codes "a" ∷ codes "b" ∷ codes "c" ∷ []) ≡ None }
     ensures option_twice { job_of_words (codes "replay" ∷ codes "a" ∷ codes "b" ∷ codes "--run=layered" ∷ codes "--run=layered" ∷ []) ≡ None }
     ensures flag_twice { job_of_words (codes "replay" ∷ codes "a" ∷ codes "b" ∷ codes "--wire" ∷ codes "--wire" ∷ []) ≡ None }
+    ensures raw_twice { job_of_words (codes "load" ∷ codes "a" ∷ codes "--seed=1" ∷ codes "--events=1" ∷ codes "--members=1" ∷ codes "--raw" ∷ codes "--raw" ∷ []) ≡ None }
     ensures flag_with_a_value { job_of_words (codes "replay" ∷ codes "a" ∷ codes "b" ∷ codes "--wire=true" ∷ []) ≡ None }
     ensures short { job_of_words (codes "replay" ∷ codes "a" ∷ codes "b" ∷ codes "-w" ∷ []) ≡ None }
     ensures unknown { job_of_words (codes "check" ∷ codes "a" ∷ codes "--fast" ∷ []) ≡ None }
@@ -33,6 +34,9 @@ pub fn refuse_by_job()
     ensures seed_for_replay { job_of_words (codes "replay" ∷ codes "a" ∷ codes "b" ∷ codes "--seed=1" ∷ []) ≡ None }
     ensures script_for_load { job_of_words (codes "load" ∷ codes "a" ∷ codes "b" ∷ codes "--seed=1" ∷ codes "--events=1" ∷ codes "--members=1" ∷ []) ≡ None }
     ensures no_seed { job_of_words (codes "load" ∷ codes "a" ∷ codes "--events=1" ∷ codes "--members=1" ∷ []) ≡ None }
+    ensures raw_for_replay { job_of_words (codes "replay" ∷ codes "a" ∷ codes "b" ∷ codes "--raw" ∷ []) ≡ None }
+    ensures raw_for_node { job_of_words (codes "node" ∷ codes "a" ∷ codes "b" ∷ codes "--turns=1" ∷ codes "--me=0" ∷ codes "--raw" ∷ []) ≡ None }
+    ensures patience_for_load { job_of_words (codes "load" ∷ codes "a" ∷ codes "--seed=1" ∷ codes "--events=1" ∷ codes "--members=1" ∷ codes "--patience=1" ∷ []) ≡ None }
     ensures wire_for_node { job_of_words (codes "node" ∷ codes "a" ∷ codes "b" ∷ codes "--turns=1" ∷ codes "--me=0" ∷ codes "--wire" ∷ []) ≡ None }
 {}
 
@@ -46,6 +50,8 @@ pub fn refuse_numbers()
     ensures no_members { job_of_words (codes "load" ∷ codes "a" ∷ codes "--seed=1" ∷ codes "--events=1" ∷ codes "--members=0" ∷ []) ≡ None }
     ensures many_members { job_of_words (codes "load" ∷ codes "a" ∷ codes "--seed=1" ∷ codes "--events=1" ∷ codes "--members=33" ∷ []) ≡ None }
     ensures many_turns { job_of_words (codes "node" ∷ codes "a" ∷ codes "b" ∷ codes "--turns=1000001" ∷ codes "--me=0" ∷ []) ≡ None }
+    ensures much_patience { job_of_words (codes "node" ∷ codes "a" ∷ codes "b" ∷ codes "--turns=1" ∷ codes "--me=0" ∷ codes "--patience=1001" ∷ []) ≡ None }
+    ensures no_patience { job_of_words (codes "node" ∷ codes "a" ∷ codes "b" ∷ codes "--turns=1" ∷ codes "--me=0" ∷ codes "--patience=" ∷ []) ≡ None }
     ensures large_member { job_of_words (codes "node" ∷ codes "a" ∷ codes "b" ∷ codes "--turns=1" ∷ codes "--me=32" ∷ []) ≡ None }
     ensures no_member { job_of_words (codes "node" ∷ codes "a" ∷ codes "b" ∷ codes "--turns=1" ∷ codes "--me=" ∷ []) ≡ None }
     ensures member_twice { job_of_words (codes "node" ∷ codes "a" ∷ codes "b" ∷ codes "--turns=1" ∷ codes "--me=1,1" ∷ []) ≡ None }

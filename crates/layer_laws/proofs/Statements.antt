@@ -1,7 +1,7 @@
 -- Statements whose tokens go together are the same, and what follows them goes together too.
 use Rattle.std.proofs.Common.{◌≡◌, List, ◌∷◌, Option, Some, None, refl, sym, ap, subst}
 use Rattle.layer_ast.specs.declared.syntax.Likely.{Likely}
-use Rattle.layer_ast.specs.declared.syntax.Likely.TheVariants.{First, Else}
+use Rattle.layer_ast.specs.declared.syntax.Likely.TheVariants.{First, Else, Two}
 use Rattle.layer_ast.specs.declared.tokens.Sign.TheVariants as sign
 use Rattle.layer_ast.specs.Print as print
 use Rattle.layer_ast.specs.Printed.{Printed, plain}
@@ -43,7 +43,7 @@ square_no_index None v i j w k l h = cc h.0
 square_no_index (Some a) v i j w k l (_, _, h) =
     let r = expression_once i a (column j w k) (plain sign.RightBracket ∷ assign v l) tt tt h in cc r.1.2.0
 
--- a condition that is predicted not to hold isn't one that is predicted to hold
+-- conditions that are predicted otherwise are other conditions
 likely_once : (a b : Likely) (c d : ExpressionTree) (k l : List Printed) →
     Together (print.likely a (print.expression c (plain sign.LeftBrace ∷ k)))
     (print.likely b (print.expression d (plain sign.LeftBrace ∷ l))) →
@@ -52,14 +52,26 @@ likely_once First First c d k l h =
     let r = expression_once c d (plain sign.LeftBrace ∷ k) (plain sign.LeftBrace ∷ l) tt tt h in (refl, r.0, r.1.2)
 likely_once Else Else c d k l (_, _, h) =
     let r = expression_once c d (plain sign.LeftBrace ∷ k) (plain sign.LeftBrace ∷ l) tt tt h in (refl, r.0, r.1.2)
+likely_once Two Two c d k l (_, _, h) =
+    let r = expression_once c d (plain sign.LeftBrace ∷ k) (plain sign.LeftBrace ∷ l) tt tt h in (refl, r.0, r.1.2)
 likely_once First Else c d k l h =
     let below = print.expression d (plain sign.LeftBrace ∷ l) in
     let above = print.expression c (plain sign.LeftBrace ∷ k) in
     absurd (cc (begins_together above (plain sign.Rare ∷ below) h, expression_begins c (plain sign.LeftBrace ∷ k)))
+likely_once First Two c d k l h =
+    let below = print.expression d (plain sign.LeftBrace ∷ l) in
+    let above = print.expression c (plain sign.LeftBrace ∷ k) in
+    absurd (cc (begins_together above (plain sign.Two ∷ below) h, expression_begins c (plain sign.LeftBrace ∷ k)))
 likely_once Else First c d k l h =
     let below = print.expression d (plain sign.LeftBrace ∷ l) in
     let above = print.expression c (plain sign.LeftBrace ∷ k) in
     absurd (cc (begins_together (plain sign.Rare ∷ above) below h, expression_begins d (plain sign.LeftBrace ∷ l)))
+likely_once Two First c d k l h =
+    let below = print.expression d (plain sign.LeftBrace ∷ l) in
+    let above = print.expression c (plain sign.LeftBrace ∷ k) in
+    absurd (cc (begins_together (plain sign.Two ∷ above) below h, expression_begins d (plain sign.LeftBrace ∷ l)))
+likely_once Else Two c d k l h = absurd (cc h.0)
+likely_once Two Else c d k l h = absurd (cc h.0)
 
 -- what follows a statement isn't an other way, where it is a statement or a brace
 over : (s : StatementTrees) (k : List Printed) → Over (print.statements s (plain sign.RightBrace ∷ k))

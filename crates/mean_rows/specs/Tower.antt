@@ -7,6 +7,7 @@ use Rattle.layer_ast.specs.declared.tokens.Dir.TheVariants.{Up, Down}
 use Rattle.layer_ast.specs.declared.tokens.Kind.TheVariants.{Cast}
 use Rattle.layer_ast.specs.declared.syntax.Likely.TheVariants as likely
 use Rattle.layer_ast.specs.declared.syntax.Operator.TheVariants.{Add, Equal}
+use Rattle.layer_mean.specs.declared.run.Case.{Case}
 use Rattle.layer_mean.specs.declared.run.Event.{Event}
 use Rattle.layer_mean.specs.Tree.{number, me, local, element, binary, assign, emit, branch, always, common, LayerTree}
 use Rattle.layer_mean.specs.Visit.{fresh}
@@ -78,11 +79,11 @@ delivery = (Up, cast 0 (plain (codes "a")))
 abbrev pub packet : List Header → Dir × Event
 packet headers = (Down, cast 0 (record { headers = headers; body = codes "a" }))
 
--- The outputs of a cast at the member of rank 0 of 2, how many visits it took, and whether it went as predicted.
+-- The outputs of a cast at the member of rank 0 of 2, how many visits it took, and that it went as predicted in both cases.
 abbrev pub Casts : List LayerTree → ℕ → List (Dir × Event) → ℕ → Type 0
 Casts stack places outs visits =
     let w = (run 65536 stack (map (λ layer. fresh layer 0 2 0) stack) (cast_at places)).world in
-    (w.outs ≡ outs) × (w.visits ≡ visits) × (is_predicted w ≡ true)
+    (w.outs ≡ outs) × (w.visits ≡ visits) × ((case : Case) → is_predicted case w ≡ true)
 
 -- With three places the packet leaves first, since it is as far from its edge as the delivery and was sent before it; with four it
 -- comes later.

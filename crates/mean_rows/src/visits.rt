@@ -5,6 +5,7 @@ ghost use Rattle.mean_rows.specs.Counter.{GivenTwice};
 ghost use Rattle.mean_rows.specs.Alias.{ThreeCasts};
 ghost use Rattle.mean_rows.specs.Keeper.{TwoCasts};
 ghost use Rattle.mean_rows.specs.Tower.{SplitCasts};
+ghost use Rattle.mean_rows.specs.Fork.{Forks};
 ghost use Rattle.mean_rows.specs.Values.{Computes, Cuts, Joins, OutsideArrays, OutsideQueues, Tails};
 ghost use Rattle.mean_rows.specs.Missing.{Loops, Unhandled};
 
@@ -21,6 +22,11 @@ pub fn three_casts()
 /// Two casts through a layer whose queue has room for one row.
 pub fn two_casts()
     ensures { TwoCasts }
+{}
+
+/// Casts through a layer with two common cases.
+pub fn forks()
+    ensures { Forks }
 {}
 
 /// Casts that split: the order of their outputs in two stacks.

@@ -4,7 +4,8 @@ use Rattle.std.specs.Prelude.{flat_map, MatchBool, IsSomeAnd, if◌then◌else�
 use Rattle.std.proofs.lemmas.List.{append_assoc}
 use Rattle.msg_core.specs.declared.message.Header.{Header}
 use Rattle.layer_mean.specs.Tree.{LayerTree}
-use Rattle.packet_mean.specs.Chained.{declared, IsChain}
+use Rattle.layer_mean.specs.Headers.{declared}
+use Rattle.packet_mean.specs.Chained.{IsChain}
 use Rattle.packet_mean.specs.Spelling.{number_bytes, header_bytes}
 use Rattle.packet_mean.specs.Reading.{given, numbers, chain}
 use Rattle.packet_laws.proofs.Each.{Each, Numbers, Bytes}

@@ -6,7 +6,8 @@ use Rattle.msg_core.specs.Chain.{Content, first_of, popped}
 use Rattle.msg_core.specs.Parts.{longest_body}
 use Rattle.msg_core.specs.declared.message.Header.{Header}
 use Rattle.layer_mean.specs.Tree.{HeaderTree, LayerTree}
-use Rattle.packet_mean.specs.Chained.{declared, IsChain, IsChained}
+use Rattle.layer_mean.specs.Headers.{declared}
+use Rattle.packet_mean.specs.Chained.{IsChain, IsChained}
 use Rattle.packet_laws.specs.Chains.{IsOf, GoesOn, PushedIsChained, PoppedGoesOn, NoneAboveTheTop}
 use Rattle.packet_laws.proofs.Chains.{there, some_and}
 use Rattle.packet_laws.proofs.Numbers.{same_read}

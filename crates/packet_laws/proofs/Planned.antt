@@ -7,7 +7,8 @@ use Rattle.std.proofs.Math.Seq.{take-append_seam, drop-append_seam}
 use Rattle.std.proofs.lemmas.Nat.{from_be_bytes-to_be_bytes_4}
 use Rattle.msg_core.specs.declared.message.Header.{Header}
 use Rattle.layer_mean.specs.Tree.{LayerTree}
-use Rattle.packet_mean.specs.Chained.{declared, IsChain}
+use Rattle.layer_mean.specs.Headers.{declared}
+use Rattle.packet_mean.specs.Chained.{IsChain}
 use Rattle.packet_mean.specs.Plan.{agree, variable}
 use Rattle.packet_mean.specs.Spelling.{number_bytes}
 use Rattle.packet_mean.specs.Reading.{known, number, planned, first, dealt}

@@ -4,7 +4,8 @@ use Rattle.msg_core.specs.Chain.{Content, first_of, popped, pushed}
 use Rattle.msg_core.specs.Parts.{longest_body}
 use Rattle.msg_core.specs.declared.message.Header.{Header}
 use Rattle.layer_mean.specs.Tree.{HeaderTree, LayerTree}
-use Rattle.packet_mean.specs.Chained.{declared, IsChained}
+use Rattle.layer_mean.specs.Headers.{declared}
+use Rattle.packet_mean.specs.Chained.{IsChained}
 
 -- A header is one that the layer of a place declares so.
 pub record IsOf (layer : LayerTree) (place : ℕ) (h : Header) (d : HeaderTree) : Type 0 where

@@ -4,6 +4,7 @@ pub mod Refusals
 pub mod Towers
 pub mod Alias
 pub mod Leaving
+pub mod Flips
 pub mod Generated
 pub mod Views
 pub mod States

@@ -7,8 +7,9 @@ ghost use Rattle.run_rows.specs.Towers.{FourPlaces, ThreePlaces};
 ghost use Rattle.run_rows.specs.Alias.{ThreeCasts};
 ghost use Rattle.run_rows.specs.Leaving.{Keeps, Leaves};
 ghost use Rattle.run_rows.specs.Fragments.{JoinsPieces};
-ghost use Rattle.run_rows.specs.Generated.{Accepts, OneEvent};
-ghost use Rattle.run_rows.specs.Nodes.{Hands, Journals, Writes};
+ghost use Rattle.run_rows.specs.Flips.{FlipCases, FlipPlans, FlipWires, ThreeFlips};
+ghost use Rattle.run_rows.specs.Generated.{Accepts, OneDatagram, OneEvent, OneSend};
+ghost use Rattle.run_rows.specs.Nodes.{GoesDeaf, Hands, Journals, Writes};
 ghost use Rattle.run_rows.specs.Sends.{Repeats, Sends};
 ghost use Rattle.run_rows.specs.States.{AreChained};
 ghost use Rattle.run_rows.specs.Views.{InstallsViews};
@@ -68,6 +69,24 @@ pub fn one_event()
     ensures { OneEvent }
 {}
 
+/// A generated script of one datagram, in both modes.
+pub fn one_datagram()
+    ensures { OneDatagram }
+{}
+
+/// A send that gives no packet is no packet that is sent short.
+pub fn one_send()
+    ensures { OneSend }
+{}
+
+/// Three casts of a layer with two common cases, in both modes; its plans, its packets' bytes, and the cases of its steps.
+pub fn flips()
+    ensures reports { ThreeFlips }
+    ensures plans { FlipPlans }
+    ensures bytes { FlipWires }
+    ensures cases { FlipCases }
+{}
+
 /// What an accepted stack is answered with.
 pub fn accepts()
     ensures { Accepts }
@@ -103,4 +122,9 @@ pub fn node()
     ensures journal { Journals }
     ensures writes { Writes }
     ensures hands { Hands }
+{}
+
+/// A node whose receive fails, without patience and with it.
+pub fn goes_deaf()
+    ensures { GoesDeaf }
 {}

@@ -17,7 +17,7 @@ pub use crate::event::ScriptEvent;
 pub use crate::event_lines::{events_read_back, say_events};
 pub use crate::events::Events;
 pub use crate::examples::{find_faults, spell_scripts};
-pub use crate::generated::{first_draws, twenty_events};
+pub use crate::generated::{datagrams, first_draws, twenty_events};
 pub use crate::plan::{NodePlan, Peers, Turns};
 pub use crate::plan_examples::{find_plan_faults, spell_plans};
 pub use crate::script::{GroupLine, Script};

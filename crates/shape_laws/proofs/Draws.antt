@@ -7,6 +7,7 @@ use Rattle.msg_core.specs.Parts as parts
 use Rattle.layer_ast.specs.declared.tokens.Dir.{Dir}
 use Rattle.layer_ast.specs.declared.tokens.Dir.TheVariants.{Up, Down}
 use Rattle.layer_ast.specs.declared.tokens.Kind.{Kind}
+use Rattle.layer_mean.specs.declared.run.Case.TheVariants.{First, Second}
 use Rattle.layer_mean.specs.declared.run.Row.{Row}
 use Rattle.layer_mean.specs.Event.{carries, event_of}
 use Rattle.layer_mean.specs.Tree.{Carried, part, whole, MessageTree, message, nothing, held, cut, tail, join, ContentTree, EmissionTree, TakenTree}
@@ -14,7 +15,7 @@ use Rattle.layer_mean.specs.State.{State, row_at, has_room}
 use Rattle.layer_mean.specs.Value.{Scope, is_true, val, mval, message_in}
 use Rattle.layer_mean.specs.Effect as effect
 use Rattle.layer_mean.specs.Effect.{sent_as, header_of, emitted, with_slots}
-use Rattle.layer_mean.specs.Way.{Step, test, set_slot, set_number, set_square, put, get, send, loop}
+use Rattle.layer_mean.specs.Way.{Step, test, fork, set_slot, set_number, set_square, put, get, send, loop}
 use Rattle.stack_mean.specs.NoShape.{NoShape, drawn_from}
 use Rattle.stack_mean.specs.Drawn.{DrawnHeader, DrawnMessage, chained, unknown, drawn_row, drawn_message, Drawing, with_header, sent_headers, emission_headers, with_sent, with_taken, draw_step, draw_steps}
 use Rattle.shape_laws.specs.Walk.{Here, onward, walk_step, walk, took}
@@ -166,6 +167,14 @@ step_draws place (test true e) d h stands bare = go (is_true (val e h.state h.sc
   go true = stands
   go false = tt
 step_draws place (test false e) d h stands bare = go (is_true (val e h.state h.scope)) where
+  go : (b : Bool) → Draws (Ok d) (if b then None else Some h)
+  go true = tt
+  go false = stands
+step_draws place (fork First e) d h stands bare = go (is_true (val e h.state h.scope)) where
+  go : (b : Bool) → Draws (Ok d) (if b then Some h else None)
+  go true = stands
+  go false = tt
+step_draws place (fork Second e) d h stands bare = go (is_true (val e h.state h.scope)) where
   go : (b : Bool) → Draws (Ok d) (if b then None else Some h)
   go true = tt
   go false = stands

@@ -1,18 +1,21 @@
 -- A predicted run has the shape of its entry.
-use Rattle.std.proofs.Common.{◌≡◌, ℕ, true, List, [], ◌∷◌, map, Option, Some, None, refl, sym, ap, subst, ◌∙◌}
-use Rattle.std.specs.Prelude.{◌-◌, length, Result, Ok, Err, option_map}
+use Rattle.std.proofs.Common.{◌≡◌, ℕ, Bool, true, false, List, [], ◌∷◌, map, Option, Some, None, refl, sym, ap, subst, ◌∙◌}
+use Rattle.std.specs.Prelude.{◌-◌, if◌then◌else◌, length, Result, Ok, Err, option_map}
 use Rattle.std.specs.Option.{option_map_or}
+use Rattle.layer_mean.specs.declared.run.Case.{Case}
+use Rattle.layer_mean.specs.declared.run.Case.TheVariants.{First, Second}
 use Rattle.layer_mean.specs.declared.run.Event.{Event}
 use Rattle.layer_mean.specs.Queue.{Task, run_for, run, layers, is_predicted}
 use Rattle.layer_mean.specs.Marked.{Logged, marked, marked_start}
 use Rattle.stack_mean.specs.Acceptance.{weight_limit}
 use Rattle.stack_mean.specs.NoShape.{NoShape, drawn_from}
+use Rattle.stack_mean.specs.NoShape as no_shape
 use Rattle.stack_mean.specs.Drawn.{DrawnHeader, DrawnEvent}
-use Rattle.stack_mean.specs.Shape.{Known, Progress, ShapeVisit, Shape, first_tag, shape_with, entry_task, shaper, shape_visit, shape_out, shape_of, shape}
+use Rattle.stack_mean.specs.Shape.{Known, Progress, ShapeVisit, Shape, undrawn, first_tag, shape_with, entry_headers, entry_task, has_second_case, shaper, shape_visit, shape_out, shape_of, drawn_shape, shape}
 use Rattle.shape_laws.specs.Bare.{BareRun}
-use Rattle.shape_laws.specs.Outline.{Outline, drawn_tags, event_outline, drawn_outline, logged_outline, task_outline}
-use Rattle.shape_laws.specs.Law.{OutOutline, first_of_tags, run_start, as_visit, as_out, shape_out_outline, HasShape, PredictedRunsHaveTheShape}
-use Rattle.shape_laws.proofs.Predicted.{AllUsual}
+use Rattle.shape_laws.specs.Outline.{Outline, drawn_tags, event_outline, drawn_outline, logged_outline, task_outline, entry_outline}
+use Rattle.shape_laws.specs.Law.{OutOutline, first_of_tags, run_start, marked_run, as_visit, as_out, shape_out_outline, HasShape, PredictedRunsHaveTheShape}
+use Rattle.shape_laws.proofs.Predicted.{AllAs}
 use Rattle.shape_laws.proofs.Marks.{logs_tell_runs}
 use Rattle.shape_laws.proofs.Runs.{DrawnLine, RunLine, InStep, runs_in_step}
 use Rattle.layer_mean.specs.Tree.{LayerTree}
@@ -59,13 +62,13 @@ told f g same xs ys alike =
     ∙ map-map f (logged_outline drawn_outline) xs
     ∙ map_same _ g same xs
 
-has_shape : (z : DrawnLine) (r : RunLine) (s : Shape) → shape_of z.world ≡ Ok s → InStep z.world.world z r →
-    AllUsual r.world.world.decided → HasShape s r.world
-has_shape z r s made step usual = go z.world.world made step where
+has_shape : (case : Case) (z : DrawnLine) (r : RunLine) (s : Shape) → shape_of z.world ≡ Ok s → InStep case z.world.world z r →
+    AllAs case r.world.world.decided → HasShape s r.world
+has_shape case z r s made step usual = go z.world.world made step where
   shape_at : Progress → Shape
   shape_at p = shape_with z.world p
 
-  go : (x : Result Progress NoShape) → drawn_from (λ p. Ok (shape_at p)) x ≡ Ok s → InStep x z r → HasShape s r.world
+  go : (x : Result Progress NoShape) → drawn_from (λ p. Ok (shape_at p)) x ≡ Ok s → InStep case x z r → HasShape s r.world
   go (Err reason) made step = absurd (cc made)
   go (Ok p) made step =
       let a = step usual in
@@ -77,24 +80,49 @@ has_shape z r s made step usual = go z.world.world made step where
             ∙ sym (map-map shape_out_outline shape_out z.world.outs);
       })
 
+-- an entry's headers have its tags
+tags_told : (above : List LayerTree) (tags : List ℕ) → drawn_tags (entry_headers above tags) ≡ tags
+tags_told above [] = refl
+tags_told [] (tag ∷ tags) = ap (λ ts. tag ∷ ts) (tags_told [] tags)
+tags_told (layer ∷ above) (tag ∷ tags) = ap (λ ts. tag ∷ ts) (tags_told above tags)
+
+entry_told : (stack : List LayerTree) (k : Known) → task_outline drawn_outline (entry_task stack k) ≡ entry_outline stack k
+entry_told stack k = ap (λ tags. record (entry_outline stack k) { event = record { kind = k.kind; tags = Some tags } }) (tags_told stack k.tags)
+
 -- the law after any number of turns
-shape_after : (most : ℕ) (stack : List LayerTree) (k : Known) (s : Shape) (states : List State) (task : Task Event) →
-    shape_of (run_for (length stack) (marked (shaper stack)) most
-    (marked_start (Ok (record { visits = 0; length = 0 })) (entry_task stack k))).world ≡ Ok s →
-    task_outline event_outline task ≡ task_outline drawn_outline (entry_task stack k) →
-    BareRun stack (run_start states task) → is_predicted (run most stack states task).world ≡ true →
+shape_after : (case : Case) (most : ℕ) (stack : List LayerTree) (k : Known) (s : Shape) (states : List State) (task : Task Event) →
+    shape_of (run_for (length stack) (marked (shaper case stack)) most
+    (marked_start undrawn (entry_task stack k))).world ≡ Ok s →
+    task_outline event_outline task ≡ entry_outline stack k →
+    BareRun case stack (run_start states task) → is_predicted case (run most stack states task).world ≡ true →
     HasShape s (run_for (length stack) (marked (layers stack)) most (run_start states task)).world
-shape_after most stack k s states task made begins bare predicted =
-    let z : DrawnLine = marked_start (Ok (record { visits = 0; length = 0 })) (entry_task stack k) in
+shape_after case most stack k s states task made begins bare predicted =
+    let z : DrawnLine = marked_start undrawn (entry_task stack k) in
     let r : RunLine = run_start states task in
-    has_shape (run_for (length stack) (marked (shaper stack)) most z) (run_for (length stack) (marked (layers stack)) most r) s made
-    (runs_in_step stack most z r (λ usual. record {
-      tasks = ap (λ t. record { at = t.at; dir = t.dir; event = record { event = t.event; made_by = None } } ∷ []) (sym begins);
+    has_shape case (run_for (length stack) (marked (shaper case stack)) most z) (run_for (length stack) (marked (layers stack)) most r) s made
+    (runs_in_step case stack most z r (λ usual. record {
+      tasks = ap (λ t. record { at = t.at; dir = t.dir; event = record { event = t.event; made_by = None } } ∷ []) (entry_told stack k ∙ sym begins);
       visits = refl;
       outs = refl;
     }) bare)
-    (subst (λ w. AllUsual w.decided) (sym (logs_tell_runs stack states task most).world) predicted)
+    (subst (λ w. AllAs case w.decided) (sym (logs_tell_runs stack states task most).world) predicted)
+
+drawn_runs_have_the_shape : (case : Case) (stack : List LayerTree) (k : Known) (s : Shape) (states : List State) (task : Task Event) →
+    drawn_shape stack k case ≡ Ok s →
+    task_outline event_outline task ≡ entry_outline stack k →
+    BareRun case stack (run_start states task) → is_predicted case (run weight_limit stack states task).world ≡ true →
+    HasShape s (marked_run stack states task).world
+unfolding drawn_shape
+drawn_runs_have_the_shape case stack k s states task = shape_after case weight_limit stack k s states task
+
+-- what has a shape was drawn
+was_drawn : (stack : List LayerTree) (k : Known) (case : Case) (s : Shape) → shape stack k case ≡ Ok s → drawn_shape stack k case ≡ Ok s
+was_drawn stack k First s made = made
+was_drawn stack k Second s made = go (has_second_case stack k) made where
+  go : (b : Bool) → (if b then drawn_shape stack k Second else Err no_shape.same) ≡ Ok s → drawn_shape stack k Second ≡ Ok s
+  go true made = made
+  go false made = absurd (cc made)
 
 pub predicted_runs_have_the_shape : PredictedRunsHaveTheShape
-unfolding shape
-predicted_runs_have_the_shape stack k s states task = shape_after weight_limit stack k s states task
+predicted_runs_have_the_shape case stack k s states task made =
+    drawn_runs_have_the_shape case stack k s states task (was_drawn stack k case s made)

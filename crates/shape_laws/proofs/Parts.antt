@@ -4,6 +4,7 @@ use Rattle.std.specs.Prelude.{if◌then◌else◌, length, slice_index_or}
 use Rattle.std.specs.List.{find, list_all}
 use Rattle.std.specs.Option.{option_map_or}
 use Rattle.layer_ast.specs.declared.tokens.Dir.{Dir}
+use Rattle.layer_mean.specs.declared.run.Case.{Case}
 use Rattle.layer_mean.specs.declared.run.Event.{Event}
 use Rattle.layer_mean.specs.declared.run.Row.{Row}
 use Rattle.layer_mean.specs.Tree.{Carried, part, whole, MessageTree, message, nothing, held, cut, tail, join, ContentTree, HandlerTree, LayerTree, no_layer}
@@ -59,38 +60,38 @@ way_bare : (place : ℕ) (w : Option (List Step)) (s : State) (l : Scope) → op
 way_bare place None s l h = tt
 way_bare place (Some steps) s l h = steps_bare place steps _ h
 
-found : (p q : HandlerTree → Bool) (hs : List HandlerTree) (place : ℕ) (s : State) (e : Event) (m : Met) →
-    ((h : HandlerTree) → q h ≡ true → BareWay place (handler_way h) s (entered h e m)) → list_all q hs ≡ true →
-    BareHandled place (find p hs) s e m
-found p q [] place s e m bare all = tt
-found p q (h ∷ hs) place s e m bare all =
+found : (case : Case) (p q : HandlerTree → Bool) (hs : List HandlerTree) (place : ℕ) (s : State) (e : Event) (m : Met) →
+    ((h : HandlerTree) → q h ≡ true → BareWay place (handler_way case h) s (entered h e m)) → list_all q hs ≡ true →
+    BareHandled case place (find p hs) s e m
+found case p q [] place s e m bare all = tt
+found case p q (h ∷ hs) place s e m bare all =
     let parts = and_parts (q h) (list_all q hs) all in
-    first (p h) (bare h parts.0) (found p q hs place s e m bare parts.1) where
-      first : (b : Bool) → BareWay place (handler_way h) s (entered h e m) → BareHandled place (find p hs) s e m →
-          BareHandled place (if b then Some h else find p hs) s e m
+    first (p h) (bare h parts.0) (found case p q hs place s e m bare parts.1) where
+      first : (b : Bool) → BareWay place (handler_way case h) s (entered h e m) → BareHandled case place (find p hs) s e m →
+          BareHandled case place (if b then Some h else find p hs) s e m
       first true here rest = here
       first false here rest = rest
 
-visit_bare : (place : ℕ) (layer : LayerTree) (s : State) (dir : Dir) (e : Event) → layer_reads_no_part layer ≡ true →
-    BareVisit place layer s dir e
-visit_bare place layer s dir e h =
+visit_bare : (case : Case) (place : ℕ) (layer : LayerTree) (s : State) (dir : Dir) (e : Event) → layer_reads_no_part case layer ≡ true →
+    BareVisit case place layer s dir e
+visit_bare case place layer s dir e h =
     let m : Met = met dir e.message in
-    found (is_for dir e.kind m.tag) way_reads_no_part layer.handlers place s e m
-    (λ x. way_bare place (handler_way x) s (entered x e m)) h
+    found case (is_for dir e.kind m.tag) (way_reads_no_part case) layer.handlers place s e m
+    (λ x. way_bare place (handler_way case x) s (entered x e m)) h
 
-layer_found : (stack : List LayerTree) (k : ℕ) → list_all layer_reads_no_part stack ≡ true →
-    layer_reads_no_part (slice_index_or stack k no_layer) ≡ true
-layer_found [] k h = refl
-layer_found (x ∷ xs) zero h = (and_parts (layer_reads_no_part x) (list_all layer_reads_no_part xs) h).0
-layer_found (x ∷ xs) (suc k) h = layer_found xs k (and_parts (layer_reads_no_part x) (list_all layer_reads_no_part xs) h).1
+layer_found : (case : Case) (stack : List LayerTree) (k : ℕ) → list_all (layer_reads_no_part case) stack ≡ true →
+    layer_reads_no_part case (slice_index_or stack k no_layer) ≡ true
+layer_found case [] k h = refl
+layer_found case (x ∷ xs) zero h = (and_parts (layer_reads_no_part case x) (list_all (layer_reads_no_part case) xs) h).0
+layer_found case (x ∷ xs) (suc k) h = layer_found case xs k (and_parts (layer_reads_no_part case x) (list_all (layer_reads_no_part case) xs) h).1
 
-next_bare : (stack : List LayerTree) (w : Work) (tasks : List (Task (Marked Event))) → list_all layer_reads_no_part stack ≡ true →
-    BareNext stack w tasks
-next_bare stack w [] h = tt
-next_bare stack w (t ∷ rest) h = λ placed.
-    visit_bare (t.at - 1) (layer_at stack t.at) (state_at w t.at) t.dir t.event.event (layer_found stack (t.at - 1) h)
+next_bare : (case : Case) (stack : List LayerTree) (w : Work) (tasks : List (Task (Marked Event))) → list_all (layer_reads_no_part case) stack ≡ true →
+    BareNext case stack w tasks
+next_bare case stack w [] h = tt
+next_bare case stack w (t ∷ rest) h = λ placed.
+    visit_bare case (t.at - 1) (layer_at stack t.at) (state_at w t.at) t.dir t.event.event (layer_found case stack (t.at - 1) h)
 
 pub runs_without_parts : RunsWithoutParts
-runs_without_parts stack h r = λ k.
+runs_without_parts case stack h r = λ k.
     let q : Line (Log Work Event) (Marked Event) = run_for (length stack) (marked (layers stack)) k r in
-    next_bare stack q.world.world q.tasks h
+    next_bare case stack q.world.world q.tasks h

@@ -1,10 +1,11 @@
 -- A predicted run and its shape are two queues in step.
 use Rattle.std.proofs.Common.{◌≡◌, ℕ, zero, suc, ◌-◌, Bool, true, false, List, [], ◌∷◌, ◌++◌, map, Option, Some, refl, sym, ap, subst, ◌∙◌}
 use Rattle.std.specs.Prelude.{if◌then◌else◌, nat_lt, length, Result, Ok, Err}
-use Rattle.std.specs.List.{enumerate_from, list_all}
-use Rattle.layer_mean.specs.Effect.{is_usual}
+use Rattle.std.specs.List.{enumerate_from}
+use Rattle.layer_mean.specs.Effect.{all_as}
 use Rattle.std.proofs.lemmas.List.{length-map, map-append}
 use Rattle.layer_ast.specs.declared.tokens.Dir.{Dir}
+use Rattle.layer_mean.specs.declared.run.Case.{Case}
 use Rattle.layer_mean.specs.declared.run.Event.{Event}
 use Rattle.layer_mean.specs.Tree.{LayerTree}
 use Rattle.layer_mean.specs.Visit.{Visited, step}
@@ -16,7 +17,7 @@ use Rattle.stack_mean.specs.Drawn.{DrawnEvent, DrawnVisit, drawn_visit}
 use Rattle.stack_mean.specs.Shape.{Progress, visits_limit, drawn_turn, shaper}
 use Rattle.shape_laws.specs.Bare.{BareVisit, BareNext, BareRun}
 use Rattle.shape_laws.specs.Outline.{Outline, event_outline, drawn_outline, logged_outline}
-use Rattle.shape_laws.proofs.Predicted.{AllUsual, usual_parts}
+use Rattle.shape_laws.proofs.Predicted.{AllAs, usual_parts}
 use Rattle.shape_laws.proofs.Draws.{sent_outline, one_more}
 use Rattle.shape_laws.proofs.Visits.{VisitDrawn, visit_same}
 
@@ -37,9 +38,9 @@ pub record Alike (z : DrawnLine) (r : RunLine) : Type 0 where
   pub outs : map (logged_outline drawn_outline) z.world.outs ≡ map (logged_outline event_outline) r.world.outs
 
 -- they do while all can be drawn and goes as predicted
-abbrev pub InStep : Result Progress NoShape → DrawnLine → RunLine → Type 0
-InStep (Err reason) z r = Unit {0}
-InStep (Ok p) z r = AllUsual r.world.world.decided → Alike z r
+abbrev pub InStep : Case → Result Progress NoShape → DrawnLine → RunLine → Type 0
+InStep case (Err reason) z r = Unit {0}
+InStep case (Ok p) z r = AllAs case r.world.world.decided → Alike z r
 
 -- the tasks of what a visit sends, in outline
 sent_from : {E : Type 0} (f : E → Outline) (at visit : ℕ) (sent : List (Dir × E)) (n : ℕ) →
@@ -66,7 +67,7 @@ same_length : (vs : List (Logged DrawnEvent)) (ws : List (Logged Event)) →
     map (logged_outline drawn_outline) vs ≡ map (logged_outline event_outline) ws → length vs ≡ length ws
 same_length vs ws e = sym (length-map vs (logged_outline drawn_outline)) ∙ ap length e ∙ length-map ws (logged_outline event_outline)
 
-module _ (at : ℕ) (dir : Dir) (maker : Option Source) (d : DrawnEvent) (e : Event) (same : drawn_outline d ≡ event_outline e)
+module _ (case : Case) (at : ℕ) (dir : Dir) (maker : Option Source) (d : DrawnEvent) (e : Event) (same : drawn_outline d ≡ event_outline e)
     (p : Progress) (w : Work) (z : DrawnLine) (r : RunLine) where
   log_same : logged_outline drawn_outline (record { at = at; dir = dir; marked = marking d maker }) ≡
       logged_outline event_outline (record { at = at; dir = dir; marked = marking e maker })
@@ -92,14 +93,14 @@ module _ (at : ℕ) (dir : Dir) (maker : Option Source) (d : DrawnEvent) (e : Ev
         ∙ sym (tasks_from event_outline at (length r.world.visits) v.sent)
 
   -- a visit keeps them in step
-  visit_in_step : (x : Result DrawnVisit NoShape) (v : Visited) → (AllUsual w.decided → Alike z r) →
-      (AllUsual v.decided → VisitDrawn x v.sent) →
-      InStep (drawn_turn p x).world
+  visit_in_step : (x : Result DrawnVisit NoShape) (v : Visited) → (AllAs case w.decided → Alike z r) →
+      (AllAs case v.decided → VisitDrawn x v.sent) →
+      InStep case (drawn_turn p x).world
       (after_visit at dir (marking d maker) z.tasks z.world.visits z.world.outs (drawn_turn p x))
       (after_visit at dir (marking e maker) r.tasks r.world.visits r.world.outs (visited at w v))
   visit_in_step (Err reason) v alike sent = tt
   visit_in_step (Ok dv) v alike sent = λ usual.
-      let parts = usual_parts w.decided v.decided usual in visit_alike dv v (alike parts.0) (sent parts.1)
+      let parts = usual_parts case w.decided v.decided usual in visit_alike dv v (alike parts.0) (sent parts.1)
 
 abbrev DrawnLog : Type 0
 DrawnLog = Log (Result Progress NoShape) DrawnEvent
@@ -110,8 +111,8 @@ RunLog = Log Work Event
 abbrev drawing : Progress → List (Logged DrawnEvent) → List (Logged DrawnEvent) → DrawnLog
 drawing p visits outs = record { world = Ok p; visits = visits; outs = outs }
 
-abbrev drawn_next : List LayerTree → List (Task (Marked DrawnEvent)) → DrawnLog → DrawnLine
-drawn_next stack tasks log = next_of (length stack) (marked (shaper stack)) tasks log
+abbrev drawn_next : Case → List LayerTree → List (Task (Marked DrawnEvent)) → DrawnLog → DrawnLine
+drawn_next case stack tasks log = next_of (length stack) (marked (shaper case stack)) tasks log
 
 abbrev run_next : List LayerTree → List (Task (Marked Event)) → RunLog → RunLine
 run_next stack tasks log = next_of (length stack) (marked (layers stack)) tasks log
@@ -120,14 +121,14 @@ abbrev task_for : {E : Type 0} → E → (ℕ × Dir × Option Source) → Task 
 task_for e x = record { at = x.0; dir = x.1; event = marking e x.2 }
 
 -- one turn keeps them in step
-turn_in_step : (stack : List LayerTree) (at : ℕ) (dir : Dir) (maker : Option Source) (d : DrawnEvent) (e : Event) →
+turn_in_step : (case : Case) (stack : List LayerTree) (at : ℕ) (dir : Dir) (maker : Option Source) (d : DrawnEvent) (e : Event) →
     drawn_outline d ≡ event_outline e → (p : Progress) (vs os : List (Logged DrawnEvent)) (rest : List (Task (Marked DrawnEvent)))
     (log : RunLog) (us : List (Task (Marked Event))) →
-    (AllUsual log.world.decided → Alike (record { world = drawing p vs os; tasks = rest }) (record { world = log; tasks = us })) →
-    (is_place (length stack) at ≡ true → BareVisit (at - 1) (layer_at stack at) (state_at log.world at) dir e) →
-    let z = drawn_next stack (task_for d (at, dir, maker) ∷ rest) (drawing p vs os) in
-    InStep z.world.world z (run_next stack (task_for e (at, dir, maker) ∷ us) log)
-turn_in_step stack at dir maker d e same p vs os rest log us alike bare = go (is_place (length stack) at) refl where
+    (AllAs case log.world.decided → Alike (record { world = drawing p vs os; tasks = rest }) (record { world = log; tasks = us })) →
+    (is_place (length stack) at ≡ true → BareVisit case (at - 1) (layer_at stack at) (state_at log.world at) dir e) →
+    let z = drawn_next case stack (task_for d (at, dir, maker) ∷ rest) (drawing p vs os) in
+    InStep case z.world.world z (run_next stack (task_for e (at, dir, maker) ∷ us) log)
+turn_in_step case stack at dir maker d e same p vs os rest log us alike bare = go (is_place (length stack) at) refl where
   z : DrawnLine
   z = record { world = drawing p vs os; tasks = rest }
 
@@ -138,24 +139,24 @@ turn_in_step stack at dir maker d e same p vs os rest log us alike bare = go (is
   v = step (at - 1) (layer_at stack at) (state_at log.world at) dir e
 
   turned : Bool → Turn (Result Progress NoShape) DrawnEvent
-  turned c = if c then drawn_turn p (drawn_visit (at - 1) (layer_at stack at) dir d) else record { world = Err no_shape.long; sent = [] }
+  turned c = if c then drawn_turn p (drawn_visit case (at - 1) (layer_at stack at) dir d) else record { world = Err no_shape.long; sent = [] }
 
   looked : (c : Bool) → is_place (length stack) at ≡ true →
-      InStep (turned c).world (after_visit at dir (marking d maker) rest vs os (turned c))
+      InStep case (turned c).world (after_visit at dir (marking d maker) rest vs os (turned c))
       (after_visit at dir (marking e maker) us log.visits log.outs (visited at log.world v))
-  looked true placed = visit_in_step at dir maker d e same p log.world z r (drawn_visit (at - 1) (layer_at stack at) dir d) v alike
-      (λ usual. visit_same (at - 1) (layer_at stack at) (state_at log.world at) dir e d same (bare placed) usual)
+  looked true placed = visit_in_step case at dir maker d e same p log.world z r (drawn_visit case (at - 1) (layer_at stack at) dir d) v alike
+      (λ usual. visit_same case (at - 1) (layer_at stack at) (state_at log.world at) dir e d same (bare placed) usual)
   looked false placed = tt
 
   drawn_line : Bool → DrawnLine
   drawn_line b = if b then after_visit at dir (marking d maker) rest vs os (turned (nat_lt p.visits visits_limit))
-      else record { world = (marked (shaper stack)).output dir (marking d maker) (drawing p vs os); tasks = rest }
+      else record { world = (marked (shaper case stack)).output dir (marking d maker) (drawing p vs os); tasks = rest }
 
   run_line : Bool → RunLine
   run_line b = if b then after_visit at dir (marking e maker) us log.visits log.outs (visited at log.world v)
       else record { world = (marked (layers stack)).output dir (marking e maker) log; tasks = us }
 
-  go : (b : Bool) → is_place (length stack) at ≡ b → InStep (drawn_line b).world.world (drawn_line b) (run_line b)
+  go : (b : Bool) → is_place (length stack) at ≡ b → InStep case (drawn_line b).world.world (drawn_line b) (run_line b)
   go true placed = looked (nat_lt p.visits visits_limit) placed
   go false placed = λ usual. let a = alike usual in record {
     tasks = a.tasks;
@@ -164,23 +165,23 @@ turn_in_step stack at dir maker d e same p vs os rest log us alike bare = go (is
   }
 
 -- what was decided before a turn is as predicted where all is behind it
-usual_before : (stack : List LayerTree) (us : List (Task (Marked Event))) (log : RunLog) →
-    AllUsual (run_next stack us log).world.world.decided → AllUsual log.world.decided
-usual_before stack [] log h = h
-usual_before stack (u ∷ us) log h = go (is_place (length stack) u.at) h where
+usual_before : (case : Case) (stack : List LayerTree) (us : List (Task (Marked Event))) (log : RunLog) →
+    AllAs case (run_next stack us log).world.world.decided → AllAs case log.world.decided
+usual_before case stack [] log h = h
+usual_before case stack (u ∷ us) log h = go (is_place (length stack) u.at) h where
   v : Visited
   v = step (u.at - 1) (layer_at stack u.at) (state_at log.world u.at) u.dir u.event.event
 
   go : (b : Bool) →
-      AllUsual (if b then after_visit u.at u.dir u.event us log.visits log.outs (visited u.at log.world v)
+      AllAs case (if b then after_visit u.at u.dir u.event us log.visits log.outs (visited u.at log.world v)
       else record { world = (marked (layers stack)).output u.dir u.event log; tasks = us }).world.world.decided →
-      AllUsual log.world.decided
-  go true h = (usual_parts log.world.decided v.decided h).0
+      AllAs case log.world.decided
+  go true h = (usual_parts case log.world.decided v.decided h).0
   go false h = h
 
-never : (x : Result Progress NoShape) (z : DrawnLine) (r : RunLine) → (AllUsual r.world.world.decided → ⊥) → InStep x z r
-never (Err reason) z r h = tt
-never (Ok p) z r h = λ usual. absurd (h usual)
+never : (case : Case) (x : Result Progress NoShape) (z : DrawnLine) (r : RunLine) → (AllAs case r.world.world.decided → ⊥) → InStep case x z r
+never case (Err reason) z r h = tt
+never case (Ok p) z r h = λ usual. absurd (h usual)
 
 -- the first task and the others of tasks in outline
 abbrev first_task : Task (Marked Outline) → List (Task (Marked Outline)) → Task (Marked Outline)
@@ -191,53 +192,53 @@ abbrev other_tasks : List (Task (Marked Outline)) → List (Task (Marked Outline
 other_tasks [] = []
 other_tasks (t ∷ ts) = ts
 
-failed_next : (stack : List LayerTree) (zs : List (Task (Marked DrawnEvent))) (reason : NoShape) (vs os : List (Logged DrawnEvent))
+failed_next : (case : Case) (stack : List LayerTree) (zs : List (Task (Marked DrawnEvent))) (reason : NoShape) (vs os : List (Logged DrawnEvent))
     (r : RunLine) →
-    let z = drawn_next stack zs (record { world = Err reason; visits = vs; outs = os }) in InStep z.world.world z r
-failed_next stack [] reason vs os r = tt
-failed_next stack (t ∷ rest) reason vs os r = go (is_place (length stack) t.at) where
+    let z = drawn_next case stack zs (record { world = Err reason; visits = vs; outs = os }) in InStep case z.world.world z r
+failed_next case stack [] reason vs os r = tt
+failed_next case stack (t ∷ rest) reason vs os r = go (is_place (length stack) t.at) where
   line : Bool → DrawnLine
   line b = if b then after_visit t.at t.dir t.event rest vs os (record { world = Err reason; sent = [] })
-      else record { world = (marked (shaper stack)).output t.dir t.event (record { world = Err reason; visits = vs; outs = os }); tasks = rest }
+      else record { world = (marked (shaper case stack)).output t.dir t.event (record { world = Err reason; visits = vs; outs = os }); tasks = rest }
 
-  go : (b : Bool) → InStep (line b).world.world (line b) r
+  go : (b : Bool) → InStep case (line b).world.world (line b) r
   go true = tt
   go false = tt
 
-drawn_next_in_step : (stack : List LayerTree) (zs : List (Task (Marked DrawnEvent))) (p : Progress) (vs os : List (Logged DrawnEvent))
+drawn_next_in_step : (case : Case) (stack : List LayerTree) (zs : List (Task (Marked DrawnEvent))) (p : Progress) (vs os : List (Logged DrawnEvent))
     (rs : List (Task (Marked Event))) (log : RunLog) →
-    (AllUsual log.world.decided → Alike (record { world = drawing p vs os; tasks = zs }) (record { world = log; tasks = rs })) →
-    BareNext stack log.world rs →
-    let z = drawn_next stack zs (drawing p vs os) in InStep z.world.world z (run_next stack rs log)
-drawn_next_in_step stack [] p vs os [] log alike bare = alike
-drawn_next_in_step stack [] p vs os (u ∷ us) log alike bare =
-    λ usual. absurd (cc (alike (usual_before stack (u ∷ us) log usual)).tasks)
-drawn_next_in_step stack (t ∷ rest) p vs os [] log alike bare = never _ _ _ (λ usual. cc (alike usual).tasks)
-drawn_next_in_step stack (t ∷ rest) p vs os (u ∷ us) log alike bare = go (list_all is_usual log.world.decided) refl where
+    (AllAs case log.world.decided → Alike (record { world = drawing p vs os; tasks = zs }) (record { world = log; tasks = rs })) →
+    BareNext case stack log.world rs →
+    let z = drawn_next case stack zs (drawing p vs os) in InStep case z.world.world z (run_next stack rs log)
+drawn_next_in_step case stack [] p vs os [] log alike bare = alike
+drawn_next_in_step case stack [] p vs os (u ∷ us) log alike bare =
+    λ usual. absurd (cc (alike (usual_before case stack (u ∷ us) log usual)).tasks)
+drawn_next_in_step case stack (t ∷ rest) p vs os [] log alike bare = never case _ _ _ (λ usual. cc (alike usual).tasks)
+drawn_next_in_step case stack (t ∷ rest) p vs os (u ∷ us) log alike bare = go (all_as case log.world.decided) refl where
   z : Task (Marked DrawnEvent) → DrawnLine
-  z task = drawn_next stack (task ∷ rest) (drawing p vs os)
+  z task = drawn_next case stack (task ∷ rest) (drawing p vs os)
 
-  go : (b : Bool) → list_all is_usual log.world.decided ≡ b → InStep (z t).world.world (z t) (run_next stack (u ∷ us) log)
+  go : (b : Bool) → all_as case log.world.decided ≡ b → InStep case (z t).world.world (z t) (run_next stack (u ∷ us) log)
   go true usual =
       let a = alike usual in
       let head : made_task drawn_outline t ≡ made_task event_outline u = ap (first_task (made_task drawn_outline t)) a.tasks in
       let key : ◌≡◌ {A = ℕ × Dir × Option Source} (t.at, t.dir, t.event.made_by) (u.at, u.dir, u.event.made_by) =
       ap (λ x. (x.at, x.dir, x.event.made_by)) head in
-      subst (λ x. InStep (z (task_for t.event.event x)).world.world (z (task_for t.event.event x)) (run_next stack (u ∷ us) log)) (sym key)
-      (turn_in_step stack u.at u.dir u.event.made_by t.event.event u.event.event (ap (λ x. x.event.event) head) p vs os rest log us
+      subst (λ x. InStep case (z (task_for t.event.event x)).world.world (z (task_for t.event.event x)) (run_next stack (u ∷ us) log)) (sym key)
+      (turn_in_step case stack u.at u.dir u.event.made_by t.event.event u.event.event (ap (λ x. x.event.event) head) p vs os rest log us
       (λ again. record { tasks = ap other_tasks a.tasks; visits = a.visits; outs = a.outs }) bare)
-  go false unusual = never _ _ _ (λ usual. cc (usual_before stack (u ∷ us) log usual, unusual))
+  go false unusual = never case _ _ _ (λ usual. cc (usual_before case stack (u ∷ us) log usual, unusual))
 
 -- one turn keeps them in step, whatever came before
-next_in_step : (stack : List LayerTree) (z : DrawnLine) (r : RunLine) → InStep z.world.world z r → BareNext stack r.world.world r.tasks →
-    let y = drawn_next stack z.tasks z.world in InStep y.world.world y (run_next stack r.tasks r.world)
-next_in_step stack z r h bare = go z.world.world h where
+next_in_step : (case : Case) (stack : List LayerTree) (z : DrawnLine) (r : RunLine) → InStep case z.world.world z r → BareNext case stack r.world.world r.tasks →
+    let y = drawn_next case stack z.tasks z.world in InStep case y.world.world y (run_next stack r.tasks r.world)
+next_in_step case stack z r h bare = go z.world.world h where
   go : (x : Result Progress NoShape) →
-      InStep x (record { world = record { world = x; visits = z.world.visits; outs = z.world.outs }; tasks = z.tasks }) r →
-      let y = drawn_next stack z.tasks (record { world = x; visits = z.world.visits; outs = z.world.outs }) in
-      InStep y.world.world y (run_next stack r.tasks r.world)
-  go (Err reason) h = failed_next stack z.tasks reason z.world.visits z.world.outs (run_next stack r.tasks r.world)
-  go (Ok p) h = drawn_next_in_step stack z.tasks p z.world.visits z.world.outs r.tasks r.world h bare
+      InStep case x (record { world = record { world = x; visits = z.world.visits; outs = z.world.outs }; tasks = z.tasks }) r →
+      let y = drawn_next case stack z.tasks (record { world = x; visits = z.world.visits; outs = z.world.outs }) in
+      InStep case y.world.world y (run_next stack r.tasks r.world)
+  go (Err reason) h = failed_next case stack z.tasks reason z.world.visits z.world.outs (run_next stack r.tasks r.world)
+  go (Ok p) h = drawn_next_in_step case stack z.tasks p z.world.visits z.world.outs r.tasks r.world h bare
 
 -- a run that is done stays as it is, and so the first turn of a run can be taken alone
 stays : {W E : Type 0} (places : ℕ) (play : Player W E) (k : ℕ) (w : W) →
@@ -250,14 +251,14 @@ pub first_turn : {W E : Type 0} (places : ℕ) (play : Player W E) (k : ℕ) (ta
 first_turn places play k [] w = sym (stays places play k w)
 first_turn places play k (t ∷ rest) w = refl
 
-pub runs_in_step : (stack : List LayerTree) (k : ℕ) (z : DrawnLine) (r : RunLine) → InStep z.world.world z r → BareRun stack r →
-    let y = run_for (length stack) (marked (shaper stack)) k z in
-    InStep y.world.world y (run_for (length stack) (marked (layers stack)) k r)
-runs_in_step stack zero z r h bare = h
-runs_in_step stack (suc k) z r h bare =
-    let shapes = first_turn (length stack) (marked (shaper stack)) k z.tasks z.world in
+pub runs_in_step : (case : Case) (stack : List LayerTree) (k : ℕ) (z : DrawnLine) (r : RunLine) → InStep case z.world.world z r → BareRun case stack r →
+    let y = run_for (length stack) (marked (shaper case stack)) k z in
+    InStep case y.world.world y (run_for (length stack) (marked (layers stack)) k r)
+runs_in_step case stack zero z r h bare = h
+runs_in_step case stack (suc k) z r h bare =
+    let shapes = first_turn (length stack) (marked (shaper case stack)) k z.tasks z.world in
     let runs = λ (j : ℕ). first_turn (length stack) (marked (layers stack)) j r.tasks r.world in
-    subst {A = DrawnLine × RunLine} (λ x. InStep x.0.world.world x.0 x.1) (λ i. (sym shapes i, sym (runs k) i))
-    (runs_in_step stack k (drawn_next stack z.tasks z.world) (run_next stack r.tasks r.world)
-    (next_in_step stack z r h (bare zero))
-    (λ j. subst (λ q. BareNext stack q.world.world q.tasks) (runs j) (bare (suc j))))
+    subst {A = DrawnLine × RunLine} (λ x. InStep case x.0.world.world x.0 x.1) (λ i. (sym shapes i, sym (runs k) i))
+    (runs_in_step case stack k (drawn_next case stack z.tasks z.world) (run_next stack r.tasks r.world)
+    (next_in_step case stack z r h (bare zero))
+    (λ j. subst (λ q. BareNext case stack q.world.world q.tasks) (runs j) (bare (suc j))))

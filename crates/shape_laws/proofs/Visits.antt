@@ -6,6 +6,7 @@ use Rattle.msg_core.specs.Chain.{Content, plain, pushed, popped, first_of}
 use Rattle.msg_core.specs.declared.message.Header.{Header}
 use Rattle.layer_ast.specs.declared.tokens.Dir.{Dir}
 use Rattle.layer_ast.specs.declared.tokens.Dir.TheVariants.{Up, Down}
+use Rattle.layer_mean.specs.declared.run.Case.{Case}
 use Rattle.layer_mean.specs.declared.run.Event.{Event}
 use Rattle.layer_mean.specs.Tree.{HandlerTree, LayerTree}
 use Rattle.layer_mean.specs.State.{State}
@@ -18,7 +19,7 @@ use Rattle.stack_mean.specs.NoShape as no_shape
 use Rattle.stack_mean.specs.Drawn.{DrawnHeader, DrawnMessage, chained, DrawnEvent, Drawing, draw_steps, DrawnVisit, DrawnMet, popped_of, drawn_met, drawn_on, drawn_unhandled, drawn_entered, drawn_way, drawn_handled, drawn_visit}
 use Rattle.shape_laws.specs.Bare.{BareWay, BareHandled, BareVisit}
 use Rattle.shape_laws.specs.Outline.{message_tags, drawn_tags, event_outline, drawn_outline}
-use Rattle.shape_laws.proofs.Predicted.{AllUsual, here, start, Went, handler_goes}
+use Rattle.shape_laws.proofs.Predicted.{AllAs, here, start, Went, handler_goes}
 use Rattle.shape_laws.proofs.Draws.{Scopes, sent_outline, Stands, Drawn, Draws, way_draws}
 
 -- what is drawn of a visit is what it sent
@@ -75,25 +76,25 @@ passes_on : (dir : Dir) (e : Event) (d : DrawnEvent) (headers : Option (List Dra
     map (sent_outline event_outline) ((dir, record e { message = m }) ∷ [])
 passes_on dir e d headers m kind same = λ i. (dir, record { kind = kind i; tags = same i }) ∷ []
 
-unhandled_same : (place : ℕ) (s : State) (dir : Dir) (e : Event) (d : DrawnEvent) (tag : ℕ) (m : Met)
+unhandled_same : (case : Case) (place : ℕ) (s : State) (dir : Dir) (e : Event) (d : DrawnEvent) (tag : ℕ) (m : Met)
     (headers : Option (List DrawnHeader)) (content : Option Content) →
     d.kind ≡ e.kind → tag ≡ m.tag → option_map drawn_tags headers ≡ option_map message_tags content →
-    AllUsual (unhandled place s dir e m content).decided →
+    AllAs case (unhandled place s dir e m content).decided →
     VisitDrawn (drawn_unhandled place dir d tag headers) (unhandled place s dir e m content).sent
-unhandled_same place s dir e d tag m None None kind popped same h = passes_on dir e d None None kind refl
-unhandled_same place s Down e d tag m (Some headers) (Some c) kind popped same h =
+unhandled_same case place s dir e d tag m None None kind popped same h = passes_on dir e d None None kind refl
+unhandled_same case place s Down e d tag m (Some headers) (Some c) kind popped same h =
     passes_on Down e d (Some (record { tag = 0; fields = [] } ∷ headers)) (Some (pushed (record { layer = place; tag = 0; fields = [] }) c)) kind
     (ap (λ o. Some (0 ∷ option_map_or (λ tags. tags) o [])) same)
-unhandled_same place s Up e d tag m (Some headers) (Some c) kind popped same h =
+unhandled_same case place s Up e d tag m (Some headers) (Some c) kind popped same h =
     subst (λ t. VisitDrawn (if t == 0 then Ok (drawn_on Up d (Some headers)) else Err (no_shape.rare place)) (unhandled place s Up e m (Some c)).sent)
     (sym popped) (go (m.tag == 0) h) where
-      go : (b : Bool) → AllUsual (if b then sent_on s Up e (Some c) else record { state = s; sent = []; decided = unusual ∷ [] }).decided →
+      go : (b : Bool) → AllAs case (if b then sent_on s Up e (Some c) else record { state = s; sent = []; decided = unusual ∷ [] }).decided →
           VisitDrawn (if b then Ok (drawn_on Up d (Some headers)) else Err (no_shape.rare place))
           (if b then sent_on s Up e (Some c) else record { state = s; sent = []; decided = unusual ∷ [] }).sent
       go true h = passes_on Up e d (Some headers) (Some c) kind same
       go false h = tt
-unhandled_same place s dir e d tag m None (Some c) kind popped same h = absurd (cc same)
-unhandled_same place s dir e d tag m (Some headers) None kind popped same h = absurd (cc same)
+unhandled_same case place s dir e d tag m None (Some c) kind popped same h = absurd (cc same)
+unhandled_same case place s dir e d tag m (Some headers) None kind popped same h = absurd (cc same)
 
 way_drawn : (place : ℕ) (w : Option (List Step)) (s : State) (l : Scope) (o : Outcome) (d : Drawing) → Stands d (start [] s l) →
     BareWay place w s l → Went place w s l o → VisitDrawn (drawn_way place w d) o.sent
@@ -105,25 +106,25 @@ way_drawn place (Some steps) s l o d stands bare went =
       go (Err reason) stands = tt
       go (Ok e) stands = stands.1
 
-handled_same : (place : ℕ) (x : Option HandlerTree) (s : State) (dir : Dir) (e : Event) (d : DrawnEvent) (dm : DrawnMet) (m : Met) →
-    d.kind ≡ e.kind → MetSame dm m → BareHandled place x s e m → AllUsual (handled place x s dir e m).decided →
-    VisitDrawn (drawn_handled place x dir d dm) (handled place x s dir e m).sent
-handled_same place None s dir e d dm m kind same bare h =
-    unhandled_same place s dir e d dm.tag m dm.headers m.message kind same.0 same.1 h
-handled_same place (Some x) s dir e d dm m kind same bare h =
-    way_drawn place (handler_way x) s (entered x e m) _ (drawn_entered x dm.headers)
+handled_same : (case : Case) (place : ℕ) (x : Option HandlerTree) (s : State) (dir : Dir) (e : Event) (d : DrawnEvent) (dm : DrawnMet) (m : Met) →
+    d.kind ≡ e.kind → MetSame dm m → BareHandled case place x s e m → AllAs case (handled place x s dir e m).decided →
+    VisitDrawn (drawn_handled case place x dir d dm) (handled place x s dir e m).sent
+handled_same case place None s dir e d dm m kind same bare h =
+    unhandled_same case place s dir e d dm.tag m dm.headers m.message kind same.0 same.1 h
+handled_same case place (Some x) s dir e d dm m kind same bare h =
+    way_drawn place (handler_way case x) s (entered x e m) _ (drawn_entered x dm.headers)
     (with_room_too x.messages _ _ (own_message dm.headers m.message same.1), refl) bare
-    (handler_goes place x s (entered x e m) h)
+    (handler_goes case place x s (entered x e m) h)
 
-pub visit_same : (place : ℕ) (layer : LayerTree) (s : State) (dir : Dir) (e : Event) (d : DrawnEvent) →
-    drawn_outline d ≡ event_outline e → BareVisit place layer s dir e → AllUsual (step place layer s dir e).decided →
-    VisitDrawn (drawn_visit place layer dir d) (step place layer s dir e).sent
+pub visit_same : (case : Case) (place : ℕ) (layer : LayerTree) (s : State) (dir : Dir) (e : Event) (d : DrawnEvent) →
+    drawn_outline d ≡ event_outline e → BareVisit case place layer s dir e → AllAs case (step place layer s dir e).decided →
+    VisitDrawn (drawn_visit case place layer dir d) (step place layer s dir e).sent
 unfolding step
-visit_same place layer s dir e d same bare h =
+visit_same case place layer s dir e d same bare h =
     let kind : d.kind ≡ e.kind = ap (λ o. o.kind) same in
     let m = met_same dir d.headers e.message (ap (λ o. o.tags) same) in
     let chosen : handler_for layer dir e.kind (met dir e.message).tag ≡ handler_for layer dir d.kind (drawn_met dir d.headers).tag =
     λ i. handler_for layer dir (sym kind i) (sym m.0 i) in
-    subst (λ x. VisitDrawn (drawn_handled place x dir d (drawn_met dir d.headers))
+    subst (λ x. VisitDrawn (drawn_handled case place x dir d (drawn_met dir d.headers))
     (handled place (handler_for layer dir e.kind (met dir e.message).tag) s dir e (met dir e.message)).sent)
-    chosen (handled_same place _ s dir e d (drawn_met dir d.headers) (met dir e.message) kind m bare h)
+    chosen (handled_same case place _ s dir e d (drawn_met dir d.headers) (met dir e.message) kind m bare h)

@@ -1,7 +1,8 @@
--- Runs in which each part that is taken or held has no headers. (A part is bytes alone; the queues of parts of a typed layer never
+-- Runs in which each part that is taken or held on the way of a case has no headers. (A part is bytes alone; the queues of parts of a typed layer never
 -- have others.)
 use Rattle.std.specs.Prelude.{◌≡◌, ℕ, ◌-◌, true, List, [], ◌∷◌, length, Option, Some, None}
 use Rattle.layer_ast.specs.declared.tokens.Dir.{Dir}
+use Rattle.layer_mean.specs.declared.run.Case.{Case}
 use Rattle.layer_mean.specs.declared.run.Event.{Event}
 use Rattle.layer_mean.specs.declared.run.Row.{Row}
 use Rattle.layer_mean.specs.Tree.{Carried, part, whole, MessageTree, held, tail, join, ContentTree, HandlerTree, LayerTree}
@@ -52,21 +53,21 @@ abbrev pub BareWay : ℕ → Option (List Step) → State → Scope → Type 0
 BareWay place None s l = Unit {0}
 BareWay place (Some steps) s l = BareSteps place steps (record { state = s; scope = l; sent = [] })
 
-abbrev pub BareHandled : ℕ → Option HandlerTree → State → Event → Met → Type 0
-BareHandled place None s event m = Unit {0}
-BareHandled place (Some h) s event m = BareWay place (handler_way h) s (entered h event m)
+abbrev pub BareHandled : Case → ℕ → Option HandlerTree → State → Event → Met → Type 0
+BareHandled case place None s event m = Unit {0}
+BareHandled case place (Some h) s event m = BareWay place (handler_way case h) s (entered h event m)
 
 -- So have those of a visit.
-abbrev pub BareVisit : ℕ → LayerTree → State → Dir → Event → Type 0
-BareVisit place layer s dir event =
-    let m = met dir event.message in BareHandled place (handler_for layer dir event.kind m.tag) s event m
+abbrev pub BareVisit : Case → ℕ → LayerTree → State → Dir → Event → Type 0
+BareVisit case place layer s dir event =
+    let m = met dir event.message in BareHandled case place (handler_for layer dir event.kind m.tag) s event m
 
-abbrev pub BareNext : List LayerTree → Work → List (Task (Marked Event)) → Type 0
-BareNext stack w [] = Unit {0}
-BareNext stack w (t ∷ rest) =
-    is_place (length stack) t.at ≡ true → BareVisit (t.at - 1) (layer_at stack t.at) (state_at w t.at) t.dir t.event.event
+abbrev pub BareNext : Case → List LayerTree → Work → List (Task (Marked Event)) → Type 0
+BareNext case stack w [] = Unit {0}
+BareNext case stack w (t ∷ rest) =
+    is_place (length stack) t.at ≡ true → BareVisit case (t.at - 1) (layer_at stack t.at) (state_at w t.at) t.dir t.event.event
 
 -- So have those of each visit of a run.
-abbrev pub BareRun : List LayerTree → Line (Log Work Event) (Marked Event) → Type 0
-BareRun stack r = (k : ℕ) →
-    let q = run_for (length stack) (marked (layers stack)) k r in BareNext stack q.world.world q.tasks
+abbrev pub BareRun : Case → List LayerTree → Line (Log Work Event) (Marked Event) → Type 0
+BareRun case stack r = (k : ℕ) →
+    let q = run_for (length stack) (marked (layers stack)) k r in BareNext case stack q.world.world q.tasks

@@ -3,14 +3,15 @@ use Rattle.std.specs.Prelude.{◌≡◌, ℕ, ◌-◌, true, List, [], ◌∷◌
 use Rattle.std.specs.Option.{option_map_or}
 use Rattle.layer_ast.specs.declared.tokens.Dir.{Dir}
 use Rattle.layer_ast.specs.declared.tokens.Kind.{Kind}
+use Rattle.layer_mean.specs.declared.run.Case.{Case}
 use Rattle.layer_mean.specs.declared.run.Event.{Event}
 use Rattle.layer_mean.specs.Tree.{LayerTree}
 use Rattle.layer_mean.specs.State.{State}
 use Rattle.layer_mean.specs.Queue.{Task, Line, Work, layers, run_for, run, unstarted, is_predicted}
 use Rattle.layer_mean.specs.Marked.{Source, Log, Logged, Marked, marked, marked_start}
 use Rattle.stack_mean.specs.Acceptance.{weight_limit}
-use Rattle.stack_mean.specs.Shape.{Known, ShapeVisit, ShapeOut, Shape, entry_task, shape}
-use Rattle.shape_laws.specs.Outline.{Outline, event_outline, drawn_outline, logged_outline, task_outline}
+use Rattle.stack_mean.specs.Shape.{Known, ShapeVisit, ShapeOut, Shape, shape}
+use Rattle.shape_laws.specs.Outline.{Outline, event_outline, logged_outline, task_outline, entry_outline}
 use Rattle.shape_laws.specs.Bare.{BareRun}
 
 -- A run of layers in these states from a task, with its makers, before its first turn and at its end.
@@ -57,12 +58,12 @@ pub record HasShape (s : Shape) (log : Log Work Event) : Type 0 where
   pub visits : map (λ x. as_visit (logged_outline event_outline x)) log.visits ≡ s.visits
   pub outs : map (λ x. as_out (logged_outline event_outline x)) log.outs ≡ map shape_out_outline s.outs
 
--- A run that begins with an entry's event and goes as predicted throughout has the shape of the entry, if there is one.
+-- A run that begins with an entry's event and goes as predicted in a case throughout has the entry's shape in that case, if there is one.
 abbrev pub PredictedRunsHaveTheShape : Type 0
 PredictedRunsHaveTheShape =
-    (stack : List LayerTree) (k : Known) (s : Shape) (states : List State) (task : Task Event) →
-    shape stack k ≡ Ok s →
-    task_outline event_outline task ≡ task_outline drawn_outline (entry_task stack k) →
-    BareRun stack (run_start states task) →
-    is_predicted (run weight_limit stack states task).world ≡ true →
+    (case : Case) (stack : List LayerTree) (k : Known) (s : Shape) (states : List State) (task : Task Event) →
+    shape stack k case ≡ Ok s →
+    task_outline event_outline task ≡ entry_outline stack k →
+    BareRun case stack (run_start states task) →
+    is_predicted case (run weight_limit stack states task).world ≡ true →
     HasShape s (marked_run stack states task).world

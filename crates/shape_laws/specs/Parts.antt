@@ -1,7 +1,8 @@
--- Layers of which no predicted way reads a part, as all layers of the library are.
+-- Layers of which no way that is predicted in a case reads a part, as all layers of the library are.
 use Rattle.std.specs.Prelude.{◌≡◌, Bool, true, false, List}
 use Rattle.std.specs.List.{list_all}
 use Rattle.std.specs.Option.{option_map_or}
+use Rattle.layer_mean.specs.declared.run.Case.{Case}
 use Rattle.layer_mean.specs.declared.run.Event.{Event}
 use Rattle.layer_mean.specs.Tree.{Carried, part, whole, MessageTree, held, tail, join, HandlerTree, LayerTree}
 use Rattle.layer_mean.specs.Queue.{Line, Work}
@@ -27,14 +28,14 @@ reads_no_part (get c i taken) = option_map_or (λ slot. is_whole slot.1) taken.m
 reads_no_part (send e) = option_map_or (λ c. holds_no_part c.message) e.content true
 reads_no_part _ = true
 
--- Whether no predicted way of a layer reads a part.
-abbrev pub way_reads_no_part : HandlerTree → Bool
-way_reads_no_part h = option_map_or (list_all reads_no_part) (handler_way h) true
+-- Whether no way of a layer that is predicted in a case reads a part.
+abbrev pub way_reads_no_part : Case → HandlerTree → Bool
+way_reads_no_part case h = option_map_or (list_all reads_no_part) (handler_way case h) true
 
-abbrev pub layer_reads_no_part : LayerTree → Bool
-layer_reads_no_part layer = list_all way_reads_no_part layer.handlers
+abbrev pub layer_reads_no_part : Case → LayerTree → Bool
+layer_reads_no_part case layer = list_all (way_reads_no_part case) layer.handlers
 
 -- In runs of such layers the parts that are read have no headers, since none are read.
 abbrev pub RunsWithoutParts : Type 0
-RunsWithoutParts = (stack : List LayerTree) → list_all layer_reads_no_part stack ≡ true →
-    (r : Line (Log Work Event) (Marked Event)) → BareRun stack r
+RunsWithoutParts = (case : Case) (stack : List LayerTree) → list_all (layer_reads_no_part case) stack ≡ true →
+    (r : Line (Log Work Event) (Marked Event)) → BareRun case stack r

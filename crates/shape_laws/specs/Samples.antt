@@ -3,6 +3,8 @@ use Rattle.std.specs.Prelude.{◌≡◌, true, List, [], ◌∷◌, map, Some, N
 use Rattle.std.specs.List.{list_all}
 use Rattle.layer_ast.specs.declared.tokens.Dir.TheVariants.{Up, Down}
 use Rattle.layer_ast.specs.declared.tokens.Kind.TheVariants.{Cast}
+use Rattle.layer_mean.specs.declared.run.Case.{Case}
+use Rattle.layer_mean.specs.declared.run.Case.TheVariants.{First}
 use Rattle.layer_mean.specs.declared.run.Event.{Event}
 use Rattle.layer_mean.specs.State.{State}
 use Rattle.layer_mean.specs.Visit.{fresh}
@@ -28,7 +30,7 @@ first_cast = record {
 abbrev pub KeptRun : Type 0
 KeptRun =
     let log = (marked_run kept fresh_states first_cast).world in
-    (is_predicted log.world ≡ true) ×
+    (is_predicted First log.world ≡ true) ×
     (map (λ x. as_visit (logged_outline event_outline x)) log.visits ≡
     visit 3 Down 0 None ∷ visit 2 Down 1 (made_by 0 0) ∷ visit 1 Down 0 (made_by 1 0) ∷ visit 3 Up 1 (made_by 1 1) ∷
     visit 0 Down 1 (made_by 2 0) ∷ []) ×
@@ -38,4 +40,4 @@ KeptRun =
 
 -- The layers of the samples read no parts.
 abbrev pub SamplesReadNoParts : Type 0
-SamplesReadNoParts = list_all layer_reads_no_part (counter ∷ echo ∷ fan ∷ repeater ∷ late ∷ kept) ≡ true
+SamplesReadNoParts = (case : Case) → list_all (layer_reads_no_part case) (counter ∷ echo ∷ fan ∷ repeater ∷ late ∷ kept) ≡ true

@@ -1,13 +1,14 @@
 -- How a predicted way is walked on a state: step by step, as long as all goes as predicted.
 use Rattle.std.specs.Prelude.{ℕ, true, false, if◌then◌else◌, List, [], ◌∷◌, ◌++◌, Option, Some, None}
 use Rattle.layer_ast.specs.declared.tokens.Dir.{Dir}
+use Rattle.layer_mean.specs.declared.run.Case.TheVariants.{First, Second}
 use Rattle.layer_mean.specs.declared.run.Event.{Event}
 use Rattle.layer_mean.specs.declared.run.Row.{Row}
 use Rattle.layer_mean.specs.Tree.{TakenTree}
 use Rattle.layer_mean.specs.State.{State, flat_index, row_at, has_room, with_number, with_row, without_front}
 use Rattle.layer_mean.specs.Value.{Scope, is_true, val}
 use Rattle.layer_mean.specs.Effect.{with_slot, with_taken, row_of, emitted}
-use Rattle.layer_mean.specs.Way.{Step, test, set_slot, set_number, set_square, put, get, send, loop}
+use Rattle.layer_mean.specs.Way.{Step, test, fork, set_slot, set_number, set_square, put, get, send, loop}
 
 -- Where a walk stands: the state, the scope, and what was sent so far.
 pub record Here : Type 0 where
@@ -24,6 +25,8 @@ took c i taken h (Some row) = Some (record h { state = without_front h.state c i
 abbrev pub walk_step : ℕ → Step → Here → Option Here
 walk_step place (test true e) h = if is_true (val e h.state h.scope) then Some h else None
 walk_step place (test false e) h = if is_true (val e h.state h.scope) then None else Some h
+walk_step place (fork First e) h = if is_true (val e h.state h.scope) then Some h else None
+walk_step place (fork Second e) h = if is_true (val e h.state h.scope) then None else Some h
 walk_step place (set_slot k e) h = Some (record h { scope = with_slot k (val e h.state h.scope) h.scope })
 walk_step place (set_number c i e) h =
     Some (record h { state = with_number h.state c (val i h.state h.scope) (val e h.state h.scope) })

@@ -8,7 +8,7 @@ use Rattle.layer_ast.proofs.Laid.{fits_laid}
 use Rattle.layer_lib.specs.Library.{library}
 use Rattle.layer_mean.specs.Visit.{step}
 use Rattle.layer_mean.specs.Queue.{run}
-use Rattle.stack_mean.specs.Shape.{shape}
+use Rattle.stack_mean.specs.Shape.{drawn_shape, has_second_case}
 use Rattle.packet_mean.specs.Received.{received}
 use Rattle.file_mean.specs.Layers.{handler_of, layer_of}
 use Rattle.file_mean.specs.Stack.{stack_of}
@@ -20,7 +20,7 @@ use Rattle.file_mean.specs.CounterFile as counter
 use Rattle.program_rows.proofs.replays_short.Goals as goal
 
 pub returns : goal.returns
-unfolding piece reserved kinds word_token symbols symbol_at library stack_of layer_of handler_of output_in report_lines happens received shape run step digits ones ones_in count_trailing_zeros hex_on_literals
+unfolding piece reserved kinds word_token symbols symbol_at library stack_of layer_of handler_of output_in report_lines happens received drawn_shape has_second_case run step digits ones ones_in count_trailing_zeros hex_on_literals
 returns c = record {
   stack = stack_of counter.file;
   means = record {

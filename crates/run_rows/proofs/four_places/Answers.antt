@@ -5,12 +5,12 @@ use lib.Count.{ones, ones_in}
 use Rattle.hex.proofs.OnLiterals.{hex_on_literals}
 use Rattle.layer_mean.specs.Visit.{step}
 use Rattle.layer_mean.specs.Queue.{run}
-use Rattle.stack_mean.specs.Shape.{shape}
+use Rattle.stack_mean.specs.Shape.{drawn_shape, has_second_case}
 use Rattle.packet_mean.specs.Received.{received}
 use Rattle.run_mean.specs.World.{happens}
 use Rattle.run_mean.specs.Report.{report_lines, output_in}
 use Rattle.run_rows.proofs.four_places.Goals as goal
 
 pub returns : goal.returns
-unfolding output_in report_lines happens received shape run step digits ones ones_in hex_on_literals
+unfolding output_in report_lines happens received drawn_shape has_second_case run step digits ones ones_in hex_on_literals
 returns c = (refl, refl)

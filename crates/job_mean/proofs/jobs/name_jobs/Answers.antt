@@ -38,3 +38,11 @@ returns-clause-behind_the_end_of_options c = refl
 pub returns-clause-hyphen_and_nothing : goal.returns-clause-hyphen_and_nothing
 unfolding clap_on_literals
 returns-clause-hyphen_and_nothing c = refl
+
+pub returns-clause-loads_datagrams : goal.returns-clause-loads_datagrams
+unfolding clap_on_literals
+returns-clause-loads_datagrams c = refl
+
+pub returns-clause-runs_a_patient_node : goal.returns-clause-runs_a_patient_node
+unfolding clap_on_literals
+returns-clause-runs_a_patient_node c = refl

@@ -62,3 +62,7 @@ returns-clause-negative_value c = refl
 pub returns-clause-end_for_a_value : goal.returns-clause-end_for_a_value
 unfolding clap_on_literals
 returns-clause-end_for_a_value c = refl
+
+pub returns-clause-raw_twice : goal.returns-clause-raw_twice
+unfolding clap_on_literals
+returns-clause-raw_twice c = refl

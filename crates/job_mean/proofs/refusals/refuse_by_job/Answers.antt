@@ -46,3 +46,15 @@ returns-clause-no_seed c = refl
 pub returns-clause-wire_for_node : goal.returns-clause-wire_for_node
 unfolding clap_on_literals
 returns-clause-wire_for_node c = refl
+
+pub returns-clause-raw_for_replay : goal.returns-clause-raw_for_replay
+unfolding clap_on_literals
+returns-clause-raw_for_replay c = refl
+
+pub returns-clause-raw_for_node : goal.returns-clause-raw_for_node
+unfolding clap_on_literals
+returns-clause-raw_for_node c = refl
+
+pub returns-clause-patience_for_load : goal.returns-clause-patience_for_load
+unfolding clap_on_literals
+returns-clause-patience_for_load c = refl

@@ -58,3 +58,11 @@ returns-clause-space c = refl
 pub returns-clause-comma_at_the_end : goal.returns-clause-comma_at_the_end
 unfolding clap_on_literals
 returns-clause-comma_at_the_end c = refl
+
+pub returns-clause-much_patience : goal.returns-clause-much_patience
+unfolding clap_on_literals
+returns-clause-much_patience c = refl
+
+pub returns-clause-no_patience : goal.returns-clause-no_patience
+unfolding clap_on_literals
+returns-clause-no_patience c = refl
