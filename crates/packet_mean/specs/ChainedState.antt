@@ -1,53 +1,108 @@
--- Which states a layer can have at its place: what its cells hold is of their forms, and the messages that it keeps are chained.
-use Rattle.std.specs.Prelude.{◌≡◌, ℕ, ◌+◌, ◌<◌, ◌≤◌, All, List, [], length, slice_index_or, Option, Some, None}
-use Rattle.std.specs.List.{AllZip}
+-- Which states a layer can have at its place, and which events can come to it: what its cells hold is of their forms, messages are
+-- chained, and all numbers and bytes are in range.
+use Rattle.std.specs.Prelude.{◌≡◌, ℕ, suc, ◌<◌, ◌≤◌, ◌^◌, Bool, true, false, List, [], length, drop, slice_index_or, Option, Some, None}
+use Rattle.std.specs.List.{AllByRecursion, AllZip}
 use Rattle.msg_core.specs.Chain.{Content}
 use Rattle.msg_core.specs.Parts.{longest_body}
 use Rattle.msg_core.specs.View.{most_members}
+use Rattle.msg_core.specs.declared.message.Header.{Header}
+use Rattle.layer_ast.specs.declared.tokens.Dir.{Dir}
+use Rattle.layer_ast.specs.declared.tokens.Dir.TheVariants.{Up, Down}
+use Rattle.layer_mean.specs.declared.run.Event.{Event}
 use Rattle.layer_mean.specs.declared.run.Row.{Row}
+use Rattle.layer_mean.specs.Event.{carries}
 use Rattle.layer_mean.specs.Tree.{Carried, part, whole, ItemsTree, Form, numbers, queue, queues, CellTree, LayerTree, no_layer}
 use Rattle.layer_mean.specs.State as state
 use Rattle.layer_mean.specs.State.{State, Contents, size_of}
-use Rattle.packet_mean.specs.Chained.{IsChained}
-use Rattle.packet_mean.specs.Spelling.{AreNumbers}
+use Rattle.packet_mean.specs.Chained.{IsChain}
 
--- A message that the layer at a place keeps: a part has no headers, and a message those of the layers above.
-abbrev pub IsKept : List LayerTree → ℕ → Carried → Content → Type 0
-IsKept stack place part m = (m.headers ≡ []) × (length m.body ≤ longest_body)
-IsKept stack place (whole blank) m = IsChained stack (place + 1) m
+-- A number, and numbers: below 2^32.
+abbrev pub IsNumber : ℕ → Type 0
+IsNumber n = n < 2 ^ 32
+
+abbrev pub Numbers : List ℕ → Type 0
+Numbers ns = AllByRecursion IsNumber ns
+
+-- A body: at most so many bytes.
+pub record IsBody (body : List ℕ) : Type 0 where
+  pub within : length body ≤ longest_body
+  pub bytes : AllByRecursion (λ b. b < 256) body
+
+-- The headers of a message that comes from a place of a stack: a chain of the layers from there on, whose fields are numbers.
+pub record IsFrom (stack : List LayerTree) (place : ℕ) (headers : List Header) : Type 0 where
+  pub chain : IsChain (drop place stack) place headers
+  pub fields : AllByRecursion (λ h. Numbers h.fields) headers
+
+-- What a layer keeps and is sent is said over what the headers of a message of the layers above are, `Above`.
+
+-- A message with such headers.
+pub record IsMessage (Above : List Header → Type 0) (m : Content) : Type 0 where
+  pub headers : Above m.headers
+  pub body : IsBody m.body
+
+-- The headers of a message that a queue carries: a part has none.
+abbrev pub KeptHeaders : (List Header → Type 0) → Carried → List Header → Type 0
+KeptHeaders Above part headers = headers ≡ []
+KeptHeaders Above (whole blank) headers = Above headers
 
 -- What a row ends with is what its queue carries.
-abbrev pub EndsWith : List LayerTree → ℕ → Option (List ℕ × Carried) → Option Content → Type 0
-EndsWith stack place None None = Unit {0}
-EndsWith stack place (Some item) (Some m) = IsKept stack place item.1 m
-EndsWith stack place _ _ = ⊥
+abbrev pub EndsWith : (List Header → Type 0) → Option (List ℕ × Carried) → Option Content → Type 0
+EndsWith Above None None = Unit {0}
+EndsWith Above (Some item) (Some m) = IsMessage (KeptHeaders Above item.1) m
+EndsWith Above _ _ = ⊥
 
 -- A row has the numbers and the message of its queue's items.
-pub record IsRow (stack : List LayerTree) (place : ℕ) (items : ItemsTree) (row : Row) : Type 0 where
+pub record IsRow (Above : List Header → Type 0) (items : ItemsTree) (row : Row) : Type 0 where
   pub count : length row.numbers ≡ length items.numbers
-  pub numbers : AreNumbers row.numbers
-  pub message : EndsWith stack place items.message row.message
+  pub numbers : Numbers row.numbers
+  pub message : EndsWith Above items.message row.message
 
--- A queue is within its capacity, and its rows are of its items.
-pub record IsQueue (stack : List LayerTree) (place capacity : ℕ) (items : ItemsTree) (rows : List Row) : Type 0 where
+-- A queue is within its capacity, which is a number, and its rows are of its items.
+pub record IsQueue (Above : List Header → Type 0) (capacity : ℕ) (items : ItemsTree) (rows : List Row) : Type 0 where
+  pub bounded : IsNumber capacity
   pub within : length rows ≤ capacity
-  pub rows_are : All (IsRow stack place items) rows
+  pub rows_are : AllByRecursion (IsRow Above items) rows
 
 -- What a cell holds is of its form, at a member of a view of n.
-abbrev pub HoldsForm : List LayerTree → ℕ → ℕ → Form → Contents → Type 0
-HoldsForm stack place n (numbers shape initial) (state.numbers ns) = (length ns ≡ size_of n shape) × AreNumbers ns
-HoldsForm stack place n (queue capacity items) (state.queues qs) =
-    (length qs ≡ 1) × All (IsQueue stack place capacity items) qs
-HoldsForm stack place n (queues capacity items) (state.queues qs) =
-    (length qs ≡ n) × All (IsQueue stack place capacity items) qs
-HoldsForm stack place n _ _ = ⊥
+abbrev pub HoldsForm : (List Header → Type 0) → ℕ → Form → Contents → Type 0
+HoldsForm Above n (numbers shape initial) (state.numbers ns) = (length ns ≡ size_of n shape) × Numbers ns
+HoldsForm Above n (queue capacity items) (state.queues qs) =
+    (length qs ≡ 1) × AllByRecursion (IsQueue Above capacity items) qs
+HoldsForm Above n (queues capacity items) (state.queues qs) =
+    (length qs ≡ n) × AllByRecursion (IsQueue Above capacity items) qs
+HoldsForm Above n _ _ = ⊥
 
--- A state of the layer at a place of a stack is chained: its rank is one of its view's, each cell holds what its form says, and the
--- messages that it keeps are chained from the place above.
-pub record IsChainedState (stack : List LayerTree) (place : ℕ) (s : State) : Type 0 where
+-- A state of a layer: its rank is one of its view's, the view's count of views is a number, and each cell holds what its form says.
+pub record IsState (Above : List Header → Type 0) (layer : LayerTree) (s : State) : Type 0 where
   pub some_member : 1 ≤ s.count
   pub most_members : s.count ≤ most_members
   pub me : s.me < s.count
-  pub cells :
-      AllZip (λ (cell : CellTree) held. HoldsForm stack place s.count cell.form held)
-      (slice_index_or stack place no_layer).cells s.cells
+  pub ltime : IsNumber s.ltime
+  pub cells : AllZip (λ (cell : CellTree) held. HoldsForm Above s.count cell.form held) layer.cells s.cells
+
+-- An event has a message exactly where its kind carries one.
+abbrev pub Brings : (List Header → Type 0) → Bool → Option Content → Type 0
+Brings Chain true (Some m) = IsMessage Chain m
+Brings Chain false None = Unit {0}
+Brings Chain _ _ = ⊥
+
+-- An event with such headers: its numbers are in range.
+pub record IsEvent (Chain : List Header → Type 0) (e : Event) : Type 0 where
+  pub peer : IsNumber e.peer
+  pub a : IsNumber e.a
+  pub b : IsNumber e.b
+  pub message : Brings Chain (carries e.kind) e.message
+
+-- A state of the layer at a place of a stack is chained: the messages that it keeps come from the place above.
+abbrev pub IsChainedState : (stack : List LayerTree) (place : ℕ) → State → Type 0
+IsChainedState stack place s = IsState (IsFrom stack (suc place)) (slice_index_or stack place no_layer) s
+
+-- The place from which the message of an event comes that comes to a place: going up it has the place's own header, and going
+-- down it doesn't have it yet.
+abbrev pub from_place : Dir → ℕ → ℕ
+from_place Up place = place
+from_place Down place = suc place
+
+-- An event that comes to a place of a stack is chained.
+abbrev pub IsChainedEvent : (stack : List LayerTree) (place : ℕ) → Dir → Event → Type 0
+IsChainedEvent stack place dir e = IsEvent (IsFrom stack (from_place dir place)) e

@@ -1,0 +1,3 @@
+pub mod Typed
+pub mod Visits
+pub mod Runs
