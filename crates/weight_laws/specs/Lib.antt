@@ -1,0 +1,5 @@
+pub mod Nodes
+pub mod Orderly
+pub mod Costs
+pub mod Made
+pub mod Visits
