@@ -6,3 +6,5 @@ pub mod Sends
 pub mod Visits
 pub mod Made
 pub mod Sums
+pub mod Queue
+pub mod Runs

@@ -3,3 +3,4 @@ pub mod Orderly
 pub mod Costs
 pub mod Made
 pub mod Visits
+pub mod Runs

@@ -2,6 +2,7 @@
 #![tactic(auto)]
 
 ghost use Rattle.weight_laws.specs.Costs.{CostsFollowArrows};
+ghost use Rattle.weight_laws.specs.Runs.{JoinsAndPending, LinesEnd, RunsEnd, TurnsAndWeight, TurnsFit, TurnsJoinLess, TurnsLighten};
 ghost use Rattle.weight_laws.specs.Visits.{CountsWhatItJoins, SendsFollowArrows, WeighsWhatItSends};
 
 /// Where no node of an orderly stack lies on a cycle, a node costs its own and what its arrows cost.
@@ -22,4 +23,40 @@ pub fn weighs_what_it_sends()
 /// The join count of a node is at least the joins that its visit makes and the join counts of what it sends.
 pub fn counts_what_it_joins()
     ensures { CountsWhatItJoins }
+{}
+
+/// A turn makes the weight of the pending tasks less.
+pub fn turns_lighten()
+    ensures { TurnsLighten }
+{}
+
+/// The joins that a turn makes are taken from the join counts of the pending tasks.
+pub fn turns_join_less()
+    ensures { TurnsJoinLess }
+{}
+
+/// A loop that has as much weight left and as many free slots as its tasks need has room for one turn, and enough is left for the
+/// rest.
+pub fn turns_fit()
+    ensures { TurnsFit }
+{}
+
+/// Turns that were taken and weight that is pending are no more than the weight was.
+pub fn turns_and_weight()
+    ensures { TurnsAndWeight }
+{}
+
+/// Joins that were made and those that are pending are no more than the join counts were.
+pub fn joins_and_pending()
+    ensures { JoinsAndPending }
+{}
+
+/// A line comes to its end in as many turns as its weight, and more turns change nothing.
+pub fn lines_end()
+    ensures { LinesEnd }
+{}
+
+/// A run of an accepted stack from an entry ends within the entry's weight and join count, and these are within the limits.
+pub fn runs_end()
+    ensures { RunsEnd }
 {}
