@@ -8,3 +8,5 @@ pub mod Made
 pub mod Sums
 pub mod Queue
 pub mod Runs
+pub mod Chains
+pub mod Turns

@@ -4,3 +4,6 @@ pub mod Costs
 pub mod Made
 pub mod Visits
 pub mod Runs
+pub mod Chains
+pub mod Turns
+pub mod Samples

@@ -1,8 +1,12 @@
 //! That runs of accepted stacks end, and how much they take: each law is the contract of a function that does nothing.
 #![tactic(auto)]
 
+pub mod samples;
+
+ghost use Rattle.weight_laws.specs.Chains.{ChainedTasksAreKnown};
 ghost use Rattle.weight_laws.specs.Costs.{CostsFollowArrows};
 ghost use Rattle.weight_laws.specs.Runs.{JoinsAndPending, LinesEnd, RunsEnd, TurnsAndWeight, TurnsFit, TurnsJoinLess, TurnsLighten};
+ghost use Rattle.weight_laws.specs.Turns.{KnownToTheEnd};
 ghost use Rattle.weight_laws.specs.Visits.{CountsWhatItJoins, SendsFollowArrows, WeighsWhatItSends};
 
 /// Where no node of an orderly stack lies on a cycle, a node costs its own and what its arrows cost.
@@ -59,4 +63,14 @@ pub fn lines_end()
 /// A run of an accepted stack from an entry ends within the entry's weight and join count, and these are within the limits.
 pub fn runs_end()
     ensures { RunsEnd }
+{}
+
+/// A task whose message is chained for its place is known.
+pub fn chained_tasks_are_known()
+    ensures { ChainedTasksAreKnown }
+{}
+
+/// A line that is known turn by turn until no task is left is known throughout.
+pub fn known_to_the_end()
+    ensures { KnownToTheEnd }
 {}
