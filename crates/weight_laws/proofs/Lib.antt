@@ -1,0 +1,12 @@
+pub mod Members
+pub mod Reach
+pub mod Nodes
+pub mod Costs
+pub mod Sends
+pub mod Visits
+pub mod Made
+pub mod Sums
+pub mod Queue
+pub mod Runs
+pub mod Chains
+pub mod Turns

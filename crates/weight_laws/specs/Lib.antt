@@ -1,0 +1,9 @@
+pub mod Nodes
+pub mod Orderly
+pub mod Costs
+pub mod Made
+pub mod Visits
+pub mod Runs
+pub mod Chains
+pub mod Turns
+pub mod Samples
