@@ -102,3 +102,9 @@ Receives member into old new (Ok (Some k)) = IfSome old (λ n. next_met member n
 Receives member into old new (Ok None) = IfSome old (λ n. next_met member n ≡ Quiet) × (new ≡ option_map (after_recv member) old)
 Receives member into old new (Err Failed) = IfSome old (λ n. next_met member n ≡ Broke) × (new ≡ option_map (after_recv member) old)
 Receives member into old new (Err Memory) = new ≡ old
+
+-- which bytes of the buffer a recv writes: those in front that the datagram took, and none where there was no datagram
+abbrev pub WritesFront : List ℕ → List ℕ → Result (Option ℕ) LinkError → Type 0
+WritesFront old new (Ok (Some k)) = drop k new ≡ drop k old
+WritesFront old new (Ok None) = new ≡ old
+WritesFront old new (Err e) = new ≡ old

@@ -62,7 +62,11 @@ fn error_of(error: &Error) -> ShelfError {
 }
 
 // Reads the stream to its end into the empty buffer, or up to the byte that is one too many.
-fn read_stream<S: Read>(stream: &mut S, into: &mut Vec<u8>, most: u64) -> Result<Got, ShelfError>
+pub(crate) fn read_stream<S: Read>(
+    stream: &mut S,
+    into: &mut Vec<u8>,
+    most: u64,
+) -> Result<Got, ShelfError>
     requires { into.old.items ≡ [] }
     ensures filled { Fills most into.new.items result }
     ensures answered { IfSome (S.remaining stream.old) (λ bytes. ReadsStream most bytes into.new.items result) }

@@ -1,7 +1,7 @@
 // Links between the members of a group, which carry datagrams.
 ghost use Rattle.std.specs.Prelude.{◌≡◌, ◌≢◌, ℕ, ◌<◌, ◌≤◌, Option, Some, OnOk, OnErr, IfOk, IfSome, IsSome, IsSomeAnd, length};
 ghost use Rattle.outside.specs.declared.links.LinkError.TheVariants.{Memory};
-ghost use Rattle.outside.specs.Links.{Network, Listens, Sends, Receives, faults_after_call};
+ghost use Rattle.outside.specs.Links.{Network, Listens, Sends, Receives, WritesFront, faults_after_call};
 
 use std::alloc::{AllocError, AllocFailed};
 
@@ -90,8 +90,8 @@ pub trait Links {
         ensures listening { (m : ℕ) → listening self.new m ≡ listening self.old m }
         ensures told { Sends (record { from = from; to = to; bytes = bytes.now }) (told self.old) (told self.new) result };
 
-    /// Takes a datagram that waits for a member that listens: its bytes are the first of `into`. None waits where the
-    /// answer is None.
+    /// Takes a datagram that waits for a member that listens: its bytes are the first of `into`, of which all others stay
+    /// as they were. None waits where the answer is None; then, and on an error, `into` is as before.
     fn recv(&mut self, member: u8, into: &mut [u8]) -> Result<Option<usize>, LinkError>
         requires listens { IsSome (listening self.old member) }
         requires room { length into.old ≡ MOST_BYTES }
@@ -99,5 +99,6 @@ pub trait Links {
         ensures counted { faults self.new ≡ faults_after_call (faults self.old) result }
         ensures sends { send_faults self.new ≡ send_faults self.old }
         ensures listening { (m : ℕ) → listening self.new m ≡ listening self.old m }
+        ensures front { WritesFront into.old into.new result }
         ensures told { Receives member into.new (told self.old) (told self.new) result };
 }

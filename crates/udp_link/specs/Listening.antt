@@ -1,8 +1,17 @@
--- Who listens at a socket of the system.
-use Rattle.std.specs.Prelude.{ℕ, List, Option, slice_get}
+-- Who listens at a socket of the system, and whom it sends to.
+use Rattle.std.specs.Prelude.{ℕ, List, Option, length, take, slice_get}
 use Rattle.std.specs.Option.{option_map, option_flatten}
+use Rattle.outside.specs.declared.links.Peer.{Peer}
 use Rattle.udp_link.specs.declared.member.Member.{Member}
 
--- with how many peers a member listens, where each member stands at its place
-unfoldable pub listening_in : List (Option Member) → ℕ → Option ℕ
-listening_in members member = option_map (λ m. m.count) (option_flatten (slice_get members member))
+-- the peers that a member sends to
+abbrev pub peers_of : Member → List Peer
+peers_of m = take m.count m.peers
+
+-- the peers of a member that listens, where each member stands at its place
+unfoldable pub peers_in : List (Option Member) → ℕ → Option (List Peer)
+peers_in members member = option_map peers_of (option_flatten (slice_get members member))
+
+-- with how many peers a member listens
+abbrev pub listening_in : List (Option Member) → ℕ → Option ℕ
+listening_in members member = option_map length (peers_in members member)

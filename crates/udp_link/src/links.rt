@@ -1,10 +1,10 @@
 // Links over the system's sockets.
 ghost use Rattle.std.specs.Prelude.{◌≡◌, ◌≢◌, ◌<◌, ◌≤◌, ℕ, None, Some, Err, IsSome, IsSomeAnd, IfOk, IfSome, OnOk, OnErr, length, replicate, slice_get};
 ghost use Rattle.outside.specs.declared.links.LinkError.TheVariants.{Memory};
-ghost use Rattle.outside.specs.Links.{Listens, Sends, Receives, faults_after_call};
-ghost use Rattle.udp_link.specs.Listening.{listening_in};
+ghost use Rattle.outside.specs.Links.{Listens, Sends, Receives, WritesFront, faults_after_call};
+ghost use Rattle.udp_link.specs.Listening.{listening_in, peers_in, peers_of};
 
-use crate::member::Member;
+use crate::member::{Member, address};
 use outside::{LinkError, Links, MOST_BYTES, Peer};
 use std::alloc::{AllocError, Global};
 use std::net::Net;
@@ -16,9 +16,12 @@ pub struct UdpLinks<R: Net + Drop> {
     net: R,
     // Each member at its place.
     members: Vec<Option<Member>>,
+    // Where a datagram is received before it is handed on.
+    room: Vec<u8>,
     faults: u64,
     send_faults: u64,
     ghost places: { length members.items ≡ 32 },
+    ghost room_size: { length room.items ≡ 65507 },
 }
 
 impl<R: Net + Drop> UdpLinks<R> {
@@ -29,9 +32,11 @@ impl<R: Net + Drop> UdpLinks<R> {
         ensures send_faults { IfOk result (λ links. ⟦<UdpLinks<R> as Links>⟧.send_faults links ≡ 0) }
     {
         let members = nobody(alloc)?;
+        let room = room(alloc)?;
         Ok(UdpLinks {
             net,
             members,
+            room,
             faults: 0,
             send_faults: 0,
         })
@@ -62,10 +67,16 @@ fn nobody(alloc: Global) -> Result<Vec<Option<Member>>, AllocError>
     Ok(members)
 }
 
-#[tactic(auto, unfolding(crate::specs::Listening::listening_in))]
+fn room(alloc: Global) -> Result<Vec<u8>, AllocError>
+    ensures { IfOk result (λ room. length room.items ≡ 65507) }
+{
+    vec![in alloc; 0; MOST_BYTES]
+}
+
+#[tactic(auto, unfolding(crate::specs::Listening::peers_in))]
 fn listener(members: &[Option<Member>], member: u8) -> &Member
     requires { IsSome (listening_in members.now member) }
-    ensures { listening_in members.now member ≡ Some result.now.count }
+    ensures { peers_in members.now member ≡ Some (peers_of result.now) }
 {
     match members.get(member as usize) {
         Some(Some(listener)) => listener,
@@ -82,7 +93,7 @@ impl<R: Net + Drop> Links for UdpLinks<R> {
 
     ghost told = { λ _. None };
 
-    #[tactic(auto, unfolding(crate::specs::Listening::listening_in))]
+    #[tactic(auto, unfolding(crate::specs::Listening::peers_in))]
     fn listen(&mut self, member: u8, peers: &[Peer]) -> Result<(), LinkError>
         requires member { member < length peers.now }
         requires few { length peers.now ≤ 32 }
@@ -91,6 +102,9 @@ impl<R: Net + Drop> Links for UdpLinks<R> {
         ensures listening { OnOk result (listening_in self.new.members.items member ≡ Some (length peers.now)) }
         ensures others { (m : ℕ) → m ≢ member → listening_in self.new.members.items m ≡ listening_in self.old.members.items m }
         ensures as_before { OnErr result (listening_in self.new.members.items member ≡ listening_in self.old.members.items member) }
+        ensures peers { OnOk result (peers_in self.new.members.items member ≡ Some peers.now) }
+        ensures other_peers { (m : ℕ) → m ≢ member → peers_in self.new.members.items m ≡ peers_in self.old.members.items m }
+        ensures peers_as_before { OnErr result (self.new.members ≡ self.old.members) }
         ensures told { Listens None None result }
         ensures memory { result ≢ Err Memory }
     {
@@ -112,10 +126,12 @@ impl<R: Net + Drop> Links for UdpLinks<R> {
         ensures counted { self.new.send_faults ≡ faults_after_call self.old.send_faults result }
         ensures faults { self.new.faults ≡ self.old.faults }
         ensures listening { (m : ℕ) → listening_in self.new.members.items m ≡ listening_in self.old.members.items m }
+        ensures members { self.new.members ≡ self.old.members }
         ensures told { Sends (record { from = from; to = to; bytes = bytes.now }) None None result }
         ensures memory { result ≢ Err Memory }
     {
-        if listener(&self.members, from).send(to, bytes) {
+        let sender = listener(&self.members, from);
+        if sender.send(address(sender.peer(to)), bytes) {
             return Ok(());
         }
         self.send_faults = self.send_faults.saturating_add(1);
@@ -129,11 +145,17 @@ impl<R: Net + Drop> Links for UdpLinks<R> {
         ensures counted { self.new.faults ≡ faults_after_call self.old.faults result }
         ensures sends { self.new.send_faults ≡ self.old.send_faults }
         ensures listening { (m : ℕ) → listening_in self.new.members.items m ≡ listening_in self.old.members.items m }
+        ensures front { WritesFront into.old into.new result }
+        ensures members { self.new.members ≡ self.old.members }
         ensures told { Receives member into.new None None result }
         ensures memory { result ≢ Err Memory }
     {
-        match listener(&self.members, member).recv(into) {
-            Ok(got) => Ok(got),
+        match listener(&self.members, member).recv(&mut self.room) {
+            Ok(Some(count)) => {
+                into[..count].copy_from_slice(&self.room[..count]);
+                Ok(Some(count))
+            }
+            Ok(None) => Ok(None),
             Err(_) => {
                 self.faults = self.faults.saturating_add(1);
                 Err(LinkError::Failed)

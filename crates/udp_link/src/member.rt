@@ -1,5 +1,6 @@
 // A member that listens at a socket.
-ghost use Rattle.std.specs.Prelude.{◌≡◌, ◌<◌, ◌≤◌, length, IfOk, IfSome};
+ghost use Rattle.std.specs.Prelude.{◌≡◌, ◌<◌, ◌≤◌, Some, length, take, slice_get, IfOk, IfSome};
+ghost use Rattle.udp_link.specs.Address.{IsAddressOf};
 
 use outside::Peer;
 use std::io;
@@ -15,34 +16,40 @@ const NOBODY: Peer = Peer {
 #[derive(Drop)]
 pub(crate) struct Member {
     socket: UdpSocket,
+    // The first `count` of them.
     peers: [Peer; 32],
-    pub(crate) count: u8,
+    count: u8,
     ghost few: { count ≤ 32 },
 }
 
 impl Member {
+    ghost use Rattle.udp_link.specs.Listening.{peers_of};
+
     /// Listens at `place`.
     pub(crate) fn open(net: &impl Net, place: Peer, peers: &[Peer]) -> io::Result<Self>
         requires { length peers.now ≤ 32 }
-        ensures { IfOk result (λ member. member.count ≡ length peers.now) }
+        ensures { IfOk result (λ member. peers_of member ≡ peers.now) }
     {
         let socket = net.bind_udp(address(place))?;
         socket.set_nonblocking(true)?;
-        let mut all = [NOBODY; 32];
-        all[..peers.len()].copy_from_slice(peers);
         Ok(Member {
             socket,
-            peers: all,
+            peers: table(peers),
             count: peers.len() as u8,
         })
     }
 
-    /// Whether the datagram was handed on whole.
-    pub(crate) fn send(&self, to: u8, bytes: &[u8]) -> bool
-        requires { to < self.now.count }
+    /// The peer of this number.
+    pub(crate) fn peer(&self, to: u8) -> Peer
+        requires { to < length (peers_of self.now) }
+        ensures { slice_get (peers_of self.now) to ≡ Some result }
     {
-        let peer = self.peers[to as usize];
-        matches!(self.socket.send_to(bytes, address(peer)), Ok(count) if count == bytes.len())
+        self.peers[to as usize]
+    }
+
+    /// Whether the datagram was handed on whole.
+    pub(crate) fn send(&self, to: SocketAddr, bytes: &[u8]) -> bool {
+        matches!(self.socket.send_to(bytes, to), Ok(count) if count == bytes.len())
     }
 
     /// A datagram that waits, which now stands at the front of `into`.
@@ -57,6 +64,19 @@ impl Member {
     }
 }
 
-fn address(peer: Peer) -> SocketAddr {
+// The peers, with nobody behind them.
+fn table(peers: &[Peer]) -> [Peer; 32]
+    requires { length peers.now ≤ 32 }
+    ensures { take (length peers.now) result ≡ peers.now }
+{
+    let mut all = [NOBODY; 32];
+    all[..peers.len()].copy_from_slice(peers);
+    all
+}
+
+/// The address of a peer.
+pub(crate) fn address(peer: Peer) -> SocketAddr
+    ensures { IsAddressOf peer result }
+{
     SocketAddr::V4(SocketAddrV4::new(Ipv4Addr::from(peer.ip), peer.port))
 }

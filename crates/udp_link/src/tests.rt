@@ -1,5 +1,5 @@
 // Over the loopback, at an address of this process alone: what the system's sockets carry.
-ghost use Rattle.std.specs.Prelude.{◌≡◌, ◌≤◌, ℕ, Some, IfOk, IsSome, length};
+ghost use Rattle.std.specs.Prelude.{◌≡◌, ◌≤◌, ◌<◌, ℕ, Some, IfOk, OnOk, IsSome, length};
 
 use crate::UdpLinks;
 use outside::{LinkError, Links, MOST_BYTES, Peer};
@@ -15,14 +15,21 @@ const NOWHERE: Peer = Peer {
     port: 0,
 };
 
-// The places of three members. Those of another process on this machine are at another address.
-fn places(process: u32) -> [Peer; 3] {
-    let ip = [
+// An address of the loopback, one of four of this process. Those of another process on this machine are others.
+fn address(process: u32, number: u32) -> [u8; 4]
+    requires { number < 4 }
+{
+    [
         127,
-        (process / 65536 % 256) as u8,
+        (process / 65536 % 64 + number * 64) as u8,
         (process / 256 % 256) as u8,
         (process % 256) as u8,
-    ];
+    ]
+}
+
+// The places of three members, at one address.
+fn places(process: u32) -> [Peer; 3] {
+    let ip = address(process, 0);
     [
         Peer { ip, port: 47320 },
         Peer { ip, port: 47321 },
@@ -141,5 +148,155 @@ fn a_send_to_no_port_fails(rt: HostRuntime) -> Result<(), Fail> {
     assert_eq!(rt; links.send(0, 1, b"hello"), Err(LinkError::Failed));
     assert_eq!(rt; links.send_faults(), 1);
     assert_eq!(rt; links.faults(), 0);
+    Ok(())
+}
+
+#[test]
+fn members_at_one_port_are_told_apart_by_address(rt: HostRuntime) -> Result<(), Fail> {
+    let alloc = rt.alloc();
+    let process = process::id(rt.process());
+    let port = 47323;
+    let places = [
+        Peer {
+            ip: address(process, 1),
+            port,
+        },
+        Peer {
+            ip: address(process, 2),
+            port,
+        },
+        Peer {
+            ip: address(process, 3),
+            port,
+        },
+    ];
+    let mut links = UdpLinks::of(alloc, &rt)?;
+    links.listen(0, &places)?;
+    links.listen(1, &places)?;
+    links.listen(2, &places)?;
+    exchange(&rt, alloc, &mut links, 5)?;
+    let mut room = room(alloc)?;
+    let to_another = links.recv(2, room.as_mut_slice());
+    assert_eq!(rt; to_another, Ok(None));
+    Ok(())
+}
+
+fn listen_all<N: Links>(links: &mut N, places: &[Peer]) -> Result<(), LinkError>
+    requires { length places.now ≡ 32 }
+    ensures { OnOk result ((m : ℕ) → m < 32 → N.listening links.new m ≡ Some 32) }
+{
+    for member in 0..32 {
+        links.listen(member, places)?;
+    }
+    Ok(())
+}
+
+// Sends each member its number, from the last to the first.
+fn send_to_all<N: Links>(links: &mut N) -> Result<(), LinkError>
+    requires { (m : ℕ) → m < 32 → N.listening links.old m ≡ Some 32 }
+    ensures { (m : ℕ) → N.listening links.new m ≡ N.listening links.old m }
+{
+    for member in 0..32 {
+        let last = 31 - member;
+        links.send(member, last, &[last])?;
+    }
+    Ok(())
+}
+
+// Each member got its own number, and nothing else.
+fn all_received<N: Links>(
+    rt: &(impl Abort + Clock),
+    alloc: Global,
+    links: &mut N,
+) -> Result<(), LinkError>
+    requires { (m : ℕ) → m < 32 → N.listening links.old m ≡ Some 32 }
+{
+    let mut room = room(alloc)?;
+    let into = room.as_mut_slice();
+    for member in 0..32 {
+        assert_eq!(rt; receive(rt, links, member, into)?, Some(1));
+        assert_eq!(rt; into.first().copied(), Some(member));
+        assert_eq!(rt; links.recv(member, into)?, None, "nothing else came");
+    }
+    Ok(())
+}
+
+#[test]
+fn each_of_32_members_gets_its_own(rt: HostRuntime) -> Result<(), Fail> {
+    let alloc = rt.alloc();
+    let ip = address(process::id(rt.process()), 0);
+    let mut places = [Peer { ip, port: 47330 }; 32];
+    for (place, port) in places.iter_mut().zip(47330..47362) {
+        place.port = port;
+    }
+    let mut links = UdpLinks::of(alloc, &rt)?;
+    listen_all(&mut links, &places)?;
+    send_to_all(&mut links)?;
+    all_received(&rt, alloc, &mut links)?;
+    Ok(())
+}
+
+#[test]
+fn datagrams_wait_in_their_order(rt: HostRuntime) -> Result<(), Fail> {
+    let alloc = rt.alloc();
+    let ip = address(process::id(rt.process()), 0);
+    let places = [Peer { ip, port: 47324 }, Peer { ip, port: 47325 }];
+    let mut links = UdpLinks::of(alloc, &rt)?;
+    links.listen(0, &places)?;
+    links.listen(1, &places)?;
+    links.send(0, 1, b"long")?;
+    links.send(0, 1, b"it")?;
+    let mut room = room(alloc)?;
+    let into = room.as_mut_slice();
+    assert_eq!(rt; receive(&rt, &mut links, 1, into)?, Some(4));
+    assert_eq!(rt; into.get(..4), Some(b"long".as_slice()));
+    assert_eq!(rt; receive(&rt, &mut links, 1, into)?, Some(2));
+    assert_eq!(rt; into.get(..4), Some(b"itng".as_slice()), "the others stay");
+    assert_eq!(rt; links.recv(1, into)?, None);
+    Ok(())
+}
+
+#[test]
+fn a_sender_outside_the_group_is_heard(rt: HostRuntime) -> Result<(), Fail> {
+    let alloc = rt.alloc();
+    let ip = address(process::id(rt.process()), 0);
+    let group = [Peer { ip, port: 47326 }];
+    let stranger = [Peer { ip, port: 47327 }, Peer { ip, port: 47326 }];
+    let mut links = UdpLinks::of(alloc, &rt)?;
+    links.listen(0, &group)?;
+    let mut outside = UdpLinks::of(alloc, &rt)?;
+    outside.listen(0, &stranger)?;
+    outside.send(0, 1, b"hello")?;
+    let mut room = room(alloc)?;
+    let into = room.as_mut_slice();
+    assert_eq!(rt; receive(&rt, &mut links, 0, into)?, Some(5));
+    assert_eq!(rt; into.get(..5), Some(b"hello".as_slice()));
+    Ok(())
+}
+
+#[test]
+fn a_member_listens_again(rt: HostRuntime) -> Result<(), Fail> {
+    let alloc = rt.alloc();
+    let ip = address(process::id(rt.process()), 0);
+    let first = [Peer { ip, port: 47328 }, Peer { ip, port: 47329 }];
+    let second = [Peer { ip, port: 47329 }, Peer { ip, port: 47328 }];
+    let mut links = UdpLinks::of(alloc, &rt)?;
+    links.listen(0, &first)?;
+    links.listen(0, &second)?;
+    links.listen(1, &second)?;
+    assert_eq!(rt;
+        links.listen(0, &first),
+        Err(LinkError::Failed),
+        "the other member has that place now"
+    );
+    assert_eq!(rt; links.faults(), 1);
+    links.send(0, 1, b"hello")?;
+    links.send(1, 0, b"there")?;
+    let mut room = room(alloc)?;
+    let into = room.as_mut_slice();
+    assert_eq!(rt; receive(&rt, &mut links, 1, into)?, Some(5));
+    assert_eq!(rt; into.get(..5), Some(b"hello".as_slice()));
+    assert_eq!(rt; receive(&rt, &mut links, 0, into)?, Some(5));
+    assert_eq!(rt; into.get(..5), Some(b"there".as_slice()));
     Ok(())
 }

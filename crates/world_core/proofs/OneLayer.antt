@@ -8,8 +8,8 @@ use Rattle.first_mean.specs.declared.run.Event.{Event}
 use Rattle.first_mean.specs.Tree.{LayerTree, HandlerTree, StatementTree, assign, emit}
 use Rattle.first_mean.specs.State.{State}
 use Rattle.first_mean.specs.Value.{Scope}
-use Rattle.first_mean.specs.Effect.{Outcome, after, start, does, does_all}
-use Rattle.first_mean.specs.Visit.{step, Met, met, handled, unhandled, is_for}
+use Rattle.first_mean.specs.Effect.{Outcome, after, start, does}
+use Rattle.first_mean.specs.Visit.{step, Met, met, handled, is_for}
 use Rattle.first_mean.specs.Queue.{run, run_for, layers, Line, Work, tasks_of, emissions, is_emission}
 
 -- tasks at the edges come out in their order

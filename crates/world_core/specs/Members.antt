@@ -1,5 +1,5 @@
 -- Members of a world of one layer.
-use Rattle.std.specs.Prelude.{◌≡◌, ℕ, List, [], ◌∷◌}
+use Rattle.std.specs.Prelude.{◌≡◌, ℕ, [], ◌∷◌}
 use Rattle.first_mean.specs.Tree.{LayerTree}
 use Rattle.first_mean.specs.State.{fresh}
 use Rattle.first_run.specs.World as world

@@ -1,5 +1,5 @@
 -- Runs of a stack of one layer.
-use Rattle.std.specs.Prelude.{◌≡◌, ℕ, List, [], ◌∷◌}
+use Rattle.std.specs.Prelude.{◌≡◌, [], ◌∷◌}
 use Rattle.layer_ast.specs.declared.tokens.Dir.{Dir}
 use Rattle.first_mean.specs.declared.run.Event.{Event}
 use Rattle.first_mean.specs.Tree.{LayerTree}

@@ -1,12 +1,10 @@
 -- A world beside the stack that its members run.
-use Rattle.std.specs.Prelude.{◌≡◌, ℕ, List, [], ◌∷◌, map}
-use Rattle.std.specs.List.{All}
+use Rattle.std.specs.Prelude.{◌≡◌, List, []}
 use Rattle.msg_core.specs.declared.packet.Packet.{Packet}
-use Rattle.msg_core.specs.declared.packet.View.{View}
 use Rattle.layer_ast.specs.declared.tokens.Dir.{Dir}
 use Rattle.first_mean.specs.declared.run.Event.{Event}
 use Rattle.first_mean.specs.Tree.{LayerTree}
-use Rattle.first_run.specs.World.{World, Member, Happening, packet_of, nobody}
+use Rattle.first_run.specs.World.{World, Happening, packet_of}
 use Rattle.first_run.specs.View.{did_of}
 use Rattle.first_run.specs.declared.Did.{Did}
 use Rattle.world_core.specs.declared.packets.Sender.{Sender}

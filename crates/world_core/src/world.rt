@@ -1,6 +1,6 @@
 //! The members of a group at work.
 
-ghost use Rattle.std.specs.Prelude.{◌≡◌, ℕ, ◌+◌, ◌^◌, ◌≤◌, ◌<◌, ◌∷◌, [], OnOk, IfOk, length};
+ghost use Rattle.std.specs.Prelude.{◌≡◌, ℕ, ◌+◌, ◌^◌, ◌≤◌, ◌<◌, ◌∷◌, [], OnOk, OnErr, IfOk, length};
 ghost use Rattle.std.specs.Rc.{rc_value};
 ghost use Rattle.first_mean.specs.View.{layer_tree, stack_tree};
 ghost use Rattle.first_run.specs.World.{first_world, first_view, happens, stepped, given, member_at, packet_number};
@@ -114,8 +114,9 @@ impl World {
         self.members[id as usize].layer.cells()
     }
 
-    /// One event of a script: one step of one member, whose outputs stand in `out` behind this, or a
-    /// look at one. Where memory runs out, nothing is said of the world.
+    /// One event of a script: one step of one member, or a look at one. Behind this `out` holds the
+    /// step's outputs and nothing else. Where memory runs out, it holds nothing, and nothing is said of
+    /// the world.
     pub fn feed(
         &mut self,
         alloc: Global,
@@ -123,10 +124,27 @@ impl World {
         out: &mut Emits,
     ) -> Result<Did, Memory>
         requires { member_of event.now < length self.old.world.members }
+        ensures fed { IfOk result (λ did.
+            Fed self.old.stack (happens self.old.stack self.old.world event.now) self.new did out.new) }
+        ensures emptied { OnErr result (out.new ≡ []) }
+    {
+        out.clear();
+        match self.happen(alloc, event, out) {
+            Ok(did) => Ok(did),
+            Err(Memory) => {
+                out.clear();
+                Err(Memory)
+            }
+        }
+    }
+
+    /// What an event does. Its outputs go to `out`.
+    fn happen(&mut self, alloc: Global, event: &ScriptEvent, out: &mut Emits) -> Result<Did, Memory>
+        requires member { member_of event.now < length self.old.world.members }
+        requires empty { out.old ≡ [] }
         ensures { IfOk result (λ did.
             Fed self.old.stack (happens self.old.stack self.old.world event.now) self.new did out.new) }
     {
-        out.clear();
         match event {
             ScriptEvent::Cast(id, body) => {
                 let event = Event {

@@ -1,3 +1,4 @@
+use crate::file_shelf::read_stream;
 use crate::*;
 use std::alloc::{AllocError, Global};
 use std::io::{ErrorKind, Read, Write, pipe};
@@ -35,6 +36,52 @@ impl Write for Slow {
 
     fn flush(&mut self) -> io::Result<()> {
         Ok(())
+    }
+}
+
+/// A stream whose first flush fails.
+#[derive(Drop)]
+struct Stuck {
+    taken: Vec<u8>,
+    flushed: bool,
+}
+
+impl Write for Stuck {
+    fn write(&mut self, buf: &[u8]) -> io::Result<usize> {
+        self.taken.extend_from_slice(buf)?;
+        Ok(buf.len())
+    }
+
+    fn flush(&mut self) -> io::Result<()> {
+        if self.flushed {
+            return Ok(());
+        }
+        self.flushed = true;
+        Err(io::Error::from(ErrorKind::BrokenPipe))
+    }
+}
+
+/// A stream that gives its last byte first, one in a call, and is interrupted before each.
+#[derive(Drop)]
+struct Drip {
+    left: Vec<u8>,
+    interrupted: bool,
+}
+
+impl Read for Drip {
+    fn read(&mut self, buf: &mut [u8]) -> io::Result<usize> {
+        self.interrupted = !self.interrupted;
+        if self.interrupted {
+            return Err(io::Error::from(ErrorKind::Interrupted));
+        }
+        let Some(place) = buf.first_mut() else {
+            return Ok(0);
+        };
+        let Some(byte) = self.left.pop() else {
+            return Ok(0);
+        };
+        *place = byte;
+        Ok(1)
     }
 }
 
@@ -144,6 +191,36 @@ fn a_stream_that_fails_raises_the_count(rt: HostRuntime) -> Result<(), Fail> {
         "the rest is still held"
     );
     assert_eq!(rt; sink.faults(), 2);
+    Ok(())
+}
+
+#[test]
+fn a_flush_that_fails_raises_the_count(rt: HostRuntime) -> Result<(), Fail> {
+    let alloc = rt.alloc();
+    let stuck = Stuck {
+        taken: Vec::new(alloc),
+        flushed: false,
+    };
+    let mut sink = StdSink::of(alloc, stuck)?;
+    assert_eq!(rt; sink.put(b"hello"), Ok(()));
+    assert_eq!(rt; sink.finish(), Err(SinkError::Failed));
+    assert_eq!(rt; sink.faults(), 1);
+    assert_eq!(rt; sink.finish(), Ok(()), "the second flush goes well");
+    assert_eq!(rt; sink.faults(), 1);
+    assert_eq!(rt; sink.stream().taken.as_slice(), b"hello".as_slice());
+    Ok(())
+}
+
+#[test]
+fn an_interrupted_read_is_tried_again(rt: HostRuntime) -> Result<(), Fail> {
+    let alloc = rt.alloc();
+    let mut drip = Drip {
+        left: b"olleh".to_vec(alloc)?,
+        interrupted: false,
+    };
+    let mut into = Vec::new(alloc);
+    assert_eq!(rt; read_stream(&mut drip, &mut into, 5), Ok(Got::Whole));
+    assert_eq!(rt; into.as_slice(), b"hello".as_slice());
     Ok(())
 }
 

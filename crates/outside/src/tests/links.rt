@@ -67,7 +67,9 @@ fn datagrams_meet_their_fates(rt: HostRuntime) -> Result<(), Fail> {
         assert_eq!(rt; links.recv(1, into), Ok(Some(1)));
         assert_eq!(rt; into[0], want);
     }
+    into[0] = b'z';
     assert_eq!(rt; links.recv(1, into), Ok(None));
+    assert_eq!(rt; into[0], b'z', "the buffer stays");
     assert_eq!(rt; links.handed().len(), 6, "failed sends included");
     assert_eq!(rt; links.send_faults(), 1);
     assert_eq!(rt; links.faults(), 0);

@@ -1,11 +1,11 @@
 use Rattle.std.proofs.Common.{◌≡◌, ℕ, zero, suc, None, refl}
 use Rattle.std.specs.Prelude.{replicate}
-use Rattle.udp_link.specs.Listening.{listening_in}
+use Rattle.udp_link.specs.Listening.{listening_in, peers_in}
 use Rattle.udp_link.proofs.links.UdpLinks.of.Goals as goal
 
 -- nobody listens at places of which none has a member
 listening_none : (n m : ℕ) → listening_in (replicate n None) m ≡ None
-unfolding listening_in
+unfolding peers_in
 listening_none zero m = refl
 listening_none (suc n) zero = refl
 listening_none (suc n) (suc m) = listening_none n m

@@ -1,4 +1,4 @@
-use Rattle.std.proofs.Common.{◌≡◌, ◌<◌, ◌∙◌, ◌++◌, length, map, refl, sym, subst, ap, arith}
+use Rattle.std.proofs.Common.{◌<◌, ◌∙◌, ◌++◌, length, map, refl, sym, subst, ap, arith}
 use Rattle.std.proofs.lemmas.List.{length-map}
 use Rattle.std.proofs.lemmas.List.Elements.{All-get_or}
 use Rattle.std.specs.Rc.{rc_value}
