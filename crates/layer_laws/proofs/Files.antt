@@ -7,7 +7,7 @@ use Rattle.layer_ast.specs.Tree.{LayerTree, GivenTree, PlaceTree, FileTree}
 use Rattle.layer_laws.proofs.Declarations.{declarations_once, handlers_once}
 use Rattle.layer_laws.proofs.Together.{Together, name_once}
 
-layer_once : (a b : LayerTree) (k l : List Printed) → Together (print.layer a k) (print.layer b l) → (a ≡ b) × Together k l
+pub layer_once : (a b : LayerTree) (k l : List Printed) → Together (print.layer a k) (print.layer b l) → (a ≡ b) × Together k l
 layer_once a b k l (_, at, (e, s, (_, _, h))) =
     let name = name_once a.name b.name e s in
     let d = declarations_once a.declarations b.declarations a.handlers b.handlers k l h in

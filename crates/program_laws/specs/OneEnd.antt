@@ -1,0 +1,57 @@
+-- That a run of the program has one end, so that each status comes exactly where it is due.
+use Rattle.std.specs.Prelude.{◌≡◌, ◌≢◌, ◌⊎◌, ℕ, List, Some, None}
+use Rattle.outside.specs.Count.{last_count}
+use Rattle.layer_ast.specs.Tree.{FileTree}
+use Rattle.layer_mean.specs.Tree.{LayerTree}
+use Rattle.file_mean.specs.Library.{IsFile}
+use Rattle.job_mean.specs.Job.{Job, job_of_words}
+use Rattle.job_mean.specs.Status.{FileFault, SecondFault, Ended, no_memory}
+use Rattle.program_mean.specs.Judged.{Means, Refuses}
+use Rattle.program_mean.specs.Second.{second_fault}
+use Rattle.program_mean.specs.Headline.{Counted, Run, second_for, Ends, Ran}
+
+-- A text is one file at most, means one stack at most, and is refused for one cause at most; and what means a stack isn't refused.
+abbrev pub OneFile : Type 0
+OneFile = (text : List ℕ) (f g : FileTree) → IsFile text f → IsFile text g → f ≡ g
+
+abbrev pub OneMeaning : Type 0
+OneMeaning = (text : List ℕ) (s t : List LayerTree) → Means text s → Means text t → s ≡ t
+
+abbrev pub OneRefusal : Type 0
+OneRefusal = (text : List ℕ) (a b : FileFault) → Refuses text a → Refuses text b → a ≡ b
+
+abbrev pub GoodOrRefused : Type 0
+GoodOrRefused = (text : List ℕ) (s : List LayerTree) (fault : FileFault) → Means text s → Refuses text fault → ⊥
+
+-- A count that doesn't stand at its last value behind the run, and so tells each failure.
+abbrev pub Counts : Counted → Type 0
+Counts count = count.after ≢ last_count
+
+pub record CountsAll (r : Run) : Type 0 where
+  pub reads : Counts r.reads
+  pub puts : Counts r.puts
+  pub links : Counts r.links
+
+-- But for want of memory, which is free, a run has one end.
+abbrev pub OneEnd : Type 0
+OneEnd = (print : List LayerTree → List ℕ) (r : Run) (a b : Ended) → CountsAll r → a ≢ no_memory → b ≢ no_memory →
+    Ends print r a → Ends print r b → a ≡ b
+
+-- A status came, or 7.
+abbrev pub Came : Run → ℕ → Type 0
+Came r status = (r.status ≡ status) ⊎ (r.status ≡ 7)
+
+-- Words that are no job end with 2.
+abbrev pub WordsAreDue : Type 0
+WordsAreDue = (print : List LayerTree → List ℕ) (r : Run) → Ran print r → job_of_words r.words ≡ None → Came r 2
+
+-- A job whose file is read and refused ends with 1.
+abbrev pub FilesAreDue : Type 0
+FilesAreDue = (print : List LayerTree → List ℕ) (r : Run) (job : Job) (file : List ℕ) (fault : FileFault) → Ran print r →
+    job_of_words r.words ≡ Some job → r.file ≡ Some file → Refuses file fault → Came r 1
+
+-- A job whose file is good, and whose second file is read and refused or whose members have too many rows, ends with 3.
+abbrev pub SecondsAreDue : Type 0
+SecondsAreDue = (print : List LayerTree → List ℕ) (r : Run) (job : Job) (file second : List ℕ) (stack : List LayerTree) (fault : SecondFault) →
+    Ran print r → job_of_words r.words ≡ Some job → r.file ≡ Some file → second_for job r.second ≡ Some second → Means file stack →
+    second_fault job stack second ≡ Some fault → Came r 3
