@@ -1,6 +1,6 @@
 -- Tasks with chained messages are known.
-use Rattle.std.proofs.Common.{◌≡◌, ℕ, zero, suc, ◌+◌, ◌-◌, ◌≤◌, Bool, true, false, List, [], ◌∷◌, length, drop, is_some, Option, Some, None, IsSomeAnd, slice_index_or, refl, ap, rules, arith}
-use Rattle.std.specs.Prelude.{if◌then◌else◌, ◌==◌, slice_get}
+use Rattle.std.proofs.Common.{◌≡◌, ℕ, zero, suc, Bool, true, false, List, [], ◌∷◌, drop, is_some, Option, Some, None, IsSomeAnd, slice_index_or, refl, ap, arith}
+use Rattle.std.specs.Prelude.{if◌then◌else◌, ◌==◌}
 use Rattle.msg_core.specs.Chain.{Content}
 use Rattle.msg_core.specs.declared.message.Header.{Header}
 use Rattle.layer_ast.specs.declared.tokens.Dir.{Dir}
@@ -8,7 +8,6 @@ use Rattle.layer_ast.specs.declared.tokens.Dir.TheVariants.{Up, Down}
 use Rattle.layer_mean.specs.Event.{carries}
 use Rattle.layer_mean.specs.Headers.{declared}
 use Rattle.layer_mean.specs.Tree.{LayerTree, no_layer}
-use Rattle.layer_mean.specs.Queue.{layer_at}
 use Rattle.stack_mean.specs.Graph.{header_layer}
 use Rattle.packet_mean.specs.Chained.{IsChain}
 use Rattle.weight_laws.specs.Nodes.{front_tag, message_tag}

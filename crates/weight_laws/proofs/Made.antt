@@ -1,5 +1,5 @@
 -- A visit makes no more joins than are counted of its handler.
-use Rattle.std.proofs.Common.{◌≡◌, ℕ, zero, suc, ◌+◌, ◌*◌, ◌≤◌, Bool, true, false, min, Option, Some, None, refl, le_trans, mul-le-mul_right, arith}
+use Rattle.std.proofs.Common.{ℕ, zero, suc, ◌+◌, ◌*◌, ◌≤◌, Bool, true, false, min, Option, Some, None, mul-le-mul_right, arith}
 use Rattle.std.specs.Prelude.{if◌then◌else◌}
 use Rattle.std.specs.Option.{option_map_or}
 use Rattle.layer_mean.specs.declared.run.Event.{Event}

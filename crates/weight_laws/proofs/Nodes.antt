@@ -1,5 +1,5 @@
 -- The nodes of an orderly stack are closed under its arrows.
-use Rattle.std.proofs.Common.{◌≡◌, ℕ, zero, suc, ◌+◌, ◌-◌, ◌*◌, ◌≤◌, ◌<◌, Bool, true, false, ◌&&◌, ◌==◌, nat_le, List, [], ◌∷◌, ◌++◌, map, length, flat_map, Option, Some, None, is_some, refl, sym, ap, ◌∙◌, subst, ◌⊎◌, inl, inr, ⊎_elim, arith, rules, codes, slice_index_or, eqb-true, leb-true}
+use Rattle.std.proofs.Common.{◌≡◌, ℕ, zero, suc, ◌+◌, ◌-◌, ◌*◌, ◌≤◌, ◌<◌, Bool, true, false, ◌&&◌, ◌==◌, nat_le, List, [], ◌∷◌, ◌++◌, length, flat_map, Option, Some, None, is_some, refl, sym, ap, ◌∙◌, subst, ◌⊎◌, inl, inr, ⊎_elim, arith, rules, slice_index_or, eqb-true, leb-true}
 use Rattle.std.specs.Prelude.{if◌then◌else◌, slice_get}
 use Rattle.std.specs.List.{find, range_with_len, AllByRecursion}
 use Rattle.std.proofs.lemmas.Bool.{and_parts}
@@ -13,11 +13,11 @@ use Rattle.layer_ast.specs.contracts.tokens.Kind as kind_row
 use Rattle.layer_ast.specs.Spelling.{kinds}
 use Rattle.layer_mean.specs.Event.{carries}
 use Rattle.layer_mean.specs.Headers.{header_none, declared}
-use Rattle.layer_mean.specs.Tree.{HeaderTree, ContentTree, EmissionTree, StatementTree, bind, assign, assign_square, push, take, branch, each, emit, StatementTrees, none, more, HandlerTree, LayerTree, no_layer}
-use Rattle.layer_mean.specs.Visit.{is_for, handler_for}
+use Rattle.layer_mean.specs.Tree.{ContentTree, EmissionTree, StatementTree, bind, assign, assign_square, push, take, branch, each, emit, StatementTrees, none, more, HandlerTree, LayerTree, no_layer}
+use Rattle.layer_mean.specs.Visit.{is_for}
 use Rattle.layer_mean.specs.Queue.{beyond, is_place, layer_at}
 use Rattle.stack_mean.specs.Emissions.{Repeated, emissions, emissions_in}
-use Rattle.stack_mean.specs.Graph.{Node, nodes, nodes_of, tags_of, tags_for, header_layer, keeps_headers, goes_down, content_tags, emission_tags, Arrow, arrow_to, emission_arrow, passing, entered_handler, handler_arrows, arrows, following}
+use Rattle.stack_mean.specs.Graph.{Node, nodes, nodes_of, tags_of, tags_for, header_layer, keeps_headers, goes_down, emission_tags, Arrow, arrow_to, emission_arrow, passing, entered_handler, handler_arrows, arrows, following}
 use Rattle.weight_laws.specs.Nodes.{can_have, IsNode}
 use Rattle.weight_laws.specs.Orderly.{IsOrderlyContent, IsOrderlyStatement, IsOrderlyBlock, IsOrderlyHandler, IsOrderlyLayer, IsOrderly}
 use Rattle.weight_laws.proofs.Members.{In, in_either, in_left, in_right, in_map, in_flat_map, from_flat_map, from_map}
@@ -197,7 +197,7 @@ next_tag : (stack : List LayerTree) (n : Node) (e : EmissionTree) (dir : Dir) (k
 next_tag stack n e dir kind None tag is low fine (inl same) = rw same (zero_had kind (header_layer stack dir (beyond dir n.at)))
 next_tag stack n e dir kind None tag is low fine (inr m) = absurd m
 next_tag stack n e Down kind (Some c) tag is low fine (inl same) =
-    rw (fine.0, same, below_place stack n.at low) fine.1
+    rw (fine.0, same, below_place stack n.at low) (cc)
 next_tag stack n e Down kind (Some c) tag is low fine (inr m) = absurd m
 next_tag stack n e Up kind (Some c) tag is low fine m =
     sent_up stack n c kind tag is fine (goes_down n.dir n.kind && keeps_headers c.message) refl m

@@ -1,7 +1,6 @@
 -- A queue whose turns take from what is pending comes to its end.
-use Rattle.std.proofs.Common.{◌≡◌, ℕ, zero, suc, ◌+◌, ◌≤◌, List, [], ◌∷◌, refl, sym, ap, ◌∙◌, subst, arith}
-use Rattle.std.specs.List.{sum_by, AllByRecursion}
-use Rattle.std.proofs.lemmas.List.Sums.{sum_by-cons}
+use Rattle.std.proofs.Common.{◌≡◌, ℕ, zero, suc, ◌+◌, ◌≤◌, List, [], ◌∷◌, refl, sym, subst, arith}
+use Rattle.std.specs.List.{sum_by}
 use Rattle.layer_mean.specs.Queue.{Task, Player, Line, next_of, run_for}
 use Rattle.weight_laws.specs.Runs.{spent}
 

@@ -1,9 +1,9 @@
 -- What is reached in a graph, and how far: along an arrow fewer nodes are reached, where no node lies on a cycle.
-use Rattle.std.proofs.Common.{◌≡◌, ℕ, zero, suc, ◌+◌, ◌≤◌, ◌<◌, Bool, true, false, not, ◌||◌, List, [], ◌∷◌, ◌++◌, length, flat_map, refl, sym, ap, ◌∙◌, ◌⊎◌, inl, inr, ⊎_elim, append-nil, subst, arith}
+use Rattle.std.proofs.Common.{◌≡◌, ℕ, zero, suc, ◌≤◌, ◌<◌, Bool, true, false, not, ◌||◌, List, [], ◌∷◌, ◌++◌, length, flat_map, refl, sym, ap, ◌∙◌, ◌⊎◌, inl, inr, ⊎_elim, append-nil, arith}
 use Rattle.std.specs.Prelude.{if◌then◌else◌}
 use Rattle.std.specs.List.{list_any}
 use Rattle.std.proofs.lemmas.Bool.{or_cases, or_parts}
-use Rattle.weight_laws.proofs.Members.{In, in_either, in_left, in_right, from_flat_map, in_flat_map, count, count_le, count_less, count_at_most, count_below}
+use Rattle.weight_laws.proofs.Members.{In, in_either, in_left, in_right, from_flat_map, in_flat_map, count, count_less, count_at_most, count_below}
 
 -- the definitions of a stack's graph, over nodes of any kind
 abbrev pub unknown_by : {A : Type 0} → (A → A → Bool) → List A → List A → List A

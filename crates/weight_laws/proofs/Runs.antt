@@ -1,5 +1,5 @@
 -- Runs of a stack end, within their weights.
-use Rattle.std.proofs.Common.{◌≡◌, ℕ, zero, suc, ◌+◌, ◌-◌, ◌≤◌, Bool, true, false, List, [], ◌∷◌, ◌++◌, map, length, None, Some, Option, Ok, Err, Result, refl, sym, ap, ◌∙◌, subst, le_trans, nat_lt, ltb-false, arith}
+use Rattle.std.proofs.Common.{◌≡◌, ℕ, zero, suc, ◌+◌, ◌-◌, ◌≤◌, Bool, true, false, List, [], ◌∷◌, ◌++◌, map, length, None, Some, Option, Ok, Err, refl, sym, ap, ◌∙◌, le_trans, nat_lt, ltb-false, arith}
 use Rattle.std.specs.Prelude.{if◌then◌else◌}
 use Rattle.std.specs.List.{sum_by, AllByRecursion}
 use Rattle.std.proofs.lemmas.List.{length-append}
@@ -11,16 +11,14 @@ use Rattle.layer_ast.specs.declared.tokens.Kind.TheVariants.{Cast, Send, Timer, 
 use Rattle.layer_mean.specs.declared.run.Event.{Event}
 use Rattle.layer_mean.specs.Tree.{LayerTree}
 use Rattle.layer_mean.specs.State.{State}
-use Rattle.layer_mean.specs.Visit.{step}
-use Rattle.layer_mean.specs.Queue.{Task, Turn, Line, Work, tasks_of, is_place, taken_turn, next_of, layer_at, state_at, visited, run_for, layers, run, unstarted, starting}
-use Rattle.stack_mean.specs.Graph.{Node, arrows, tags_for, nodes_of, header_layer, first_on_cycle}
-use Rattle.stack_mean.specs.Acceptance.{cost, weight, own_joins, most_joins, entries, largest, largest_weight, largest_joins, weight_limit, joins_limit, Refusal, without_cycle, accepted}
+use Rattle.layer_mean.specs.Queue.{Task, Line, Work, is_place, taken_turn, next_of, layer_at, state_at, run_for, layers, run, unstarted, starting}
+use Rattle.stack_mean.specs.Graph.{Node, tags_for, nodes_of, header_layer, first_on_cycle}
+use Rattle.stack_mean.specs.Acceptance.{cost, weight, own_joins, most_joins, entries, largest_weight, largest_joins, weight_limit, joins_limit, Refusal, without_cycle, accepted}
 use Rattle.weight_laws.specs.Nodes.{can_have, task_node, IsKnown}
 use Rattle.weight_laws.specs.Orderly.{IsOrderly}
 use Rattle.weight_laws.specs.Made.{visit_joins}
-use Rattle.weight_laws.specs.Costs.{behind_arrows}
 use Rattle.weight_laws.specs.Visits.{sent_tasks, task_weight, task_joins, IsVisit}
-use Rattle.weight_laws.specs.Runs.{pending_weight, pending_joins, turn_joins, spent, run_joins, IsTurn, TurnsLighten, TurnsJoinLess, turns_of, TurnsFit, StaysKnown, IsLine, TurnsAndWeight, JoinsAndPending, LinesEnd, Enters, IsRun, Ends, RunsEnd}
+use Rattle.weight_laws.specs.Runs.{pending_weight, pending_joins, turn_joins, spent, run_joins, IsTurn, TurnsLighten, TurnsJoinLess, turns_of, TurnsFit, IsLine, TurnsAndWeight, JoinsAndPending, LinesEnd, Enters, IsRun, RunsEnd}
 use Rattle.weight_laws.proofs.Members.{In, in_left, in_right, in_map}
 use Rattle.weight_laws.proofs.Nodes.{had_in}
 use Rattle.weight_laws.proofs.Costs.{follows}

@@ -1,5 +1,5 @@
 -- What statements send comes to no more than their emissions, each as often as it is done at most.
-use Rattle.std.proofs.Common.{◌≡◌, ℕ, zero, suc, ◌+◌, ◌*◌, ◌≤◌, Bool, true, false, List, [], ◌∷◌, ◌++◌, min, Option, Some, None, refl, sym, ap, subst, ◌∙◌, le_trans, mul-le-mul_right, arith}
+use Rattle.std.proofs.Common.{◌≡◌, ℕ, zero, suc, ◌+◌, ◌*◌, ◌≤◌, Bool, true, false, ◌++◌, min, Option, Some, None, subst, ◌∙◌, mul-le-mul_right, arith}
 use Rattle.std.specs.Prelude.{if◌then◌else◌}
 use Rattle.std.specs.List.{fold, sum_by}
 use Rattle.std.proofs.lemmas.List.Sums.{sum_by-append}
@@ -9,11 +9,11 @@ use Rattle.layer_ast.specs.declared.syntax.Likely.TheVariants as likely
 use Rattle.layer_mean.specs.declared.run.Event.{Event}
 use Rattle.layer_mean.specs.declared.run.Row.{Row}
 use Rattle.layer_mean.specs.Tree.{EmissionTree, TakenTree, StatementTree, bind, assign, assign_square, push, take, branch, each, emit, StatementTrees, none, more, LayerTree}
-use Rattle.layer_mean.specs.State.{State, flat_index, row_at, has_room, with_number, with_row, without_front}
+use Rattle.layer_mean.specs.State.{State, row_at, has_room, with_row, without_front}
 use Rattle.layer_mean.specs.Value.{Scope, is_true, val}
 use Rattle.layer_mean.specs.Effect.{Outcome, Act, done, after, in_order, turns, with_slot, with_taken, row_of, emitted, chosen, taking, Decision, usual, unusual, decides, does, acts}
 use Rattle.stack_mean.specs.Emissions.{Repeated, emissions, emissions_in}
-use Rattle.weight_laws.specs.Orderly.{IsOrderlyContent, KeepsMessage, IsOrderlyStatement, IsOrderlyBlock}
+use Rattle.weight_laws.specs.Orderly.{KeepsMessage, IsOrderlyStatement, IsOrderlyBlock}
 
 abbrev mutual
   -- what a statement sends at most, where each emission comes to so much

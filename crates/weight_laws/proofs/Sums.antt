@@ -1,5 +1,5 @@
 -- The two sums at a visit.
-use Rattle.std.proofs.Common.{◌≡◌, ℕ, ◌+◌, ◌-◌, ◌≤◌, length, List, true, None, refl, sym, ap, ◌∙◌, subst, arith}
+use Rattle.std.proofs.Common.{◌≡◌, ◌-◌, ◌≤◌, length, List, true, subst, arith}
 use Rattle.std.specs.Option.{option_map_or}
 use Rattle.layer_mean.specs.declared.run.Event.{Event}
 use Rattle.layer_mean.specs.Visit.{met, handler_for}
@@ -10,7 +10,7 @@ use Rattle.stack_mean.specs.Emissions.{handler_joins}
 use Rattle.stack_mean.specs.Acceptance.{weight, own_joins, most_joins}
 use Rattle.weight_laws.specs.Nodes.{task_node}
 use Rattle.weight_laws.specs.Made.{visit_joins}
-use Rattle.weight_laws.specs.Visits.{sent_tasks, IsVisit, WeighsWhatItSends, CountsWhatItJoins}
+use Rattle.weight_laws.specs.Visits.{WeighsWhatItSends, CountsWhatItJoins}
 use Rattle.weight_laws.proofs.Costs.{follows}
 use Rattle.weight_laws.proofs.Made.{handler_makes}
 use Rattle.weight_laws.proofs.Visits.{popped_is, sends_follow_arrows}

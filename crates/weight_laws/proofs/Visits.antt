@@ -1,7 +1,7 @@
 -- What a visit sends comes to no more than the arrows of its node.
-use Rattle.std.proofs.Common.{◌≡◌, ℕ, zero, suc, ◌+◌, ◌-◌, ◌*◌, ◌≤◌, max, Bool, true, false, ◌&&◌, ◌==◌, List, [], ◌∷◌, ◌++◌, map, length, All, Option, Some, None, is_some, option_map, option_to_list, slice_index, slice_index_or, slice_set, refl, sym, ap, ◌∙◌, subst, le_trans, ◌⊎◌, inl, inr, arith, rules, eqb-true}
+use Rattle.std.proofs.Common.{◌≡◌, ℕ, zero, suc, ◌+◌, ◌-◌, ◌*◌, ◌≤◌, max, Bool, true, false, ◌&&◌, ◌==◌, List, [], ◌∷◌, ◌++◌, map, length, Option, Some, None, is_some, option_map, option_to_list, slice_index, slice_index_or, slice_set, refl, sym, ap, ◌∙◌, subst, le_trans, inl, inr, arith}
 use Rattle.std.specs.Prelude.{if◌then◌else◌, nat_le}
-use Rattle.std.specs.List.{fold, find, sum_by, AllByRecursion}
+use Rattle.std.specs.List.{fold, sum_by, AllByRecursion}
 use Rattle.std.specs.Option.{option_map_or}
 use Rattle.std.proofs.lemmas.Bool.{and_parts}
 use Rattle.std.proofs.lemmas.List.Sums.{sum_by-cons}
@@ -21,17 +21,17 @@ use Rattle.layer_mean.specs.State.{State}
 use Rattle.layer_mean.specs.Value.{Scope, val, mval, is_true, message_in}
 use Rattle.layer_mean.specs.Effect.{Outcome, usual, unusual, in_order, acts, with_slot, with_slots, with_message, with_taken, header_of, sent_as, emitted, decides}
 use Rattle.layer_mean.specs.Visit.{Met, behind, met, is_for, handler_for, with_room, entered, none_header, Visited, sent_on, unhandled, expecting, handled, step}
-use Rattle.layer_mean.specs.Queue.{Task, beyond, is_place, layer_at, tasks_of}
+use Rattle.layer_mean.specs.Queue.{Task, beyond, layer_at, tasks_of}
 use Rattle.stack_mean.specs.Emissions.{Repeated, emissions_in}
-use Rattle.stack_mean.specs.Graph.{Node, tags_of, tags_for, header_layer, keeps_headers, goes_down, content_tags, emission_tags, Arrow, arrow_to, emission_arrow, passing, popped_tag, entered_handler, handler_arrows, arrows}
+use Rattle.stack_mean.specs.Graph.{Node, tags_of, tags_for, header_layer, keeps_headers, goes_down, content_tags, emission_tags, Arrow, arrow_to, emission_arrow, passing, popped_tag, entered_handler, handler_arrows}
 use Rattle.stack_mean.specs.Acceptance.{largest}
-use Rattle.weight_laws.specs.Nodes.{can_have, IsNode, front_tag, message_tag, node_of, task_node, IsKnown}
+use Rattle.weight_laws.specs.Nodes.{can_have, front_tag, message_tag, node_of, task_node, IsKnown}
 use Rattle.weight_laws.specs.Orderly.{KeepsMessage, IsOrderlyBlock, IsOrderlyHandler, IsOrderly}
 use Rattle.weight_laws.specs.Costs.{behind_arrows}
-use Rattle.weight_laws.specs.Visits.{sent_tasks, IsVisit, SendsFollowArrows}
+use Rattle.weight_laws.specs.Visits.{SendsFollowArrows}
 use Rattle.weight_laws.proofs.Members.{In, in_map}
 use Rattle.weight_laws.proofs.Nodes.{tag_in, had_in, is_zero, orderly_at, found, for_these}
-use Rattle.weight_laws.proofs.Sends.{total_in, total_in_is, block_sends}
+use Rattle.weight_laws.proofs.Sends.{total_in_is, block_sends}
 
 -- the largest of some numbers is at least each
 largest_from : (a : ℕ) (ns : List ℕ) → fold max a ns ≡ max a (fold max 0 ns)
@@ -74,7 +74,7 @@ taken_keeps n t row l keeps holds = λ down. go t.message down (subst (λ b. Kee
       m (with_slots t.numbers row.numbers l))).headers ≡ n.tag
   go None down h = ap (λ ms. front_tag (slice_index_or ms 0 (plain [])).headers) (slots_keep t.numbers row.numbers l) ∙ holds down
   go (Some slot) down h =
-      ap (λ c. front_tag c.headers) (set_other (with_slots t.numbers row.numbers l).messages slot.0 (message_in slot.1 (Some row)) h)
+      ap (λ c. front_tag c.headers) (set_other (with_slots t.numbers row.numbers l).messages slot.0 (message_in slot.1 (Some row)) (omega arith))
       ∙ ap (λ ms. front_tag (slice_index_or ms 0 (plain [])).headers) (slots_keep t.numbers row.numbers l) ∙ holds down
 
 room_keeps : (k : ℕ) (x : Content) (xs : List Content) → slice_index_or (with_room k (plain []) (x ∷ xs)) 0 (plain []) ≡ x

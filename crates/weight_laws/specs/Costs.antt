@@ -3,7 +3,7 @@ use Rattle.std.specs.Prelude.{◌≡◌, ℕ, ◌+◌, ◌*◌, List, map, None}
 use Rattle.std.specs.List.{sum_by}
 use Rattle.layer_mean.specs.Tree.{LayerTree}
 use Rattle.stack_mean.specs.Graph.{Node, Arrow, arrows, first_on_cycle}
-use Rattle.stack_mean.specs.Acceptance.{largest, cost, weight, own_joins, most_joins}
+use Rattle.stack_mean.specs.Acceptance.{largest, cost}
 use Rattle.weight_laws.specs.Nodes.{IsNode}
 use Rattle.weight_laws.specs.Orderly.{IsOrderly}
 

@@ -3,7 +3,6 @@ use Rattle.std.specs.Prelude.{ℕ, zero, suc, ◌+◌, if◌then◌else◌, min,
 use Rattle.std.specs.Option.{option_map_or}
 use Rattle.layer_ast.specs.declared.tokens.Dir.{Dir}
 use Rattle.layer_mean.specs.declared.run.Event.{Event}
-use Rattle.layer_mean.specs.Event.{arguments}
 use Rattle.layer_mean.specs.Tree.{StatementTree, bind, assign, assign_square, push, take, branch, each, emit, StatementTrees, none, more, HandlerTree, LayerTree}
 use Rattle.layer_mean.specs.State.{State, row_at, has_room, without_front}
 use Rattle.layer_mean.specs.Value.{Scope, is_true, val}

@@ -1,12 +1,12 @@
 -- Which stacks send only what their graphs tell. (Files without a fault of names or types mean no others.)
-use Rattle.std.specs.Prelude.{◌≡◌, ℕ, ◌≤◌, Bool, true, false, List, Option, Some, None, is_some}
+use Rattle.std.specs.Prelude.{◌≡◌, ℕ, ◌≤◌, Bool, true, List, Option, Some, None, is_some}
 use Rattle.std.specs.List.{AllByRecursion}
 use Rattle.layer_ast.specs.declared.tokens.Dir.{Dir}
 use Rattle.layer_ast.specs.declared.tokens.Dir.TheVariants.{Up, Down}
 use Rattle.layer_ast.specs.declared.tokens.Kind.{Kind}
 use Rattle.layer_mean.specs.Event.{carries}
 use Rattle.layer_mean.specs.Headers.{declared}
-use Rattle.layer_mean.specs.Tree.{Carried, ContentTree, EmissionTree, TakenTree, StatementTree, bind, assign, assign_square, push, take, branch, each, emit, StatementTrees, none, more, HandlerTree, LayerTree}
+use Rattle.layer_mean.specs.Tree.{Carried, ContentTree, StatementTree, push, take, branch, each, emit, StatementTrees, none, more, HandlerTree, LayerTree}
 use Rattle.stack_mean.specs.Graph.{goes_down}
 
 -- What is sent with a message is of a kind that carries one; what is sent down has a header that its layer declares.

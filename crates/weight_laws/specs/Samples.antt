@@ -1,16 +1,14 @@
 -- The laws at small stacks: their premises hold, and these are the numbers.
 use Rattle.std.specs.Prelude.{◌≡◌, ℕ, true, List, [], ◌∷◌, map, length, Some, codes}
-use Rattle.layer_ast.specs.declared.tokens.Dir.{Dir}
 use Rattle.layer_ast.specs.declared.tokens.Dir.TheVariants.{Up, Down}
-use Rattle.layer_ast.specs.declared.tokens.Kind.{Kind}
-use Rattle.layer_ast.specs.declared.tokens.Kind.TheVariants.{Cast, Send}
+use Rattle.layer_ast.specs.declared.tokens.Kind.TheVariants.{Cast}
 use Rattle.layer_mean.specs.declared.run.Event.{Event}
 use Rattle.layer_mean.specs.Tree.{LayerTree}
 use Rattle.layer_mean.specs.State.{State}
 use Rattle.layer_mean.specs.Visit.{fresh}
-use Rattle.layer_mean.specs.Queue.{Task, run, unstarted, starting}
+use Rattle.layer_mean.specs.Queue.{Task, run}
 use Rattle.stack_mean.specs.Graph.{arrows}
-use Rattle.stack_mean.specs.Acceptance.{weight, own_joins, weight_limit}
+use Rattle.stack_mean.specs.Acceptance.{weight, weight_limit}
 use Rattle.stack_mean.specs.SampleLayers.{counter, joiner, fan, mnak, total, local_copy, bottom, echo, memory, mirror, late}
 use Rattle.stack_mean.specs.Samples.{ordered}
 use Rattle.weight_laws.specs.Nodes.{task_node}

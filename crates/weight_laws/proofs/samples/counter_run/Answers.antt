@@ -4,7 +4,6 @@ use Rattle.layer_mean.specs.Visit.{step}
 use Rattle.layer_mean.specs.Queue.{run, starting, unstarted}
 use Rattle.stack_mean.specs.SampleLayers.{counter}
 use Rattle.weight_laws.specs.Samples.{fresh_states, cast_at}
-use Rattle.weight_laws.specs.Runs.{IsRun}
 use Rattle.weight_laws.proofs.Turns.{known_to_the_end}
 use Rattle.weight_laws.proofs.samples.counter_run.Goals as goal
 
