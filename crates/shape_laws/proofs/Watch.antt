@@ -1,5 +1,5 @@
 -- Watching changes nothing of what is drawn.
-use Rattle.std.proofs.Common.{◌≡◌, ℕ, zero, suc, Bool, true, false, List, [], ◌∷◌, refl, sym, ap, ◌∙◌}
+use Rattle.std.proofs.Common.{◌≡◌, zero, suc, Bool, true, false, List, [], ◌∷◌, refl, sym, ap, ◌∙◌}
 use Rattle.std.specs.Prelude.{if◌then◌else◌, length, Result}
 use Rattle.layer_mean.specs.declared.run.Case.TheVariants.{First}
 use Rattle.layer_mean.specs.Tree.{LayerTree}
