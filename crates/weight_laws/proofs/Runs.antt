@@ -176,16 +176,16 @@ accepts_parts stack h = go (first_on_cycle stack) refl h where
       (is, ltb-false weight_limit (largest_weight stack) within.0, ltb-false joins_limit (largest_joins stack) within.1)
 
 -- the entries in order, as far as a kind
-abbrev messages_below : List LayerTree → List Node
+abbrev pub messages_below : List LayerTree → List Node
 messages_below stack = nodes_of stack 1 Up Cast ++ nodes_of stack 1 Up Send
 
-abbrev from_below : List LayerTree → List Node
+abbrev pub from_below : List LayerTree → List Node
 from_below stack = messages_below stack ++ nodes_of stack 1 Up Timer
 
-abbrev through_casts : List LayerTree → List Node
+abbrev pub through_casts : List LayerTree → List Node
 through_casts stack = from_below stack ++ nodes_of stack (length stack) Down Cast
 
-abbrev through_sends : List LayerTree → List Node
+abbrev pub through_sends : List LayerTree → List Node
 through_sends stack = through_casts stack ++ nodes_of stack (length stack) Down Send
 
 -- where a run begins is one of the entries
