@@ -20,7 +20,8 @@ use std::alloc::{AllocError, Global};
 const MOST_BYTES: usize = 67_108_864;
 
 /// Judges the order in which the members of a finished run delivered, by its report: the order of the
-/// casts of each peer, or the order of all.
+/// casts of each peer, or the order of all. It fails where the text is too large or no report, which
+/// names the first line out of form, and where memory runs out.
 pub fn audit_order(alloc: Global, text: &[u8], lists: Lists) -> Result<Finding, AuditError>
     ensures { Audits (audit_of (law_of lists) text.now) result }
 {

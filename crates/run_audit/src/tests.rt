@@ -6,9 +6,7 @@ use std::test::Fail;
 
 /// A report of so many bytes: one line that no law looks at, and `end 0`.
 fn padded(alloc: Global, bytes: u32) -> Result<Vec<u8>, AllocError> {
-    let mut text = Vec::from_slice(alloc, b"end 0\n")?;
-    text.clear();
-    text.extend_from_slice(b"timer ")?;
+    let mut text = Vec::from_slice(alloc, b"timer ")?;
     for _ in 12..bytes {
         text.push(b'1')?;
     }
