@@ -1,11 +1,11 @@
 //! Reads the text of a script.
 #![tactic(auto)]
 
-mod cut;
 mod error;
 mod event;
 mod lines;
 mod reading;
+mod splits;
 #[cfg(test)]
 mod tests;
 mod values;
@@ -13,3 +13,4 @@ mod words;
 
 pub use crate::error::ScriptError;
 pub use crate::reading::read_script;
+pub use crate::splits::cut;

@@ -4,7 +4,7 @@ ghost use Rattle.std.specs.List.{after_last};
 ghost use Rattle.script_mean.specs.Lines as spec;
 ghost use Rattle.script_text.specs.Parts.{parts_behind};
 
-use crate::cut::cut;
+use crate::splits::cut;
 
 /// A line, and its number, from 1.
 #[derive(Clone, Copy)]

@@ -5,8 +5,8 @@ ghost use Rattle.script_mean.specs.Words.{words_of};
 ghost use Rattle.script_mean.specs.Form as form;
 ghost use Rattle.script_text.specs.Reading.{Takes, words_left};
 
-use crate::cut::cut;
 use crate::error::LineError;
+use crate::splits::cut;
 use crate::values;
 use script_mean::Bytes;
 use std::alloc::Global;

@@ -2,7 +2,7 @@ use Rattle.std.proofs.Common.{sym}
 use Rattle.std.specs.Prelude.{◌==◌}
 use Rattle.std.proofs.lemmas.List.{take_rest}
 use Rattle.script_text.proofs.Cuts.{split_at_some, split_at_none}
-use Rattle.script_text.proofs.cut.cut.Goals as goal
+use Rattle.script_text.proofs.splits.cut.Goals as goal
 
 pub returns-in-Some : goal.returns-in-Some
 returns-in-Some c = rw take_rest (split_at_some (λ byte. byte == c.args.at) c.args.text.now c.in-Some.end (sym c.in-Some.ensures))

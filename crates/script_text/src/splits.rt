@@ -4,7 +4,7 @@ ghost use Rattle.std.specs.List.{position, slice_split};
 ghost use Rattle.script_text.specs.Parts.{parts_behind};
 
 /// The text in front of the first such byte, and what stands behind it where there is one.
-pub(crate) fn cut(at: u8, text: &[u8]) -> (&[u8], Option<&[u8]>)
+pub fn cut(at: u8, text: &[u8]) -> (&[u8], Option<&[u8]>)
     ensures { slice_split (λ byte. byte == at) text.now ≡ result.0.now ∷ parts_behind at result.1 }
 {
     match first(at, text) {

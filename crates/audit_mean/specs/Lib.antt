@@ -1,0 +1,7 @@
+pub mod Text
+pub mod Line
+pub mod Report
+pub mod Segment
+pub mod Clash
+pub mod Lack
+pub mod Finding

@@ -1,0 +1,7 @@
+pub mod Agree
+pub mod Bodies
+pub mod Counts
+pub mod Deliveries
+pub mod Numbers
+pub mod Reports
+pub mod Rising

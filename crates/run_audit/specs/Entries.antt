@@ -1,0 +1,32 @@
+-- Segments and deliveries, as the definitions see them.
+use Rattle.std.specs.Prelude.{◌≡◌, ℕ, ◌<◌, List, Option, Some, None, map, option_map, slice_index_or}
+use Rattle.std.specs.List.{enumerate_from}
+use Rattle.audit_mean.specs.Segment as spec
+use Rattle.audit_mean.specs.Segment.{Name, start, in_view, Numbered, segment_behind}
+use Rattle.run_audit.specs.Reading.{shown}
+use Rattle.run_audit.specs.declared.line.Line.{Line}
+use Rattle.run_audit.specs.declared.segments.Segment.{Segment}
+use Rattle.run_audit.specs.declared.segments.Segments.{Segments}
+use Rattle.run_audit.specs.declared.segments.Entry.{Entry}
+
+-- lines with their numbers
+abbrev pub numbered : List Line → List Numbered
+numbered lines = enumerate_from 1 (map shown lines)
+
+abbrev pub name_shown : Option (ℕ × ℕ) → Name
+name_shown None = start
+name_shown (Some view) = in_view view.0 view.1
+
+abbrev pub segment_shown : Segment → spec.Segment
+segment_shown segment = record { name = name_shown segment.view; began = segment.began }
+
+abbrev pub entry_shown : Entry → spec.Entry
+entry_shown entry = record { line = entry.line; member = entry.member; segment = segment_shown entry.segment; peer = entry.peer; body = entry.body.now }
+
+-- the segment that a member is in
+abbrev pub standing : Segments → ℕ → Option spec.Segment
+standing segments member = option_map segment_shown (slice_index_or segments.of_members member None)
+
+-- each member is in its segment behind these lines; a member's number is of a byte
+abbrev pub Stands : Segments → List Numbered → Type 0
+Stands segments before = (member : ℕ) → member < 256 → standing segments member ≡ segment_behind member before

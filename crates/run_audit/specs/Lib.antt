@@ -1,0 +1,5 @@
+pub mod Audits
+pub mod Clashes
+pub mod Entries
+pub mod Places
+pub mod Reading

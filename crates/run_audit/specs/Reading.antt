@@ -1,0 +1,65 @@
+-- What the readers of words and lines answer.
+use Rattle.std.specs.Prelude.{◌≡◌, ℕ, ◌&&◌, ◌||◌, nat_le, Bool, List, Option, Some, None, option_map, map, Result, Ok, Err, Vec}
+use Rattle.script_mean.specs.Words.{Word}
+use Rattle.script_text.specs.Parts.{parts_behind}
+use Rattle.audit_mean.specs.Line as spec
+use Rattle.audit_mean.specs.Line.{ReportLine}
+use Rattle.run_audit.specs.declared.line.Line.{Line}
+use Rattle.run_audit.specs.declared.line.Line.TheVariants.{Deliver, View, Out, End, Visits, Silent}
+use Rattle.run_audit.specs.declared.parts.Parts.{Parts}
+use Rattle.run_audit.specs.declared.report.Stage.{Stage}
+use Rattle.run_audit.specs.declared.report.Stage.TheVariants.{Running, Ended, Closed}
+use Rattle.run_audit.specs.declared.error.AuditError.{AuditError}
+use Rattle.run_audit.specs.declared.error.AuditError.TheVariants as error
+use Rattle.audit_mean.specs.Report as report
+use Rattle.std.specs.declared.alloc.Global.{Global}
+use denote.Ref.{Bor}
+
+-- a hexadecimal digit in lower case
+abbrev pub is_hex_digit : ℕ → Bool
+is_hex_digit byte = (nat_le 48 byte && nat_le byte 57) || (nat_le 97 byte && nat_le byte 102)
+
+-- the parts that are left
+abbrev pub parts_left : Parts → List Word
+parts_left parts = parts_behind parts.at parts.rest
+
+-- a line as the definitions see it
+abbrev pub shown : Line → ReportLine
+shown (Deliver member peer body) = spec.deliver member peer body.now
+shown (View member ltime mask) = spec.view member ltime mask
+shown (Out member) = spec.out member
+shown End = spec.end
+shown Visits = spec.visits
+shown Silent = spec.silent
+
+-- what a form took from the words, and the words behind it
+abbrev pub Takes : {A : Type 0} → Option (A × List Word) → Option A → List Word → Type 0
+Takes taken (Some value) behind = taken ≡ Some (value, behind)
+Takes taken None behind = taken ≡ None
+
+-- the same of a word
+abbrev pub TakesWord : Option (Word × List Word) → Option (Bor (List ℕ)) → List Word → Type 0
+TakesWord taken (Some word) behind = taken ≡ Some (word.now, behind)
+TakesWord taken None behind = taken ≡ None
+
+-- what a form said of a whole line
+abbrev pub Says : Option (ReportLine × List Word) → Option Line → Type 0
+Says taken (Some line) = option_map (λ t. t.0) taken ≡ Some (shown line)
+Says taken None = taken ≡ None
+
+-- a stage as the definitions see it
+abbrev pub stage_shown : Stage → report.Stage
+stage_shown Running = report.running
+stage_shown Ended = report.ended
+stage_shown Closed = report.closed
+
+-- the stage behind a line
+abbrev pub NextStage : Stage → Line → Option Stage → Type 0
+NextStage stage line next = option_map stage_shown next ≡ report.stage_behind (stage_shown stage) (shown line)
+
+-- the lines of a report, or the first out of form; want of memory says nothing
+abbrev pub Reads : Result (List ReportLine) ℕ → Result (Vec Line Global) AuditError → Type 0
+Reads read (Ok lines) = read ≡ Ok (map shown lines.items)
+Reads read (Err (error.Line number)) = read ≡ Err number
+Reads read (Err error.TooLarge) = ⊥
+Reads read (Err error.Memory) = Unit {0}
