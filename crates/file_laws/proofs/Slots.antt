@@ -132,7 +132,7 @@ pub record LastLocal (further : List Local) (word : Word) (sort : Sort) : Type 0
   pub sorts_are : (w : Word) → bytes_eq w word ≡ true → sort_among further w ≡ Some sort
   pub others : (w : Word) → bytes_eq w word ≡ false → IsNumberSort (sort_among further w)
 
-slot_new : (sorts : List Sort) (sort : Sort) (k : ℕ) → slice_get sorts k ≡ Some sort → Slot sorts (Some sort) k
+pub slot_new : (sorts : List Sort) (sort : Sort) (k : ℕ) → slice_get sorts k ≡ Some sort → Slot sorts (Some sort) k
 slot_new sorts Int k is = tt
 slot_new sorts Msg k is = is
 slot_new sorts Part k is = is
