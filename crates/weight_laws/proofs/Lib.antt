@@ -1,0 +1,17 @@
+pub mod Members
+pub mod Reach
+pub mod Nodes
+pub mod Costs
+pub mod Sends
+pub mod Visits
+pub mod Made
+pub mod Sums
+pub mod Queue
+pub mod Runs
+pub mod Chains
+pub mod Turns
+pub mod Tables
+pub mod Held
+pub mod Rounds
+pub mod Search
+pub mod Built

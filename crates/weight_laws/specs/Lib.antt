@@ -1,0 +1,12 @@
+pub mod Nodes
+pub mod Orderly
+pub mod Costs
+pub mod Made
+pub mod Visits
+pub mod Runs
+pub mod Chains
+pub mod Turns
+pub mod Samples
+pub mod Tables
+pub mod Rounds
+pub mod Search
