@@ -1,13 +1,13 @@
 -- A table that is made node by node has the vertex of each node.
-use Rattle.std.proofs.Common.{◌≡◌, ◌≢◌, ℕ, zero, suc, ◌+◌, ◌<◌, ◌≤◌, Bool, true, false, List, [], ◌∷◌, ◌++◌, fold, length, replicate, slice_set, refl, sym, ap, ◌∙◌, ◌⊎◌, inl, inr, ⊎_elim, arith}
-use Rattle.std.specs.List.{flat_map, range_with_len}
+use Rattle.std.proofs.Common.{◌≡◌, ◌+◌, ◌<◌, ◌≤◌, Bool, true, false, List, [], ◌∷◌, fold, length, refl, sym, ap, ◌∙◌, ◌⊎◌, inl, inr, ⊎_elim, arith}
+use Rattle.std.specs.List.{range_with_len}
 use Rattle.std.proofs.lemmas.List.{length-replicate, length-set, get_or-set_same, get_or-set_other}
 use Rattle.layer_ast.specs.declared.tokens.Dir.TheVariants.{Up, Down}
 use Rattle.layer_ast.specs.Spelling.{kinds}
 use Rattle.layer_mean.specs.Tree.{LayerTree}
 use Rattle.stack_mean.specs.Graph.{Node, same_node, nodes, nodes_of}
 use Rattle.weight_laws.specs.Nodes.{IsNode}
-use Rattle.weight_laws.specs.Tables.{HasFewHeaders, node_number, numbers_for, Vertex, no_vertex, vertex_of, vertex_at, IsTable, with_node, empty_table, table_of, TablesTell}
+use Rattle.weight_laws.specs.Tables.{HasFewHeaders, node_number, numbers_for, Vertex, no_vertex, vertex_of, vertex_at, with_node, empty_table, table_of, TablesTell}
 use Rattle.weight_laws.proofs.Members.{In, in_either, from_flat_map}
 use Rattle.weight_laws.proofs.Nodes.{range_in, at_kind, at_place, listed}
 use Rattle.weight_laws.proofs.Costs.{sound, itself}

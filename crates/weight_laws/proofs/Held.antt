@@ -1,5 +1,5 @@
 -- Sums of numbers that are held below a bound.
-use Rattle.std.proofs.Common.{◌≡◌, ℕ, zero, suc, ◌+◌, ◌*◌, ◌<◌, ◌≤◌, min, max, List, [], ◌∷◌, map, fold, refl, sym, ap, ◌∙◌, ◌⊎◌, inl, inr, ⊎_elim, mul-le-mul_left, mul-le-mul_right, arith}
+use Rattle.std.proofs.Common.{◌≡◌, ℕ, zero, suc, ◌+◌, ◌*◌, ◌≤◌, min, max, List, [], ◌∷◌, map, sym, ap, ◌∙◌, ◌⊎◌, inl, inr, mul-le-mul_left, mul-le-mul_right, arith}
 use Rattle.stack_mean.specs.Acceptance.{largest}
 use Rattle.weight_laws.proofs.Visits.{largest_from}
 

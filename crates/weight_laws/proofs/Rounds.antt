@@ -1,6 +1,5 @@
 -- Costs in rounds over a table are those of the definition, held.
-use Rattle.std.proofs.Common.{◌≡◌, ℕ, zero, suc, ◌+◌, ◌*◌, ◌<◌, ◌≤◌, min, Bool, true, false, nat_lt, List, [], ◌∷◌, ◌++◌, map, fold, flat_map, length, slice_index, slice_index_or, refl, sym, ap, ◌∙◌, ◌⊎◌, inl, inr, ⊎_elim, arith, ltb-true, ltb-false, lt-ltb, le-ltb}
-use Rattle.std.specs.List.{sum_by}
+use Rattle.std.proofs.Common.{◌≡◌, ℕ, zero, suc, ◌+◌, ◌*◌, ◌<◌, ◌≤◌, min, Bool, true, false, nat_lt, List, [], ◌∷◌, map, fold, flat_map, length, slice_index, refl, sym, ap, ◌∙◌, ◌⊎◌, inl, inr, ⊎_elim, arith, ltb-true, ltb-false, lt-ltb, le-ltb}
 use Rattle.std.proofs.lemmas.List.{get_or-map}
 use Rattle.std.proofs.lemmas.List.Sums.{sum_by-cons}
 use Rattle.layer_ast.specs.declared.tokens.Dir.{Dir}
@@ -9,11 +8,11 @@ use Rattle.layer_ast.specs.declared.tokens.Kind.{Kind}
 use Rattle.layer_ast.specs.declared.tokens.Kind.TheVariants.{Cast, Send, Timer, Leave}
 use Rattle.layer_mean.specs.Tree.{LayerTree}
 use Rattle.stack_mean.specs.Graph.{Node, Arrow, tags_for, header_layer, nodes_of, arrows, nodes}
-use Rattle.stack_mean.specs.Acceptance.{largest, cost_in, weight, own_joins, most_joins, entries, largest_weight, largest_joins, held_at_most}
+use Rattle.stack_mean.specs.Acceptance.{largest, cost_in, own_joins, entries, held_at_most}
 use Rattle.weight_laws.specs.Nodes.{IsNode}
 use Rattle.weight_laws.specs.Orderly.{IsOrderly}
 use Rattle.weight_laws.specs.Costs.{behind_arrows}
-use Rattle.weight_laws.specs.Tables.{node_number, Edge, Vertex, no_vertex, edge_of, vertex_of, vertex_at, IsTable}
+use Rattle.weight_laws.specs.Tables.{node_number, Vertex, no_vertex, edge_of, vertex_of, IsTable}
 use Rattle.weight_laws.specs.Rounds.{with_edge, vertex_cost, round, rounds, one_task, joins_of_vertex, RoundsAreCosts, largest_entry, LargestInRounds, HeldIsJudged, RoundsSettle}
 use Rattle.weight_laws.proofs.Members.{In, in_either, in_left, in_right, from_map}
 use Rattle.weight_laws.proofs.Nodes.{in_had, next_node}

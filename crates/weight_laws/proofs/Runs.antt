@@ -53,8 +53,14 @@ module _ (stack : List LayerTree) (orderly : IsOrderly stack) (off : first_on_cy
           known = before.0;
           sent = all_right (IsKnown stack) rest (sent_tasks stack s t) known;
         } in
-        omega (arith, follows stack orderly off own (task_node t) before.0, sends_follow_arrows stack s t (cost stack own) visit, fits w t,
-        sum_by-cons (λ x. cost stack own (task_node x)) t rest, sum_by-append (λ x. cost stack own (task_node x)) rest (sent_tasks stack s t))
+        omega (
+          arith,
+          follows stack orderly off own (task_node t) before.0,
+          sends_follow_arrows stack s t (cost stack own) visit,
+          fits w t,
+          sum_by-cons (λ x. cost stack own (task_node x)) t rest,
+          sum_by-append (λ x. cost stack own (task_node x)) rest (sent_tasks stack s t),
+        )
     go false placed known =
         omega (arith, follows stack orderly off own (task_node t) before.0, fits w t, sum_by-cons (λ x. cost stack own (task_node x)) t rest)
 
@@ -112,9 +118,12 @@ turns_fit stack w t rest left free turn enough room =
     let pending = tasks_weigh stack turn.orderly turn.no_cycle _ turn.behind in record {
       sent = λ placed.
           let visit = visit_of stack w t rest turn placed in
-          omega (arith, weighs_what_it_sends stack (state_at w t.at) t turn.no_cycle visit,
-          tasks_weigh stack turn.orderly turn.no_cycle (sent_tasks stack (state_at w t.at) t) visit.sent,
-          sum_by-cons (task_weight stack) t rest);
+          omega (
+            arith,
+            weighs_what_it_sends stack (state_at w t.at) t turn.no_cycle visit,
+            tasks_weigh stack turn.orderly turn.no_cycle (sent_tasks stack (state_at w t.at) t) visit.sent,
+            sum_by-cons (task_weight stack) t rest,
+          );
       tasks = omega (arith, light, pending);
       turn = one_turn stack t rest w;
       weight = omega (arith, light);

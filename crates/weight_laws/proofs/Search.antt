@@ -1,15 +1,13 @@
 -- A search over a table sees what the definition reaches.
-use Rattle.std.proofs.Common.{◌≡◌, ◌≢◌, ℕ, zero, suc, ◌+◌, ◌<◌, ◌≤◌, Bool, true, false, ◌||◌, List, [], ◌∷◌, ◌++◌, map, fold, flat_map, length, replicate, slice_index_or, slice_set, refl, sym, ap, ◌∙◌, subst, ◌⊎◌, inl, inr, ⊎_elim, append_assoc, append-nil, arith}
+use Rattle.std.proofs.Common.{◌≡◌, ℕ, zero, suc, ◌<◌, ◌≤◌, Bool, true, false, ◌||◌, List, [], ◌∷◌, ◌++◌, map, fold, flat_map, length, replicate, slice_index_or, slice_set, refl, sym, ap, ◌∙◌, subst, ◌⊎◌, inl, inr, ⊎_elim, append_assoc, append-nil, arith}
 use Rattle.std.specs.Prelude.{if◌then◌else◌}
 use Rattle.std.specs.List.{list_any}
 use Rattle.std.proofs.lemmas.List.{map-append, length-replicate, get_or-replicate, length-set, get_or-set_same, get_or-set_other}
 use Rattle.std.proofs.lemmas.List.Sums.{fold-append}
 use Rattle.std.proofs.lemmas.List.Folds.{list_any-append}
-use Rattle.layer_mean.specs.Tree.{LayerTree}
-use Rattle.stack_mean.specs.Graph.{Node, same_node, Arrow, arrows, following, nodes, unknown_of, reached, is_on_cycle}
+use Rattle.stack_mean.specs.Graph.{same_node, Arrow, arrows, following, nodes}
 use Rattle.weight_laws.specs.Nodes.{IsNode}
-use Rattle.weight_laws.specs.Orderly.{IsOrderly}
-use Rattle.weight_laws.specs.Tables.{HasFewHeaders, node_number, Edge, Vertex, edge_of, vertex_of, vertex_at, IsTable}
+use Rattle.weight_laws.specs.Tables.{node_number, Vertex, edge_of}
 use Rattle.weight_laws.specs.Search.{Search, is_seen, see, see_targets, see_vertex, see_behind, search_round, searched, search_from, SearchTellsCycles, SearchSettles}
 use Rattle.weight_laws.proofs.Members.{In, from_flat_map}
 use Rattle.weight_laws.proofs.Reach.{unknown_by, reached_by, unknown_sub}

@@ -1,7 +1,6 @@
 -- Nodes have numbers of their own.
-use Rattle.std.proofs.Common.{◌≡◌, ℕ, zero, suc, ◌+◌, ◌*◌, ◌<◌, ◌≤◌, Bool, true, false, List, [], ◌∷◌, length, is_some, slice_index_or, refl, rules, arith}
-use Rattle.std.specs.Prelude.{if◌then◌else◌, ◌==◌, slice_get}
-use Rattle.std.specs.List.{AllByRecursion}
+use Rattle.std.proofs.Common.{◌≡◌, ℕ, zero, suc, ◌+◌, ◌*◌, ◌<◌, ◌≤◌, Bool, true, false, List, [], ◌∷◌, length, is_some, slice_index_or, rules, arith}
+use Rattle.std.specs.Prelude.{if◌then◌else◌, ◌==◌}
 use denote.Enum.Bare.{tag_one}
 use denote.Enum.Declared.{tag_of}
 use Rattle.layer_ast.specs.declared.tokens.Dir.{Dir}
@@ -15,7 +14,7 @@ use Rattle.layer_mean.specs.Headers.{header_none, declared}
 use Rattle.layer_mean.specs.Tree.{LayerTree, no_layer}
 use Rattle.stack_mean.specs.Graph.{Node, header_layer}
 use Rattle.weight_laws.specs.Nodes.{can_have, IsNode}
-use Rattle.weight_laws.specs.Tables.{node_number, HasFewHeaders, NumbersFit, NumbersDiffer}
+use Rattle.weight_laws.specs.Tables.{HasFewHeaders, NumbersFit, NumbersDiffer}
 use Rattle.weight_laws.proofs.Nodes.{there_below, is_zero}
 use Rattle.weight_laws.proofs.Costs.{node_is}
 
