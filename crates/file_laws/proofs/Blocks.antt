@@ -1,25 +1,20 @@
 -- Blocks without faults are typed.
-use Rattle.std.proofs.Common.{◌≡◌, ◌∙◌, ℕ, zero, suc, ◌+◌, ◌-◌, ◌<◌, ◌≤◌, Bool, true, false, List, [], ◌∷◌, ◌++◌, length, map, Option, Some, None, refl, sym, ap, subst, arith}
-use Rattle.std.specs.Prelude.{flat_map}
+use Rattle.std.proofs.Common.{◌≡◌, ◌≤◌, List, [], ◌∷◌, ◌++◌, length, map, Some, arith}
 use Rattle.std.specs.List.{AllByRecursion}
 use Rattle.layer_ast.specs.declared.names.Name.{Name}
-use Rattle.layer_ast.specs.declared.names.Word.{Word}
 use Rattle.layer_ast.specs.declared.syntax.Sort.{Sort}
-use Rattle.layer_ast.specs.declared.syntax.Sort.TheVariants.{Int, Msg, Part}
 use Rattle.layer_ast.specs.Tree as ast
-use Rattle.layer_mean.specs.Tree.{StatementTrees}
 use Rattle.file_faults.specs.Declared.{names_in}
 use Rattle.file_faults.specs.ExpressionFaults.{arguments_faults}
 use Rattle.file_faults.specs.Forms.{row_of, queue_name}
-use Rattle.file_faults.specs.Limits.{maximum_in}
-use Rattle.file_faults.specs.NameFaults.{uses_faults, twice_among, size_faults, statement_name_faults}
-use Rattle.file_faults.specs.Scope.{Local, Scope, Standing, locals_as, visible, brought, standing_in}
+use Rattle.file_faults.specs.NameFaults.{uses_faults, twice_among, statement_name_faults}
+use Rattle.file_faults.specs.Scope.{Local, Scope, Standing, locals_as, visible, standing_in}
 use Rattle.file_faults.specs.TypeFaults.{row_type_faults, row_sorts, statement_type_faults}
 use Rattle.file_faults.specs.Uses.{arguments_in, statement_uses}
-use Rattle.file_mean.specs.Names.{Placed, Names, with_numbers}
-use Rattle.file_mean.specs.Statements.{with_taken, after_block, behind, behind_all, statement_of, statements_of}
+use Rattle.file_mean.specs.Names.{Names, with_numbers}
+use Rattle.file_mean.specs.Statements.{with_taken, after_block, behind, behind_all, statements_of}
 use Rattle.file_mean.specs.Layers.{layer_of}
-use Rattle.chain_laws.specs.Typed.{Typed, TypedAll}
+use Rattle.chain_laws.specs.Typed.{TypedAll}
 use Rattle.file_laws.specs.Literals.{LiteralStatement}
 use Rattle.file_laws.proofs.Lists.{nils, each_parts}
 use Rattle.file_laws.proofs.Small.{LiteralPlaced, number_small}
@@ -99,9 +94,11 @@ pub block_typed : (xs : ast.StatementTrees) (names : Names) (locals : List Local
     AllByRecursion Good (standing_in (record { layer = names.place.layer; locals = locals }) xs) →
     TypedAll (layer_of names.place) names.place.blank sorts (statements_of names xs)
 block_typed ast.none names locals sorts u bound h = tt
-block_typed (ast.more (ast.bind at name e) rest) names locals sorts u bound h =
-    (number_small names u.placed e h.0.literal, block_typed rest (with_numbers (name ∷ []) names) (locals ++ locals_as [] (name ∷ [])) sorts
-    (under_number names locals sorts name u) bound h.1)
+block_typed (ast.more (ast.bind at name e) rest) names locals sorts u bound h = (
+  number_small names u.placed e h.0.literal,
+  block_typed rest (with_numbers (name ∷ []) names) (locals ++ locals_as [] (name ∷ [])) sorts
+      (under_number names locals sorts name u) bound h.1,
+)
 block_typed (ast.more (ast.set at name index e) rest) names locals sorts u bound h =
     (number_small names u.placed e h.0.literal.1, block_typed rest names locals sorts u bound h.1)
 block_typed (ast.more (ast.set_square at name row column e) rest) names locals sorts u bound h =
@@ -113,10 +110,13 @@ block_typed (ast.more (ast.push at q items otherwise) rest) names locals sorts u
     let parts = each_parts Good (standing_in scope otherwise) (standing_in scope rest) h.1 in
     let inner = behind_all otherwise names in
     let later = after_block names inner in
-    let end = grows_all rest later in
-    ((push_is names locals sorts u.agree u.rows u.placed at q args faults.0 faults.1 h.0.literal.1,
-    block_typed otherwise names locals sorts u (omega (arith, end, bound)) parts.0),
-    block_typed rest later locals sorts (under_behind names inner locals sorts (grows_all otherwise names) u) bound parts.1)
+    let end = grows_all rest later in (
+      (
+        push_is names locals sorts u.agree u.rows u.placed at q args faults.0 faults.1 h.0.literal.1,
+        block_typed otherwise names locals sorts u (omega (arith, end, bound)) parts.0,
+      ),
+      block_typed rest later locals sorts (under_behind names inner locals sorts (grows_all otherwise names) u) bound parts.1,
+    )
 block_typed (ast.more (ast.take at q new block otherwise) rest) names locals sorts u bound h =
     let scope = scope_of names locals in
     let fresh_names = names_in (Some new) in
@@ -135,20 +135,24 @@ block_typed (ast.more (ast.take at q new block otherwise) rest) names locals sor
     let one = grows_all block inner in
     let two = grows_all otherwise between in
     let end = grows_all rest later in
-    let taken = take_is names locals sorts u.agree u.rows u.free at q new.first new.rest h.0.types fresh.1 (omega (arith, one, two, end, bound)) in
-    ((taken.takes,
-    block_typed block inner (locals ++ further) _ (record { placed = u.placed; rows = u.rows; agree = taken.agree; free = taken.free })
-    (omega (arith, two, end, bound, taken.same_length)) parts.0,
-    block_typed otherwise between locals sorts (under_behind names first locals sorts (omega (arith, zero_le, one)) u) (omega (arith, end, bound)) parts.1),
-    block_typed rest later locals sorts (under_behind names second locals sorts (omega (arith, zero_le, one, two)) u) bound outer.1)
+    let taken = take_is names locals sorts u.agree u.rows u.free at q new.first new.rest h.0.types fresh.1 (omega (arith, one, two, end, bound)) in (
+      (
+        taken.takes,
+        block_typed block inner (locals ++ further) _ (record { placed = u.placed; rows = u.rows; agree = taken.agree; free = taken.free })
+            (omega (arith, two, end, bound, taken.same_length)) parts.0,
+        block_typed otherwise between locals sorts (under_behind names first locals sorts (omega (arith, zero_le, one)) u) (omega (arith, end, bound)) parts.1,
+      ),
+      block_typed rest later locals sorts (under_behind names second locals sorts (omega (arith, zero_le, one, two)) u) bound outer.1,
+    )
 block_typed (ast.more (ast.when at likely e block) rest) names locals sorts u bound h =
     let scope = scope_of names locals in
     let parts = each_parts Good (standing_in scope block) (standing_in scope rest) h.1 in
     let inner = behind_all block names in
     let later = after_block names inner in
-    let end = grows_all rest later in
-    ((block_typed block names locals sorts u (omega (arith, end, bound)) parts.0, tt),
-    block_typed rest later locals sorts (under_behind names inner locals sorts (grows_all block names) u) bound parts.1)
+    let end = grows_all rest later in (
+      (block_typed block names locals sorts u (omega (arith, end, bound)) parts.0, tt),
+      block_typed rest later locals sorts (under_behind names inner locals sorts (grows_all block names) u) bound parts.1,
+    )
 block_typed (ast.more (ast.choose at likely e block otherwise) rest) names locals sorts u bound h =
     let scope = scope_of names locals in
     let outer = each_parts Good (standing_in scope block ++ standing_in scope otherwise) (standing_in scope rest) h.1 in
@@ -159,10 +163,13 @@ block_typed (ast.more (ast.choose at likely e block otherwise) rest) names local
     let later = after_block names second in
     let one = grows_all block names in
     let two = grows_all otherwise between in
-    let end = grows_all rest later in
-    ((block_typed block names locals sorts u (omega (arith, two, end, bound)) parts.0,
-    block_typed otherwise between locals sorts (under_behind names first locals sorts one u) (omega (arith, end, bound)) parts.1),
-    block_typed rest later locals sorts (under_behind names second locals sorts (omega (arith, one, two)) u) bound outer.1)
+    let end = grows_all rest later in (
+      (
+        block_typed block names locals sorts u (omega (arith, two, end, bound)) parts.0,
+        block_typed otherwise between locals sorts (under_behind names first locals sorts one u) (omega (arith, end, bound)) parts.1,
+      ),
+      block_typed rest later locals sorts (under_behind names second locals sorts (omega (arith, one, two)) u) bound outer.1,
+    )
 block_typed (ast.more (ast.each at name below most block) rest) names locals sorts u bound h =
     let scope = scope_of names locals in
     let inside = scope_of names (locals ++ locals_as [] (name ∷ [])) in
@@ -170,10 +177,14 @@ block_typed (ast.more (ast.each at name below most block) rest) names locals sor
     let inner = with_numbers (name ∷ []) names in
     let first = behind_all block inner in
     let later = after_block names first in
-    let end = grows_all rest later in
-    ((number_small names u.placed below h.0.literal.0,
-    block_typed block inner (locals ++ locals_as [] (name ∷ [])) sorts (under_number names locals sorts name u) (omega (arith, end, bound)) parts.0),
-    block_typed rest later locals sorts (under_behind names first locals sorts (grows_all block inner) u) bound parts.1)
-block_typed (ast.more (ast.emit at dir kind arguments pushed) rest) names locals sorts u bound h =
-    (emission_is names locals sorts u.agree u.rows u.placed at dir kind (arguments_in (Some arguments)) pushed h.0.types h.0.literal.0 h.0.literal.1,
-    block_typed rest names locals sorts u bound h.1)
+    let end = grows_all rest later in (
+      (
+        number_small names u.placed below h.0.literal.0,
+        block_typed block inner (locals ++ locals_as [] (name ∷ [])) sorts (under_number names locals sorts name u) (omega (arith, end, bound)) parts.0,
+      ),
+      block_typed rest later locals sorts (under_behind names first locals sorts (grows_all block inner) u) bound parts.1,
+    )
+block_typed (ast.more (ast.emit at dir kind arguments pushed) rest) names locals sorts u bound h = (
+  emission_is names locals sorts u.agree u.rows u.placed at dir kind (arguments_in (Some arguments)) pushed h.0.types h.0.literal.0 h.0.literal.1,
+  block_typed rest names locals sorts u bound h.1,
+)

@@ -1,14 +1,11 @@
 -- Emissions and pushes without faults send and keep what suits.
-use Rattle.std.proofs.Common.{◌≡◌, ◌∙◌, ℕ, zero, suc, ◌-◌, Bool, true, false, List, [], ◌∷◌, ◌++◌, length, map, Option, Some, None, refl, sym, ap, subst, arith}
-use Rattle.std.specs.Prelude.{◌==◌, ◌&&◌, min, is_some, slice_get, take, unwrap_or, zip, option_map, option_and_then, if◌then◌else◌, flat_map}
+use Rattle.std.proofs.Common.{◌≡◌, ◌∙◌, ◌-◌, Bool, true, false, List, [], ◌∷◌, ◌++◌, length, map, Option, Some, None, refl, sym, ap, subst, arith}
+use Rattle.std.specs.Prelude.{◌==◌, ◌&&◌, is_some, slice_get, option_map, flat_map}
 use Rattle.std.specs.List.{AllByRecursion, AllZip, last_or}
-use Rattle.std.specs.Option.{option_map_or, option_zip}
+use Rattle.std.specs.Option.{option_map_or}
 use Rattle.std.proofs.lemmas.Bool.{eqb-true}
 use Rattle.std.proofs.lemmas.List.{length-map, length-take}
-use Rattle.msg_core.specs.declared.message.Header.{Header}
 use Rattle.layer_ast.specs.declared.names.At.{At}
-use Rattle.layer_ast.specs.declared.names.Name.{Name}
-use Rattle.layer_ast.specs.declared.names.Word.{Word}
 use Rattle.layer_ast.specs.declared.syntax.Sort.{Sort}
 use Rattle.layer_ast.specs.declared.syntax.Sort.TheVariants.{Int, Msg, Part}
 use Rattle.layer_ast.specs.declared.tokens.Dir.{Dir}
@@ -18,26 +15,26 @@ use Rattle.layer_ast.specs.declared.tokens.Kind.TheVariants as kinds
 use Rattle.layer_ast.specs.Tree as ast
 use Rattle.layer_mean.specs.Event.{carries}
 use Rattle.layer_mean.specs.Headers.{declared}
-use Rattle.layer_mean.specs.Tree.{Carried, part, whole, ItemsTree, MessageTree, ExpressionTree}
+use Rattle.layer_mean.specs.Tree.{Carried, part, whole}
 use Rattle.file_faults.specs.Declared.{is_header}
 use Rattle.file_faults.specs.Earliest.{unless}
-use Rattle.file_faults.specs.Faults.{TypeFault, kind, arity, direction, header}
-use Rattle.file_faults.specs.Forms.{declared_as, is_end, items_of, row_of, fields_of, queue_name}
+use Rattle.file_faults.specs.Faults.{kind, arity, direction, header}
+use Rattle.file_faults.specs.Forms.{declared_as, is_end, items_of, fields_of, queue_name}
 use Rattle.file_faults.specs.Kinds.{allows, a_number, a_message, arguments_of}
 use Rattle.file_faults.specs.Scope.{Local, Scope}
 use Rattle.file_faults.specs.Sorts.{argument_sort}
 use Rattle.file_faults.specs.Uses.{arguments_in}
 use Rattle.file_faults.specs.ExpressionFaults.{queue_faults, argument_faults, arguments_faults}
 use Rattle.file_faults.specs.TypeFaults.{pushes, suits, with_faults, pushed_faults, ends_with, sent_sort, emission_faults, row_type_faults, row_sorts}
-use Rattle.file_mean.specs.Names.{Placed, Names, capacity_declared, capacity_of, carried_as, carried_in, message_among, numbers_among, tag_of}
+use Rattle.file_mean.specs.Names.{Names, capacity_declared, capacity_of, carried_in, message_among, numbers_among, tag_of}
 use Rattle.file_mean.specs.Values.{queue_row, queue_carries, queue_cell, argument_number, argument_message}
 use Rattle.file_mean.specs.Statements.{pushed_tag, pushed_fields, emission_of, pushed_row}
 use Rattle.file_mean.specs.Layers.{row_items, layer_of}
-use Rattle.chain_laws.specs.Typed.{Small, Queue, sort_of, sort_under, Sorted, Pushed, Content, Sends, Ends, Pushes}
+use Rattle.chain_laws.specs.Typed.{Small, sort_of, sort_under, Sorted, Pushed, Content, Sends, Ends, Pushes}
 use Rattle.chain_laws.proofs.Lists.{some_and, each_map}
 use Rattle.file_laws.specs.Literals.{LiteralArgument, LiteralPushed}
 use Rattle.file_laws.proofs.Lists.{nils, unless_nil, zip_each, Both, last_zip, last_map}
-use Rattle.file_laws.proofs.Own.{Declares, declares_it, is_rows, queue_listed, Headed, headed}
+use Rattle.file_laws.proofs.Own.{Declares, declares_it, is_rows, queue_listed, headed}
 use Rattle.file_laws.proofs.Small.{LiteralPlaced, argument_small, arguments_small}
 use Rattle.file_laws.proofs.Messages.{Finds, Agree, LastMessages, queue_declared, row_items_are, argument_found}
 
@@ -156,7 +153,7 @@ module _ (names : Names) (locals : List Local) (sorts : List Sort) (agree : Agre
         declares = some_and (declared (layer_of names.place) (tag_of names.place x.name)) _ head.declaration head.listed (
           length-map args (argument_number names) ∙ sym count ∙ sym head.fields,
           subst (λ ends. M m (sort_under ends)) (sym head.ends)
-          (down_is (M m) (argument_sort scope m) (declared_as is_end names.place.layer x.name.word) found suited),
+              (down_is (M m) (argument_sort scope m) (declared_as is_end names.place.layer x.name.word) found suited),
         );
       }
 
@@ -228,23 +225,23 @@ module _ (names : Names) (locals : List Local) (sorts : List Sort) (agree : Agre
   ends_is items args (Some i) None last_item last_arg both = absurd both
   ends_is items args (Some i) (Some a) last_item last_arg faultless =
       go i.sort refl (λ none. finds_one (M a) i.sort (argument_sort scope a) (argument_found names locals sorts agree rows (i.sort ∷ []) a none faultless)) where
-    labels : last_or None (map (λ (i : ast.ItemTree). i.name.word) items) ≡ Some i.name.word
-    labels = last_map (λ (i : ast.ItemTree). i.name.word) items None ∙ ap (option_map (λ (i : ast.ItemTree). i.name.word)) last_item
+        labels : last_or None (map (λ (i : ast.ItemTree). i.name.word) items) ≡ Some i.name.word
+        labels = last_map (λ (i : ast.ItemTree). i.name.word) items None ∙ ap (option_map (λ (i : ast.ItemTree). i.name.word)) last_item
 
-    ends_with_it : (o : Option Carried) → carried_in names.place items ≡ o → ((carried : Carried) → o ≡ Some carried → M a (sort_of carried)) →
-        Ends (layer_of names.place) names.place.blank sorts (row_items names.place items).message
-        (option_map (argument_message names) (message_among (is_some (carried_in names.place items)) args))
-    ends_with_it None is h = rw is tt
-    ends_with_it (Some carried) is h = rw (is, labels, last_arg) (h carried refl)
+        ends_with_it : (o : Option Carried) → carried_in names.place items ≡ o → ((carried : Carried) → o ≡ Some carried → M a (sort_of carried)) →
+            Ends (layer_of names.place) names.place.blank sorts (row_items names.place items).message
+            (option_map (argument_message names) (message_among (is_some (carried_in names.place items)) args))
+        ends_with_it None is h = rw is tt
+        ends_with_it (Some carried) is h = rw (is, labels, last_arg) (h carried refl)
 
-    go : (sort : Sort) → i.sort ≡ sort → (allows (i.sort ∷ []) Int ≡ false → M a i.sort) →
-        Ends (layer_of names.place) names.place.blank sorts (row_items names.place items).message
-        (option_map (argument_message names) (message_among (is_some (carried_in names.place items)) args))
-    go Int is h = ends_with_it None (rw (last_item, is) refl) (λ carried none. absurd (cc none))
-    go Msg is h = ends_with_it (Some (whole names.place.blank)) (rw (last_item, is) refl)
-        (λ carried same. subst (M a) (is ∙ ap sort_of (some_same same)) (h (rw is refl)))
-    go Part is h = ends_with_it (Some part) (rw (last_item, is) refl)
-        (λ carried same. subst (M a) (is ∙ ap sort_of (some_same same)) (h (rw is refl)))
+        go : (sort : Sort) → i.sort ≡ sort → (allows (i.sort ∷ []) Int ≡ false → M a i.sort) →
+            Ends (layer_of names.place) names.place.blank sorts (row_items names.place items).message
+            (option_map (argument_message names) (message_among (is_some (carried_in names.place items)) args))
+        go Int is h = ends_with_it None (rw (last_item, is) refl) (λ carried none. absurd (cc none))
+        go Msg is h = ends_with_it (Some (whole names.place.blank)) (rw (last_item, is) refl)
+            (λ carried same. subst (M a) (is ∙ ap sort_of (some_same same)) (h (rw is refl)))
+        go Part is h = ends_with_it (Some part) (rw (last_item, is) refl)
+            (λ carried same. subst (M a) (is ∙ ap sort_of (some_same same)) (h (rw is refl)))
 
   capacity_is : (q : ast.QueueTree) (d : Declares is_rows names.place.layer (queue_name q).word) →
       capacity_of names.place (queue_name q) ≡ capacity_declared names.place d.declaration

@@ -1,32 +1,27 @@
 -- Files without faults mean typed stacks.
-use Rattle.std.proofs.Common.{◌≡◌, ◌∙◌, ℕ, zero, suc, ◌+◌, ◌-◌, ◌<◌, ◌≤◌, Bool, true, false, List, [], ◌∷◌, ◌++◌, length, map, Option, Some, None, refl, sym, ap, subst, arith}
+use Rattle.std.proofs.Common.{◌≡◌, ◌∙◌, ℕ, suc, ◌+◌, ◌-◌, List, [], ◌∷◌, ◌++◌, length, map, Option, Some, None, refl, sym, ap, subst, arith}
 use Rattle.std.specs.Prelude.{bytes_eq, flat_map, is_some, option_map, if◌then◌else◌}
-use Rattle.std.specs.List.{AllByRecursion, cons_option, enumerate_from, filter_map, find, range_with_len}
-use Rattle.std.specs.Option.{option_map_or, option_or}
+use Rattle.std.specs.List.{AllByRecursion, cons_option, enumerate_from, filter_map, range_with_len}
+use Rattle.std.specs.Option.{option_or}
 use Rattle.std.proofs.lemmas.List.{length-map}
 use Rattle.std.proofs.lemmas.List.FromFn.{length-enumerate_from}
-use Rattle.msg_core.specs.declared.message.Header.{Header}
 use Rattle.layer_ast.specs.declared.names.At.{At}
-use Rattle.layer_ast.specs.declared.names.Word.{Word}
 use Rattle.layer_ast.specs.Tree as ast
-use Rattle.layer_mean.specs.Tree.{LayerTree, no_layer}
+use Rattle.layer_mean.specs.Tree.{LayerTree}
 use Rattle.layer_mean.specs.Visit.{none_header}
-use Rattle.file_faults.specs.Faults.{NameFault, TypeFault, unknown, of_names, of_types, name_key, type_key, name_fault_at, type_fault_at}
-use Rattle.file_faults.specs.FileFault.{file_fault}
-use Rattle.file_faults.specs.NameFaults.{twice_among, too_many_of, layer_name_faults, place_faults_in, place_faults, name_faults, name_fault}
-use Rattle.file_faults.specs.Places.{layer_among, layer_at, Judged, written, called, called_at, judged_layers, faults_of_judged, faults_of_layers}
+use Rattle.file_faults.specs.Faults.{unknown, of_names, of_types, name_key, type_key, name_fault_at, type_fault_at}
+use Rattle.file_faults.specs.NameFaults.{twice_among, too_many_of, layer_name_faults, place_faults, name_faults, name_fault}
+use Rattle.file_faults.specs.Places.{layer_among, layer_at, written, called, called_at, judged_layers, faults_of_judged, faults_of_layers}
 use Rattle.file_faults.specs.TypeFaults.{layer_type_faults, type_fault}
 use Rattle.file_faults.proofs.Earliest as earliest
 use Rattle.file_mean.specs.Names.{Placed}
-use Rattle.file_mean.specs.Layers.{layer_of}
 use Rattle.file_mean.specs.Stack.{blank_above, placed_layer, stack_of}
 use Rattle.chain_laws.specs.Typed.{TypedLayer}
-use Rattle.chain_laws.specs.Runs.{blanks, TypedLayers, TypedStack}
+use Rattle.chain_laws.specs.Runs.{blanks, TypedLayers}
 use Rattle.chain_laws.proofs.Lists.{Where, each_so}
 use Rattle.file_laws.specs.Literals.{LiteralLayer, LiteralPlace, LiteralFile}
 use Rattle.file_laws.specs.Files.{FilesAreTyped}
-use Rattle.file_laws.proofs.Lists.{nils, each_nil, map_nil, each_parts, each_both, find_where}
-use Rattle.file_laws.proofs.Small.{LiteralPlaced}
+use Rattle.file_laws.proofs.Lists.{nils, each_nil, map_nil, each_parts, find_where}
 use Rattle.file_laws.proofs.Handlers.{layer_typed}
 
 -- no fault of a file is none of its names and none of its types
@@ -89,8 +84,8 @@ called_is moved faults at (Some x) library layer none is h = absurd (cc none)
 called_is moved faults at None None layer none is h = absurd (cc is)
 called_is moved faults at None (Some x) layer none is h =
     subst (λ l. faults l ≡ []) (same is) (map_nil (moved at) (faults x) h) where
-  same : {x y : ast.LayerTree} → Some x ≡ Some y → x ≡ y
-  same e = cc e
+      same : {x y : ast.LayerTree} → Some x ≡ Some y → x ≡ y
+      same e = cc e
 
 nothing : (file : ast.FileTree) (place : ast.PlaceTree) → layer_among file.layers place.name.word ≡ None →
     layer_among file.library place.name.word ≡ None → place_faults file place ≡ unknown place.name.at ∷ []
@@ -104,28 +99,28 @@ names_layer file place literal types named known =
     (find_where (λ layer. layer_name_faults layer ≡ []) (λ layer. bytes_eq layer.name.word place.name.word) file.layers named.layers_are)
     (find_where LiteralLayer (λ layer. bytes_eq layer.name.word place.name.word) file.layers literal.layers_are)
     (find_where LiteralLayer (λ layer. bytes_eq layer.name.word place.name.word) file.library literal.library_is) where
-  go : (own library : Option ast.LayerTree) → layer_among file.layers place.name.word ≡ own → layer_among file.library place.name.word ≡ library →
-      Where (λ layer. layer_type_faults layer ≡ []) (layer_among file.layers place.name.word) →
-      Where (λ layer. layer_name_faults layer ≡ []) (layer_among file.layers place.name.word) →
-      Where LiteralLayer (layer_among file.layers place.name.word) → Where LiteralLayer (layer_among file.library place.name.word) →
-      NamesLayer file place
-  go (Some layer) library own_is library_is a b c d = record {
-    layer = layer;
-    listed = rw own_is refl;
-    types = subst (Where (λ layer. layer_type_faults layer ≡ [])) own_is a;
-    named = subst (Where (λ layer. layer_name_faults layer ≡ [])) own_is b;
-    literal = subst (Where LiteralLayer) own_is c;
-  }
-  go None (Some layer) own_is library_is a b c d = record {
-    layer = layer;
-    listed = rw (own_is, library_is) refl;
-    types = called_is type_fault_at layer_type_faults place.name.at (layer_among file.layers place.name.word)
-        (layer_among file.library place.name.word) layer own_is library_is known.types;
-    named = called_is name_fault_at layer_name_faults place.name.at (layer_among file.layers place.name.word)
-        (layer_among file.library place.name.word) layer own_is library_is known.named;
-    literal = subst (Where LiteralLayer) library_is d;
-  }
-  go None None own_is library_is a b c d = absurd (cc (nothing file place own_is library_is, known.names_one))
+      go : (own library : Option ast.LayerTree) → layer_among file.layers place.name.word ≡ own → layer_among file.library place.name.word ≡ library →
+          Where (λ layer. layer_type_faults layer ≡ []) (layer_among file.layers place.name.word) →
+          Where (λ layer. layer_name_faults layer ≡ []) (layer_among file.layers place.name.word) →
+          Where LiteralLayer (layer_among file.layers place.name.word) → Where LiteralLayer (layer_among file.library place.name.word) →
+          NamesLayer file place
+      go (Some layer) library own_is library_is a b c d = record {
+        layer = layer;
+        listed = rw own_is refl;
+        types = subst (Where (λ layer. layer_type_faults layer ≡ [])) own_is a;
+        named = subst (Where (λ layer. layer_name_faults layer ≡ [])) own_is b;
+        literal = subst (Where LiteralLayer) own_is c;
+      }
+      go None (Some layer) own_is library_is a b c d = record {
+        layer = layer;
+        listed = rw (own_is, library_is) refl;
+        types = called_is type_fault_at layer_type_faults place.name.at (layer_among file.layers place.name.word)
+            (layer_among file.library place.name.word) layer own_is library_is known.types;
+        named = called_is name_fault_at layer_name_faults place.name.at (layer_among file.layers place.name.word)
+            (layer_among file.library place.name.word) layer own_is library_is known.named;
+        literal = subst (Where LiteralLayer) library_is d;
+      }
+      go None None own_is library_is a b c d = absurd (cc (nothing file place own_is library_is, known.names_one))
 
 -- blank headers
 
@@ -156,9 +151,10 @@ stack_typed file n (place ∷ places) count h =
     let next : n + 1 ≡ suc n = omega arith in
     let left : length above ≡ length file.places - (n + 1) = omega (arith, long, count) in
     let same : blanks (suc n) above ≡ blank_above n (length file.places) =
-    blanks_range above (suc n) ∙ range_same (sym next) left in
-    (placed_typed file n place above h.0.0 h.0.1 same,
-    subst (λ k. TypedLayers k above) next (stack_typed file (n + 1) places (omega (arith, count)) h.1))
+    blanks_range above (suc n) ∙ range_same (sym next) left in (
+      placed_typed file n place above h.0.0 h.0.1 same,
+      subst (λ k. TypedLayers k above) next (stack_typed file (n + 1) places (omega (arith, count)) h.1),
+    )
 
 knowns : (file : ast.FileTree) (places : List ast.PlaceTree) → AllByRecursion (λ place. place_faults file place ≡ []) places →
     AllByRecursion (λ place. Where (λ j. faults_of_judged type_fault_at layer_type_faults j ≡ []) (called_at file place)) places →

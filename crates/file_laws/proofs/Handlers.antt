@@ -1,8 +1,8 @@
 -- Handlers and layers without faults are typed.
-use Rattle.std.proofs.Common.{◌≡◌, ◌∙◌, ℕ, zero, suc, ◌+◌, ◌-◌, ◌<◌, ◌≤◌, Bool, true, false, List, [], ◌∷◌, ◌++◌, length, map, Option, Some, None, refl, sym, ap, subst, arith}
-use Rattle.std.specs.Prelude.{◌&&◌, ◌==◌, not, bytes_eq, drop, flat_map, slice_get, unwrap_or, option_map, option_to_list, if◌then◌else◌}
-use Rattle.std.specs.List.{AllByRecursion, filter_map, find, last_or}
-use Rattle.std.specs.Option.{option_map_or, option_or}
+use Rattle.std.proofs.Common.{◌≡◌, ◌∙◌, ℕ, zero, suc, ◌+◌, ◌-◌, ◌≤◌, Bool, true, false, List, [], ◌∷◌, ◌++◌, length, map, Option, Some, None, refl, sym, ap, subst, arith}
+use Rattle.std.specs.Prelude.{◌&&◌, ◌==◌, not, bytes_eq, drop, flat_map, slice_get, option_map, if◌then◌else◌}
+use Rattle.std.specs.List.{AllByRecursion}
+use Rattle.std.specs.Option.{option_map_or}
 use Rattle.std.proofs.lemmas.Bool.{eqb-true}
 use Rattle.std.proofs.Math.ListN.{length-append}
 use Rattle.layer_ast.specs.declared.names.Name.{Name}
@@ -15,23 +15,22 @@ use Rattle.layer_ast.specs.declared.tokens.Kind.{Kind}
 use Rattle.layer_ast.specs.declared.tokens.Kind.TheVariants as kinds
 use Rattle.layer_ast.specs.Tree as ast
 use Rattle.layer_mean.specs.Event.{carries}
-use Rattle.layer_mean.specs.Headers.{declared}
-use Rattle.layer_mean.specs.Tree.{CellTree, HandlerTree}
+use Rattle.layer_mean.specs.Tree.{CellTree}
 use Rattle.layer_mean.specs.Visit.{with_room}
 use Rattle.file_faults.specs.Declared.{is_header, declares, declaration_of, names_in, declared_name, is_cell, is_param}
 use Rattle.file_faults.specs.Earliest.{unless}
 use Rattle.file_faults.specs.Faults.{arity, direction, kind, twice, too_many}
-use Rattle.file_faults.specs.Forms.{declared_as, is_end, items_of, labels_of, row_of, fields_of}
-use Rattle.file_faults.specs.Kinds.{allows, a_number, a_message, arguments_of}
+use Rattle.file_faults.specs.Forms.{declared_as, is_end, items_of, labels_of, fields_of}
+use Rattle.file_faults.specs.Kinds.{allows, arguments_of}
 use Rattle.file_faults.specs.Limits.{capacity_in, messages_inside, numbers_beyond}
 use Rattle.file_faults.specs.NameFaults as naming
-use Rattle.file_faults.specs.Scope.{Local, Scope, Standing, layer_scope, visible, locals_as, popped_names, sort_behind, head_names, argument_sorts, head_scope, handler_statements, handler_names as all_names}
+use Rattle.file_faults.specs.Scope.{Local, Standing, layer_scope, visible, locals_as, popped_names, sort_behind, head_names, argument_sorts, head_scope, handler_statements, handler_names as all_names}
 use Rattle.file_faults.specs.Uses as using
 use Rattle.file_faults.specs.TypeFaults.{pushes, with_faults, statement_type_faults, expected_type_faults, takes_off, handler_type_faults, declaration_type_faults, layer_type_faults}
-use Rattle.file_mean.specs.Names.{Placed, Names, own_names, message_among, tag_of}
+use Rattle.file_mean.specs.Names.{Placed, own_names, tag_of}
 use Rattle.file_mean.specs.Statements.{behind_all, statements_of}
 use Rattle.file_mean.specs.Layers.{popped_tag, handler_names, handler_of, cell_in, layer_of}
-use Rattle.chain_laws.specs.Typed.{Small, sort_under, TypedAll, met_sorts, sorts_of, TypedHandler, TypedForm, TypedLayer}
+use Rattle.chain_laws.specs.Typed.{TypedAll, met_sorts, TypedHandler, TypedForm, TypedLayer}
 use Rattle.chain_laws.proofs.Lists.{Where, each_map}
 use Rattle.file_laws.specs.Literals.{LiteralStatement, LiteralHandler, LiteralDeclaration, LiteralLayer}
 use Rattle.file_laws.proofs.Lists.{nils, each_nil, map_nil, unless_nil, each_both, find_where, filter_map_each}

@@ -1,6 +1,6 @@
 -- Lists without faults, and what is found in lists.
-use Rattle.std.proofs.Common.{◌≡◌, ◌∙◌, ℕ, zero, suc, ◌+◌, ◌<◌, ◌≤◌, Bool, true, false, List, [], ◌∷◌, ◌++◌, length, map, Option, Some, None, refl, sym, ap, subst, arith}
-use Rattle.std.specs.Prelude.{cond, flat_map, is_some, nat_lt, if◌then◌else◌, slice_get, unwrap_or, zip, option_map}
+use Rattle.std.proofs.Common.{◌≡◌, ◌∙◌, ℕ, suc, ◌+◌, ◌<◌, Bool, true, false, List, [], ◌∷◌, ◌++◌, length, map, Option, Some, None, refl, ap, subst, arith}
+use Rattle.std.specs.Prelude.{flat_map, is_some, if◌then◌else◌, slice_get, zip, option_map}
 use Rattle.std.specs.List.{AllByRecursion, AllZip, cons_option, filter, filter_map, find, last_or, position, position_or_len}
 use Rattle.std.proofs.lemmas.Bool.{lt-ltb}
 use Rattle.file_faults.specs.Earliest.{unless}

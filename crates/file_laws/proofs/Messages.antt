@@ -1,9 +1,9 @@
 -- Messages and arguments without faults are of the sorts that the types of names say.
-use Rattle.std.proofs.Common.{◌≡◌, ◌∙◌, ℕ, zero, suc, Bool, true, false, List, [], ◌∷◌, ◌++◌, length, map, Option, Some, None, refl, sym, ap, subst, arith}
-use Rattle.std.specs.Prelude.{not, bytes_eq, is_some, slice_get, unwrap_or, option_map, option_and_then, if◌then◌else◌, flat_map}
-use Rattle.std.specs.List.{AllByRecursion, find, last_or, list_any}
+use Rattle.std.proofs.Common.{◌≡◌, ◌∙◌, ℕ, Bool, true, false, List, [], ◌∷◌, ◌++◌, map, Option, Some, None, refl, sym, ap, subst}
+use Rattle.std.specs.Prelude.{not, bytes_eq, is_some, slice_get, unwrap_or, option_map, if◌then◌else◌}
+use Rattle.std.specs.List.{find, last_or}
 use Rattle.std.specs.Map.{lookup}
-use Rattle.std.specs.Option.{option_map_or, option_or, option_zip}
+use Rattle.std.specs.Option.{option_or}
 use Rattle.msg_core.specs.declared.message.Header.{Header}
 use Rattle.layer_ast.specs.declared.names.At.{At}
 use Rattle.layer_ast.specs.declared.names.Name.{Name}
@@ -11,19 +11,19 @@ use Rattle.layer_ast.specs.declared.names.Word.{Word}
 use Rattle.layer_ast.specs.declared.syntax.Sort.{Sort}
 use Rattle.layer_ast.specs.declared.syntax.Sort.TheVariants.{Int, Msg, Part}
 use Rattle.layer_ast.specs.Tree as ast
-use Rattle.layer_mean.specs.Tree.{Carried, part, whole, ItemsTree}
+use Rattle.layer_mean.specs.Tree.{Carried, part, whole}
 use Rattle.file_faults.specs.Earliest.{unless}
-use Rattle.file_faults.specs.Faults.{TypeFault, kind}
+use Rattle.file_faults.specs.Faults.{kind}
 use Rattle.file_faults.specs.Forms.{declared_as, is_queue, is_queue_array, items_of, row_of, queue_name}
 use Rattle.file_faults.specs.Kinds.{allows, a_number, a_message, a_msg, a_part}
 use Rattle.file_faults.specs.Limits.{messages_inside}
 use Rattle.file_faults.specs.Scope.{Local, Scope}
 use Rattle.file_faults.specs.Sorts.{is_number, name_sort, held_sort, built_sort, message_sort, argument_sort, expression_at, argument_at, message_at}
 use Rattle.file_faults.specs.ExpressionFaults.{may_be, must_be, number_faults, queue_faults, message_faults, built_faults, argument_faults}
-use Rattle.file_mean.specs.Names.{Placed, Names, cell_of, capacity_declared, carried_as, carried_in, message_among, numbers_among, message_slot}
-use Rattle.file_mean.specs.Values.{queue_row, queue_carries, queue_cell, queue_index, number_of, message_of, built_of, argument_message}
+use Rattle.file_mean.specs.Names.{Placed, Names, capacity_declared, carried_as, carried_in, message_slot}
+use Rattle.file_mean.specs.Values.{queue_row, queue_cell, message_of, built_of, argument_message}
 use Rattle.file_mean.specs.Layers.{row_items, layer_of}
-use Rattle.chain_laws.specs.Typed.{Queue, queue_at, sort_of, HasBlank, Carries, Sorted}
+use Rattle.chain_laws.specs.Typed.{sort_of, HasBlank, Carries, Sorted}
 use Rattle.file_laws.proofs.Lists.{nils, unless_nil, last_map}
 use Rattle.file_laws.proofs.Own.{Declares, declares_it, is_rows, rows_of_queue, rows_of_array, queue_listed}
 

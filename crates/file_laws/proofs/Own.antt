@@ -1,19 +1,18 @@
 -- A layer's own names: each stands for what it is declared as.
-use Rattle.std.proofs.Common.{◌≡◌, ◌∙◌, ℕ, zero, suc, ◌+◌, Bool, true, false, List, [], ◌∷◌, ◌++◌, length, map, Option, Some, None, refl, sym, ap, subst, arith}
-use Rattle.std.specs.Prelude.{◌||◌, is_some, slice_get, unwrap_or, option_map, option_and_then, if◌then◌else◌}
-use Rattle.std.specs.List.{AllByRecursion, filter, filter_map, find, position, position_or_len}
+use Rattle.std.proofs.Common.{◌≡◌, ℕ, suc, ◌+◌, Bool, true, false, length, Option, Some, None, refl, arith}
+use Rattle.std.specs.Prelude.{is_some, slice_get}
+use Rattle.std.specs.List.{filter_map, position_or_len}
 use Rattle.std.specs.Option.{option_map_or}
 use Rattle.layer_ast.specs.declared.names.Name.{Name}
 use Rattle.layer_ast.specs.declared.names.Word.{Word}
-use Rattle.layer_ast.specs.declared.syntax.Ending.TheVariants as ending
 use Rattle.layer_ast.specs.Tree as ast
 use Rattle.layer_mean.specs.Headers.{declared}
-use Rattle.layer_mean.specs.Tree.{CellTree, HeaderTree, numbers, queue, queues}
-use Rattle.file_faults.specs.Declared.{declares, declaration_of, is_cell, is_header, cells_of, headers_of, cell_number, header_tag}
-use Rattle.file_faults.specs.Forms.{declared_as, is_queue, is_queue_array, is_end, items_of, row_of, labels_of, fields_of}
+use Rattle.layer_mean.specs.Tree.{CellTree, HeaderTree}
+use Rattle.file_faults.specs.Declared.{declares, declaration_of, is_cell, is_header, cells_of, headers_of}
+use Rattle.file_faults.specs.Forms.{declared_as, is_queue, is_queue_array, is_end, items_of, fields_of}
 use Rattle.file_mean.specs.Names.{Placed, cell_of, tag_of, capacity_declared}
 use Rattle.file_mean.specs.Layers.{row_items, cell_in, header_in, layer_of}
-use Rattle.chain_laws.specs.Typed.{Queue, queue_at}
+use Rattle.chain_laws.specs.Typed.{queue_at}
 use Rattle.file_laws.proofs.Lists.{stood, stood_at}
 
 -- what a word is declared as

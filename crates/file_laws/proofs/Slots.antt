@@ -1,23 +1,15 @@
 -- Local names and the slots of messages agree, from statement to statement.
-use Rattle.std.proofs.Common.{◌≡◌, ◌∙◌, ℕ, zero, suc, ◌+◌, ◌-◌, ◌<◌, ◌≤◌, Bool, true, false, List, [], ◌∷◌, ◌++◌, length, map, Option, Some, None, refl, sym, ap, subst, arith}
-use Rattle.std.specs.Prelude.{cond, bytes_eq, is_some, slice_get, slice_set, take, unwrap_or, zip, option_map, option_and_then, option_to_list, if◌then◌else◌}
-use Rattle.std.specs.List.{AllByRecursion, find, last_or, list_any, range_with_len}
-use Rattle.std.specs.Map.{lookup}
-use Rattle.std.specs.Option.{option_map_or, option_or}
+use Rattle.std.proofs.Common.{◌≡◌, ◌∙◌, ℕ, zero, suc, ◌+◌, ◌<◌, ◌≤◌, Bool, true, false, List, [], ◌∷◌, ◌++◌, length, Option, Some, None, refl, sym, ap, subst, arith}
+use Rattle.std.specs.Prelude.{bytes_eq, slice_get, slice_set, option_map, if◌then◌else◌}
+use Rattle.std.specs.List.{AllByRecursion, find}
+use Rattle.std.specs.Option.{option_or}
 use Rattle.std.proofs.lemmas.List.Folds.{find-append}
-use Rattle.std.proofs.lemmas.Slice.Eq.{bytes_eq-Decides}
 use Rattle.layer_ast.specs.declared.names.Name.{Name}
 use Rattle.layer_ast.specs.declared.names.Word.{Word}
 use Rattle.layer_ast.specs.declared.syntax.Sort.{Sort}
 use Rattle.layer_ast.specs.declared.syntax.Sort.TheVariants.{Int, Msg, Part}
-use Rattle.layer_ast.specs.Tree as ast
-use Rattle.file_faults.specs.Kinds.{allows, a_number, a_message}
-use Rattle.file_faults.specs.Limits.{messages_inside}
-use Rattle.file_faults.specs.NameFaults.{repeated, same_word, twice_among}
 use Rattle.file_faults.specs.Scope.{Local, locals_as}
-use Rattle.file_mean.specs.Names.{in_slots}
-use Rattle.file_laws.proofs.Lists.{nils, map_nil}
-use Rattle.file_laws.proofs.Messages.{sort_among, slot_among, Slot, Agree, IsLastMessage}
+use Rattle.file_laws.proofs.Messages.{sort_among, slot_among, Slot, Agree}
 
 -- further locals are looked at behind the others
 among_both : (locals further : List Local) (word : Word) →

@@ -1,17 +1,16 @@
 -- The literals of expressions are numbers.
-use Rattle.std.proofs.Common.{◌≡◌, ℕ, Bool, true, false, List, [], ◌∷◌, map, Option, Some, None, refl, sym, ap, subst, arith}
+use Rattle.std.proofs.Common.{ℕ, Bool, true, false, List, map, Option, Some, None, arith}
 use Rattle.std.specs.Prelude.{bytes_eq, take, length, ◌-◌, unwrap_or, option_map, option_and_then}
 use Rattle.std.specs.List.{AllByRecursion, find}
 use Rattle.std.specs.Option.{option_or}
-use Rattle.layer_ast.specs.declared.names.Name.{Name}
 use Rattle.layer_ast.specs.declared.names.Word.{Word}
 use Rattle.layer_ast.specs.Tree as ast
-use Rattle.layer_mean.specs.Tree.{ExpressionTree, local, number, element}
+use Rattle.layer_mean.specs.Tree.{local, number, element}
 use Rattle.packet_mean.specs.ChainedState.{IsNumber}
 use Rattle.file_faults.specs.Declared.{declares, declaration_of}
 use Rattle.file_faults.specs.Places.{declared_value, given_value, param_value}
-use Rattle.file_mean.specs.Names.{Placed, Names, cell_of, size_value, capacity_declared, numbers_among, number_slot}
-use Rattle.file_mean.specs.Values.{named_number, number_of, argument_number}
+use Rattle.file_mean.specs.Names.{Placed, Names, cell_of, size_value, numbers_among, number_slot}
+use Rattle.file_mean.specs.Values.{number_of, argument_number}
 use Rattle.chain_laws.specs.Typed.{Small}
 use Rattle.chain_laws.proofs.Lists.{Where, each_map, each_take}
 use Rattle.file_laws.specs.Literals.{Literal, LiteralArgument, LiteralSize, LiteralDeclaration}

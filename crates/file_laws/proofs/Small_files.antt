@@ -1,9 +1,8 @@
 -- The small files, rule by rule.
-use Rattle.std.proofs.Common.{◌≡◌, ℕ, zero, suc, ◌<◌, ◌≤◌, List, [], ◌∷◌, length, map, Option, Some, None, refl, sym, ap, subst, arith}
-use Rattle.std.specs.Prelude.{codes, slice_get, slice_index_or}
+use Rattle.std.proofs.Common.{◌≡◌, ℕ, zero, suc, ◌<◌, [], ◌∷◌, map, Some, refl, subst, arith}
+use Rattle.std.specs.Prelude.{codes, slice_index_or}
 use Rattle.msg_core.specs.Chain.{plain}
 use Rattle.layer_ast.specs.declared.tokens.Kind.TheVariants.{Cast}
-use Rattle.layer_mean.specs.Tree.{no_layer}
 use Rattle.layer_mean.specs.Visit.{fresh, no_state}
 use Rattle.file_mean.specs.CounterFile as counter
 use Rattle.file_mean.specs.QueuesFile as queues
@@ -20,13 +19,16 @@ use Rattle.file_laws.proofs.Files.{files_are_typed}
 
 counter_literal : LiteralFile counter.file
 counter_literal = record {
-  layers_are = (record {
-    declarations_are = (tt, (tt, (tt, tt)));
-    handlers_are = (
-      (tt, (((tt, (tt, tt)), (tt, tt)), ((tt, (tt, omega arith)), tt))),
-      (((tt, tt), ((tt, (tt, omega arith)), (((tt, (tt, tt)), tt), tt))), tt),
-    );
-  }, tt);
+  layers_are = (
+    record {
+      declarations_are = (tt, (tt, (tt, tt)));
+      handlers_are = (
+        (tt, (((tt, (tt, tt)), (tt, tt)), ((tt, (tt, omega arith)), tt))),
+        (((tt, tt), ((tt, (tt, omega arith)), (((tt, (tt, tt)), tt), tt))), tt),
+      );
+    },
+    tt,
+  );
   library_is = tt;
   places_are = (tt, tt);
 }
@@ -40,14 +42,37 @@ counter_is_typed = (counter_literal, refl, subst TypedStack counter_means (files
 
 queues_literal : LiteralFile queues.file
 queues_literal = record {
-  layers_are = (record {
-    declarations_are = (omega arith, (omega arith, (tt, (tt, tt))));
-    handlers_are = (
-      (tt, ((tt, (tt, (tt, tt))), ((tt, ((tt, omega arith, omega arith), tt)), (tt, (((tt, (tt, tt)), tt), (tt, ((tt, omega arith),
-      ((((tt, omega arith), ((tt, omega arith), tt)), tt), (((tt, ((tt, omega arith), tt)), tt), tt))))))))),
-      tt,
-    );
-  }, tt);
+  layers_are = (
+    record {
+      declarations_are = (omega arith, (omega arith, (tt, (tt, tt))));
+      handlers_are = (
+        (
+          tt,
+          (
+            (tt, (tt, (tt, tt))),
+            (
+              (tt, ((tt, omega arith, omega arith), tt)),
+              (
+                tt,
+                (
+                  ((tt, (tt, tt)), tt),
+                  (
+                    tt,
+                    (
+                      (tt, omega arith),
+                      ((((tt, omega arith), ((tt, omega arith), tt)), tt), (((tt, ((tt, omega arith), tt)), tt), tt)),
+                    ),
+                  ),
+                ),
+              ),
+            ),
+          ),
+        ),
+        tt,
+      );
+    },
+    tt,
+  );
   library_is = tt;
   places_are = (tt, (tt, tt));
 }
@@ -77,5 +102,8 @@ first_is = record {
 }
 
 pub counter_runs : CounterRuns
-counter_runs = (first_is, run_from_a_task counter.stack 4 (map (λ layer. fresh layer 0 3 0) counter.stack) first_cast counter_is_typed.2
-    counter_states first_is)
+counter_runs = (
+  first_is,
+  run_from_a_task counter.stack 4 (map (λ layer. fresh layer 0 3 0) counter.stack) first_cast counter_is_typed.2
+      counter_states first_is,
+)

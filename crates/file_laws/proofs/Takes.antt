@@ -1,7 +1,7 @@
 -- A row that is taken without faults fills a free slot, and its names stand for what they are.
-use Rattle.std.proofs.Common.{◌≡◌, ◌∙◌, ℕ, zero, suc, ◌+◌, ◌<◌, ◌≤◌, Bool, true, false, List, [], ◌∷◌, ◌++◌, length, map, Option, Some, None, refl, sym, ap, subst, arith}
-use Rattle.std.specs.Prelude.{◌||◌, ◌==◌, bytes_eq, is_some, slice_get, slice_set, option_map, option_to_list, if◌then◌else◌}
-use Rattle.std.specs.List.{AllByRecursion, find, last_or, list_any}
+use Rattle.std.proofs.Common.{◌≡◌, ◌∙◌, ◌+◌, ◌<◌, ◌≤◌, Bool, true, false, List, [], ◌∷◌, ◌++◌, length, map, Option, Some, None, refl, sym, ap, subst, arith}
+use Rattle.std.specs.Prelude.{◌||◌, ◌==◌, bytes_eq, slice_get, if◌then◌else◌}
+use Rattle.std.specs.List.{last_or, list_any}
 use Rattle.std.proofs.lemmas.Bool.{eqb-true}
 use Rattle.std.proofs.lemmas.List.Folds.{list_any-append}
 use Rattle.std.proofs.lemmas.Slice.Eq.{bytes_eq-Decides}
@@ -11,25 +11,25 @@ use Rattle.layer_ast.specs.declared.names.Word.{Word}
 use Rattle.layer_ast.specs.declared.syntax.Sort.{Sort}
 use Rattle.layer_ast.specs.declared.syntax.Sort.TheVariants.{Int, Msg, Part}
 use Rattle.layer_ast.specs.Tree as ast
-use Rattle.layer_mean.specs.Tree.{Carried, part, whole}
-use Rattle.file_faults.specs.Declared.{declared_name, names_in}
+use Rattle.layer_mean.specs.Tree.{Carried}
+use Rattle.file_faults.specs.Declared.{declared_name}
 use Rattle.file_faults.specs.Earliest.{unless}
-use Rattle.file_faults.specs.Faults.{TypeFault, arity, twice}
-use Rattle.file_faults.specs.Forms.{row_of, queue_name}
+use Rattle.file_faults.specs.Faults.{arity, twice}
+use Rattle.file_faults.specs.Forms.{queue_name}
 use Rattle.file_faults.specs.Kinds.{allows, a_number, a_message}
 use Rattle.file_faults.specs.Limits.{messages_inside}
 use Rattle.file_faults.specs.NameFaults.{repeated, same_word, twice_among}
 use Rattle.file_faults.specs.Scope.{Local, Scope, locals_as, visible}
 use Rattle.file_faults.specs.ExpressionFaults.{queue_faults}
 use Rattle.file_faults.specs.TypeFaults.{row_type_faults}
-use Rattle.file_mean.specs.Names.{Placed, Names, carried_as, carried_in, message_among, numbers_among}
+use Rattle.file_mean.specs.Names.{Placed, Names, carried_as, carried_in}
 use Rattle.file_mean.specs.Values.{queue_row, queue_carries, queue_cell}
 use Rattle.file_mean.specs.Statements.{with_taken, taken_row}
 use Rattle.file_mean.specs.Layers.{layer_of}
 use Rattle.chain_laws.specs.Typed.{sort_of, Takes, with_taken_sort}
 use Rattle.file_laws.proofs.Lists.{nils, map_nil, unless_nil}
 use Rattle.file_laws.proofs.Messages.{sort_among, Agree, LastMessages, IsLastMessage, RowCarries, row_carries, queue_declared, queue_is}
-use Rattle.file_laws.proofs.Slots.{IsNumberSort, AreNumbers, agree_numbers, Free, free_more, free_set, set_length, Hidden, LastLocal, agree_new}
+use Rattle.file_laws.proofs.Slots.{IsNumberSort, AreNumbers, agree_numbers, Free, free_set, set_length, Hidden, LastLocal, agree_new}
 
 -- words
 

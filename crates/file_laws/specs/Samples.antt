@@ -1,5 +1,5 @@
 -- The laws on small files: the counter's, and one with queues of messages and of parts at two places.
-use Rattle.std.specs.Prelude.{◌≡◌, ℕ, List, [], ◌∷◌, map, Some, None, codes}
+use Rattle.std.specs.Prelude.{◌≡◌, [], ◌∷◌, map, Some, None, codes}
 use Rattle.msg_core.specs.Chain.{plain}
 use Rattle.layer_ast.specs.declared.tokens.Dir.TheVariants.{Down}
 use Rattle.layer_ast.specs.declared.tokens.Kind.TheVariants.{Cast}

@@ -1,28 +1,23 @@
 -- Each emission and each take of a typed block is orderly.
-use Rattle.std.proofs.Common.{◌≡◌, ◌∙◌, ℕ, zero, suc, ◌+◌, ◌-◌, ◌≤◌, Bool, true, false, List, [], ◌∷◌, ◌++◌, length, Option, Some, None, refl, sym, ap, subst, arith}
-use Rattle.std.specs.Prelude.{IsSomeAnd, drop, is_some, slice_get, slice_set}
-use Rattle.std.specs.List.{AllByRecursion}
+use Rattle.std.proofs.Common.{◌≡◌, ℕ, zero, suc, ◌+◌, ◌≤◌, Bool, true, false, List, [], ◌∷◌, ◌++◌, length, Option, Some, None, refl, subst, arith}
+use Rattle.std.specs.Prelude.{slice_get, slice_set}
 use Rattle.msg_core.specs.Chain.{Content}
 use Rattle.msg_core.specs.declared.message.Header.{Header}
 use Rattle.layer_ast.specs.declared.syntax.Sort.{Sort}
-use Rattle.layer_ast.specs.declared.syntax.Sort.TheVariants.{Int, Msg, Part}
+use Rattle.layer_ast.specs.declared.syntax.Sort.TheVariants.{Int, Msg}
 use Rattle.layer_ast.specs.declared.tokens.Dir.{Dir}
 use Rattle.layer_ast.specs.declared.tokens.Dir.TheVariants.{Up, Down}
 use Rattle.layer_ast.specs.declared.tokens.Kind.{Kind}
-use Rattle.layer_mean.specs.declared.run.Event.{Event}
 use Rattle.layer_mean.specs.Event.{carries}
 use Rattle.layer_mean.specs.Headers.{declared}
-use Rattle.layer_mean.specs.Tree.{Carried, ContentTree, StatementTree, bind, assign, assign_square, push, take, branch, each, emit, StatementTrees, none, more, HandlerTree, LayerTree}
-use Rattle.layer_mean.specs.Queue.{Task}
+use Rattle.layer_mean.specs.Tree.{Carried, ContentTree, StatementTree, bind, assign, assign_square, push, take, branch, each, emit, StatementTrees, none, more, LayerTree}
 use Rattle.layer_mean.specs.Visit.{with_room}
-use Rattle.packet_mean.specs.Chained.{IsChain}
 use Rattle.packet_mean.specs.ChainedState.{IsFrom, Brings}
 use Rattle.stack_mean.specs.Graph.{goes_down}
-use Rattle.chain_laws.specs.Typed.{Pushed, Sends, Takes, with_taken_sort, Typed, TypedAll, met_sorts, sorts_of, TypedHandler, TypedLayer}
-use Rattle.chain_laws.specs.Runs.{TypedLayers, TypedStack, IsOnItsWay, task_place, IsChainedTask}
+use Rattle.chain_laws.specs.Typed.{Sends, Takes, with_taken_sort, Typed, TypedAll, met_sorts, sorts_of, TypedHandler, TypedLayer}
+use Rattle.chain_laws.specs.Runs.{TypedLayers, IsOnItsWay, task_place}
 use Rattle.chain_laws.proofs.Lists.{there, each_so}
 use Rattle.weight_laws.specs.Chains.{first_place, HasChain}
-use Rattle.weight_laws.specs.Nodes.{IsKnown}
 use Rattle.weight_laws.specs.Orderly.{IsOrderlyContent, KeepsMessage, IsOrderlyStatement, IsOrderlyBlock, IsOrderlyHandler, IsOrderlyLayer, IsOrderly}
 use Rattle.weight_laws.proofs.Chains.{chained_tasks_are_known}
 use Rattle.orderly_laws.specs.Orderly.{TypedIsOrderly, ChainedIsKnown}
