@@ -8,4 +8,4 @@ pub mod Takes
 pub mod Blocks
 pub mod Handlers
 pub mod Files
-pub mod Small_files
+pub mod SmallFiles

@@ -1,4 +1,4 @@
-use Rattle.file_laws.proofs.Small_files.{counter_is_typed}
+use Rattle.file_laws.proofs.SmallFiles.{counter_is_typed}
 use Rattle.file_laws.proofs.samples.counter_is_typed.Goals as goal
 
 pub returns : goal.returns

@@ -1,4 +1,4 @@
-use Rattle.file_laws.proofs.Small_files.{counter_runs}
+use Rattle.file_laws.proofs.SmallFiles.{counter_runs}
 use Rattle.file_laws.proofs.samples.counter_runs.Goals as goal
 
 pub returns : goal.returns
