@@ -1,0 +1,185 @@
+-- Files without faults mean typed stacks.
+use Rattle.std.proofs.Common.{◌≡◌, ◌∙◌, ℕ, suc, ◌+◌, ◌-◌, List, [], ◌∷◌, ◌++◌, length, map, Option, Some, None, refl, sym, ap, subst, arith}
+use Rattle.std.specs.Prelude.{bytes_eq, flat_map, is_some, option_map, if◌then◌else◌}
+use Rattle.std.specs.List.{AllByRecursion, cons_option, enumerate_from, filter_map, range_with_len}
+use Rattle.std.specs.Option.{option_or}
+use Rattle.std.proofs.lemmas.List.{length-map}
+use Rattle.std.proofs.lemmas.List.FromFn.{length-enumerate_from}
+use Rattle.layer_ast.specs.declared.names.At.{At}
+use Rattle.layer_ast.specs.Tree as ast
+use Rattle.layer_mean.specs.Tree.{LayerTree}
+use Rattle.layer_mean.specs.Visit.{none_header}
+use Rattle.file_faults.specs.Faults.{unknown, of_names, of_types, name_key, type_key, name_fault_at, type_fault_at}
+use Rattle.file_faults.specs.NameFaults.{twice_among, too_many_of, layer_name_faults, place_faults, name_faults, name_fault}
+use Rattle.file_faults.specs.Places.{layer_among, layer_at, written, called, called_at, judged_layers, faults_of_judged, faults_of_layers}
+use Rattle.file_faults.specs.TypeFaults.{layer_type_faults, type_fault}
+use Rattle.file_faults.proofs.Earliest as earliest
+use Rattle.file_mean.specs.Names.{Placed}
+use Rattle.file_mean.specs.Stack.{blank_above, placed_layer, stack_of}
+use Rattle.chain_laws.specs.Typed.{TypedLayer}
+use Rattle.chain_laws.specs.Runs.{blanks, TypedLayers}
+use Rattle.chain_laws.proofs.Lists.{Where, each_so}
+use Rattle.file_laws.specs.Literals.{LiteralLayer, LiteralPlace, LiteralFile}
+use Rattle.file_laws.specs.Files.{FilesAreTyped}
+use Rattle.file_laws.proofs.Lists.{nils, each_nil, map_nil, each_parts, find_where}
+use Rattle.file_laws.proofs.Handlers.{layer_typed}
+
+-- no fault of a file is none of its names and none of its types
+both_none : {A B C : Type 0} (f : A → C) (g : B → C) (o : Option A) (p : Option B) → option_or (option_map f o) (option_map g p) ≡ None →
+    (o ≡ None) × (p ≡ None)
+both_none f g None None h = (refl, refl)
+both_none f g None (Some y) h = absurd (cc h)
+both_none f g (Some x) p h = absurd (cc h)
+
+-- the judged layers have no faults: those of the file, and those of the library that a place names
+
+each_written : {F : Type 0} (moved : At → F → F) (faults : ast.LayerTree → List F) (layers : List ast.LayerTree) →
+    AllByRecursion (λ j. faults_of_judged moved faults j ≡ []) (map written layers) → AllByRecursion (λ layer. faults layer ≡ []) layers
+each_written moved faults [] h = tt
+each_written moved faults (layer ∷ layers) h = (h.0, each_written moved faults layers h.1)
+
+cons_parts : {A : Type 0} (P : A → Type 0) (o : Option A) (xs : List A) → AllByRecursion P (cons_option o xs) → Where P o × AllByRecursion P xs
+cons_parts P None xs h = (tt, h)
+cons_parts P (Some x) xs h = (h.0, h.1)
+
+each_called : {A B : Type 0} (P : B → Type 0) (f : A → Option B) (xs : List A) → AllByRecursion P (filter_map f xs) →
+    AllByRecursion (λ x. Where P (f x)) xs
+each_called P f [] h = tt
+each_called P f (x ∷ xs) h = let parts = cons_parts P (f x) (filter_map f xs) h in (parts.0, each_called P f xs parts.1)
+
+record Judges {F : Type 0} (moved : At → F → F) (faults : ast.LayerTree → List F) (file : ast.FileTree) : Type 0 where
+  layers_are : AllByRecursion (λ layer. faults layer ≡ []) file.layers
+  places_are : AllByRecursion (λ place. Where (λ j. faults_of_judged moved faults j ≡ []) (called_at file place)) file.places
+
+judges : {F : Type 0} (moved : At → F → F) (faults : ast.LayerTree → List F) (file : ast.FileTree) → faults_of_layers moved faults file ≡ [] →
+    Judges moved faults file
+judges moved faults file h =
+    let parts = each_parts (λ j. faults_of_judged moved faults j ≡ []) (map written file.layers) (filter_map (called_at file) file.places)
+    (each_nil (faults_of_judged moved faults) (judged_layers file) h) in
+    record {
+      layers_are = each_written moved faults file.layers parts.0;
+      places_are = each_called (λ j. faults_of_judged moved faults j ≡ []) (called_at file) file.places parts.1;
+    }
+
+-- a place names a layer without faults
+
+record NamesLayer (file : ast.FileTree) (place : ast.PlaceTree) : Type 0 where
+  layer : ast.LayerTree
+  listed : layer_at file place ≡ Some layer
+  types : layer_type_faults layer ≡ []
+  named : layer_name_faults layer ≡ []
+  literal : LiteralLayer layer
+
+-- what is known of a place
+record Known (file : ast.FileTree) (place : ast.PlaceTree) : Type 0 where
+  names_one : place_faults file place ≡ []
+  types : Where (λ j. faults_of_judged type_fault_at layer_type_faults j ≡ []) (called_at file place)
+  named : Where (λ j. faults_of_judged name_fault_at layer_name_faults j ≡ []) (called_at file place)
+  given : LiteralPlace place
+
+called_is : {F : Type 0} (moved : At → F → F) (faults : ast.LayerTree → List F) (at : At) (own library : Option ast.LayerTree) (layer : ast.LayerTree) →
+    own ≡ None → library ≡ Some layer →
+    Where (λ j. faults_of_judged moved faults j ≡ []) (if is_some own then None else option_map (called at) library) → faults layer ≡ []
+called_is moved faults at (Some x) library layer none is h = absurd (cc none)
+called_is moved faults at None None layer none is h = absurd (cc is)
+called_is moved faults at None (Some x) layer none is h =
+    subst (λ l. faults l ≡ []) (same is) (map_nil (moved at) (faults x) h) where
+      same : {x y : ast.LayerTree} → Some x ≡ Some y → x ≡ y
+      same e = cc e
+
+nothing : (file : ast.FileTree) (place : ast.PlaceTree) → layer_among file.layers place.name.word ≡ None →
+    layer_among file.library place.name.word ≡ None → place_faults file place ≡ unknown place.name.at ∷ []
+nothing file place own_is library_is = rw (own_is, library_is) refl
+
+names_layer : (file : ast.FileTree) (place : ast.PlaceTree) → LiteralFile file → Judges type_fault_at layer_type_faults file →
+    Judges name_fault_at layer_name_faults file → Known file place → NamesLayer file place
+names_layer file place literal types named known =
+    go (layer_among file.layers place.name.word) (layer_among file.library place.name.word) refl refl
+    (find_where (λ layer. layer_type_faults layer ≡ []) (λ layer. bytes_eq layer.name.word place.name.word) file.layers types.layers_are)
+    (find_where (λ layer. layer_name_faults layer ≡ []) (λ layer. bytes_eq layer.name.word place.name.word) file.layers named.layers_are)
+    (find_where LiteralLayer (λ layer. bytes_eq layer.name.word place.name.word) file.layers literal.layers_are)
+    (find_where LiteralLayer (λ layer. bytes_eq layer.name.word place.name.word) file.library literal.library_is) where
+      go : (own library : Option ast.LayerTree) → layer_among file.layers place.name.word ≡ own → layer_among file.library place.name.word ≡ library →
+          Where (λ layer. layer_type_faults layer ≡ []) (layer_among file.layers place.name.word) →
+          Where (λ layer. layer_name_faults layer ≡ []) (layer_among file.layers place.name.word) →
+          Where LiteralLayer (layer_among file.layers place.name.word) → Where LiteralLayer (layer_among file.library place.name.word) →
+          NamesLayer file place
+      go (Some layer) library own_is library_is a b c d = record {
+        layer = layer;
+        listed = rw own_is refl;
+        types = subst (Where (λ layer. layer_type_faults layer ≡ [])) own_is a;
+        named = subst (Where (λ layer. layer_name_faults layer ≡ [])) own_is b;
+        literal = subst (Where LiteralLayer) own_is c;
+      }
+      go None (Some layer) own_is library_is a b c d = record {
+        layer = layer;
+        listed = rw (own_is, library_is) refl;
+        types = called_is type_fault_at layer_type_faults place.name.at (layer_among file.layers place.name.word)
+            (layer_among file.library place.name.word) layer own_is library_is known.types;
+        named = called_is name_fault_at layer_name_faults place.name.at (layer_among file.layers place.name.word)
+            (layer_among file.library place.name.word) layer own_is library_is known.named;
+        literal = subst (Where LiteralLayer) library_is d;
+      }
+      go None None own_is library_is a b c d = absurd (cc (nothing file place own_is library_is, known.names_one))
+
+-- blank headers
+
+blanks_range : (above : List LayerTree) (place : ℕ) → blanks place above ≡ map none_header (range_with_len place (length above))
+blanks_range [] place = refl
+blanks_range (layer ∷ above) place =
+    let e : suc place ≡ place + 1 = omega arith in
+    ap (λ hs. none_header place ∷ hs)
+    (blanks_range above (suc place) ∙ ap (λ k. map none_header (range_with_len k (length above))) e)
+
+placed_typed : (file : ast.FileTree) (n : ℕ) (place : ast.PlaceTree) (above : List LayerTree) → NamesLayer file place → LiteralPlace place →
+    blanks (suc n) above ≡ blank_above n (length file.places) → TypedLayer (blanks (suc n) above) (placed_layer file n place)
+placed_typed file n place above h given same =
+    let p : Placed = record { layer = h.layer; given = place.given; blank = blank_above n (length file.places) } in
+    rw (h.listed, same) (layer_typed p (record { declarations_are = h.literal.declarations_are; given_are = given }) h.literal h.types h.named)
+
+range_same : {a b m n : ℕ} → a ≡ b → m ≡ n → map none_header (range_with_len a m) ≡ map none_header (range_with_len b n)
+range_same e f = λ i. map none_header (range_with_len (e i) (f i))
+
+stack_typed : (file : ast.FileTree) (n : ℕ) (places : List ast.PlaceTree) → n + length places ≡ length file.places →
+    AllByRecursion (λ place. NamesLayer file place × LiteralPlace place) places →
+    TypedLayers n (map (λ x. placed_layer file x.0 x.1) (enumerate_from n places))
+stack_typed file n [] count h = tt
+stack_typed file n (place ∷ places) count h =
+    let above : List LayerTree = map (λ (x : ℕ × ast.PlaceTree). placed_layer file x.0 x.1) (enumerate_from (n + 1) places) in
+    let long : length above ≡ length places =
+    length-map (enumerate_from (n + 1) places) (λ (x : ℕ × ast.PlaceTree). placed_layer file x.0 x.1) ∙ length-enumerate_from (n + 1) places in
+    let next : n + 1 ≡ suc n = omega arith in
+    let left : length above ≡ length file.places - (n + 1) = omega (arith, long, count) in
+    let same : blanks (suc n) above ≡ blank_above n (length file.places) =
+    blanks_range above (suc n) ∙ range_same (sym next) left in (
+      placed_typed file n place above h.0.0 h.0.1 same,
+      subst (λ k. TypedLayers k above) next (stack_typed file (n + 1) places (omega (arith, count)) h.1),
+    )
+
+knowns : (file : ast.FileTree) (places : List ast.PlaceTree) → AllByRecursion (λ place. place_faults file place ≡ []) places →
+    AllByRecursion (λ place. Where (λ j. faults_of_judged type_fault_at layer_type_faults j ≡ []) (called_at file place)) places →
+    AllByRecursion (λ place. Where (λ j. faults_of_judged name_fault_at layer_name_faults j ≡ []) (called_at file place)) places →
+    AllByRecursion LiteralPlace places → AllByRecursion (Known file) places
+knowns file [] a b c d = tt
+knowns file (place ∷ places) a b c d =
+    (record { names_one = a.0; types = b.0; named = c.0; given = d.0 }, knowns file places a.1 b.1 c.1 d.1)
+
+pub files_are_typed : FilesAreTyped
+unfolding stack_of
+files_are_typed file literal none =
+    let faults = both_none of_names of_types (name_fault file) (type_fault file) none in
+    let named_nil = earliest.there name_key (name_faults file) faults.0 in
+    let types_nil = earliest.there type_key (faults_of_layers type_fault_at layer_type_faults file) faults.1 in
+    let a = twice_among [] (map (λ (layer : ast.LayerTree). layer.name) file.layers) in
+    let b = too_many_of 64 (map (λ (layer : ast.LayerTree). layer.name) file.layers) in
+    let c = faults_of_layers name_fault_at layer_name_faults file in
+    let d = too_many_of 24 (map (λ (place : ast.PlaceTree). place.name) file.places) in
+    let one = nils (a ++ b ++ c ++ d) (flat_map (place_faults file) file.places) named_nil in
+    let two = nils (a ++ b ++ c) d one.0 in
+    let three = nils (a ++ b) c two.0 in
+    let types = judges type_fault_at layer_type_faults file types_nil in
+    let named = judges name_fault_at layer_name_faults file three.1 in
+    let known = knowns file file.places (each_nil (place_faults file) file.places one.1) types.places_are named.places_are literal.places_are in
+    stack_typed file 0 file.places (omega arith)
+    (each_so (Known file) (λ place. NamesLayer file place × LiteralPlace place)
+    (λ place k. (names_layer file place literal types named k, k.given)) file.places known)

@@ -1,0 +1,11 @@
+pub mod Lists
+pub mod Own
+pub mod Small
+pub mod Messages
+pub mod Emissions
+pub mod Slots
+pub mod Takes
+pub mod Blocks
+pub mod Handlers
+pub mod Files
+pub mod SmallFiles
