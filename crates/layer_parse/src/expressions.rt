@@ -4,7 +4,7 @@ ghost use Rattle.std.specs.Option.{option_map};
 ghost use Rattle.layer_ast.specs.Print as print;
 ghost use Rattle.layer_ast.specs.View.{expression_tree, argument_tree, arguments_tree};
 ghost use Rattle.layer_parse.specs.FirstForm.{IsFirstFormExpression, IsFirstFormArgument, IsFirstFormArguments};
-ghost use Rattle.layer_parse.specs.Machine.{an_expression, an_index, more_arguments, some_arguments as one_or_no_arguments};
+ghost use Rattle.layer_machine.specs.Machine.{an_expression, an_index, more_arguments, some_arguments as one_or_no_arguments};
 ghost use Rattle.layer_parse.specs.Reading.{Parses, ParsesAll, SeesPart};
 
 use crate::readers::{Fault, close, operator, past, room_inside};

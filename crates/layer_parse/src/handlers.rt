@@ -5,7 +5,7 @@ ghost use Rattle.layer_ast.specs.Print as print;
 ghost use Rattle.layer_ast.specs.Printed.{direction_sign};
 ghost use Rattle.layer_ast.specs.View.{expected_tree, popped_tree, handler_tree};
 ghost use Rattle.layer_parse.specs.FirstForm.{IsFirstFormExpected, IsFirstFormHandler};
-ghost use Rattle.layer_parse.specs.Machine.{a_popped, a_common, a_handler, handlers as more_handlers};
+ghost use Rattle.layer_machine.specs.Machine.{a_popped, a_common, a_handler, handlers as more_handlers};
 ghost use Rattle.layer_parse.specs.Reading.{Parses, SeesPart};
 
 use crate::expressions::expression;

@@ -2,7 +2,7 @@
 ghost use Rattle.std.specs.Option.{option_map};
 ghost use Rattle.layer_ast.specs.Print as print;
 ghost use Rattle.layer_ast.specs.View.{names_tree};
-ghost use Rattle.layer_parse.specs.Machine.{a_name, more_names as names_behind, some_names as one_or_no_names};
+ghost use Rattle.layer_machine.specs.Machine.{a_name, more_names as names_behind, some_names as one_or_no_names};
 ghost use Rattle.std.specs.Prelude.{[], ◌∷◌};
 ghost use Rattle.layer_parse.specs.Reading.{ParsesFlat, ParsesAllFlat, SeesPart};
 

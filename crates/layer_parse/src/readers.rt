@@ -1,8 +1,7 @@
 //! Readers of single tokens, and what every reader says.
-ghost use Rattle.std.specs.Prelude.{◌≡◌, suc, IfOk};
+ghost use Rattle.std.specs.Prelude.{◌≡◌, suc};
 ghost use Rattle.layer_ast.specs.Printed.{plain, name as name_token, kind as kind_token, operator_sign};
-ghost use Rattle.layer_parse.specs.FirstForm.{IsFirstFormOperator};
-ghost use Rattle.layer_parse.specs.Machine.{is_sign as has_sign, a_name, a_kind, an_operator};
+ghost use Rattle.layer_machine.specs.Machine.{is_sign as has_sign, a_name, a_kind, an_operator};
 ghost use Rattle.layer_parse.specs.Reading.{ParsesOne, ParsesSign, ParsesOpening, SeesSign, EntersBracket, IsPlain, IsOpening, IsClosing};
 ghost use Rattle.layer_parse.specs.declared.readers.Fault.TheVariants.{Memory};
 
@@ -152,15 +151,26 @@ pub fn kind(tokens: &[Lexed]) -> Result<(Kind, &[Lexed]), Fault>
 /// Reads an operator.
 #[tactic(auto, unfolding(layer_ast::specs::Spells::Fits))]
 pub fn operator(tokens: &[Lexed]) -> Result<(Operator, &[Lexed]), Fault>
-    ensures read { ParsesOne (λ o. plain (operator_sign o)) an_operator tokens.now result }
-    ensures form { IfOk result (λ r. IsFirstFormOperator r.0) }
+    ensures { ParsesOne (λ o. plain (operator_sign o)) an_operator tokens.now result }
 {
     let Some((first, rest)) = tokens.split_first() else {
         return Err(Fault::Refused(0));
     };
     match first.token {
         Token::Sign(Sign::Plus) => Ok((Operator::Add, rest)),
+        Token::Sign(Sign::Minus) => Ok((Operator::Subtract, rest)),
+        Token::Sign(Sign::Star) => Ok((Operator::Multiply, rest)),
         Token::Sign(Sign::Equal) => Ok((Operator::Equal, rest)),
+        Token::Sign(Sign::NotEqual) => Ok((Operator::NotEqual, rest)),
+        Token::Sign(Sign::Less) => Ok((Operator::Less, rest)),
+        Token::Sign(Sign::LessEqual) => Ok((Operator::LessOrEqual, rest)),
+        Token::Sign(Sign::Greater) => Ok((Operator::Greater, rest)),
+        Token::Sign(Sign::GreaterEqual) => Ok((Operator::GreaterOrEqual, rest)),
+        Token::Sign(Sign::And) => Ok((Operator::And, rest)),
+        Token::Sign(Sign::Or) => Ok((Operator::Or, rest)),
+        Token::Sign(Sign::Ampersand) => Ok((Operator::BitAnd, rest)),
+        Token::Sign(Sign::Bar) => Ok((Operator::BitOr, rest)),
+        Token::Sign(Sign::Caret) => Ok((Operator::BitXor, rest)),
         _ => Err(Fault::Refused(tokens.len())),
     }
 }

@@ -5,7 +5,7 @@ ghost use Rattle.layer_ast.specs.Print as print;
 ghost use Rattle.layer_ast.specs.Printed.{direction_sign};
 ghost use Rattle.layer_ast.specs.View.{pushed_tree, statement_tree, statement_trees, block_tree};
 ghost use Rattle.layer_parse.specs.FirstForm.{IsFirstFormPushed, IsFirstFormStatement, IsFirstFormBlock};
-ghost use Rattle.layer_parse.specs.Machine.{a_pushed, a_statement, statements as more_statements, a_block};
+ghost use Rattle.layer_machine.specs.Machine.{a_pushed, a_statement, statements as more_statements, a_block};
 ghost use Rattle.layer_parse.specs.Reading.{Parses, ParsesAll, SeesPart};
 
 use crate::expressions::{arguments, expression, index, some_arguments};
