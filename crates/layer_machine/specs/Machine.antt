@@ -22,8 +22,6 @@ pub data Symbol : Type 0 where
   an_operator : Symbol
   an_expression : Symbol
   an_index : Symbol
-  indices : Symbol
-  a_queue : Symbol
   a_message : Symbol
   a_built : Symbol
   an_argument : Symbol
@@ -40,7 +38,7 @@ pub data Symbol : Type 0 where
   an_expected : Symbol
   a_handler : Symbol
   handlers : Symbol
-  a_second : Symbol
+  a_square : Symbol
   a_shape : Symbol
   an_initial : Symbol
   a_capacity : Symbol
@@ -51,7 +49,7 @@ pub data Symbol : Type 0 where
   a_layer : Symbol
   layers : Symbol
   more_given : Symbol
-  all_given : Symbol
+  some_given : Symbol
   a_place : Symbol
   places : Symbol
 
@@ -65,11 +63,6 @@ pub data Move : Type 0 where
 abbrev pub is_sign : Sign → Token → Bool
 is_sign s (token.Sign t) = sameb the_type t s
 is_sign s _ = false
-
--- a part that begins as another part and goes on with these symbols
-abbrev pub then_more : List Symbol → Move → Move
-then_more behind (eats expected) = eats (expected ++ behind)
-then_more behind m = m
 
 -- an optional part that begins as another part and goes on with these symbols
 abbrev pub begun : List Symbol → Move → Move
@@ -140,14 +133,14 @@ operand = one sign.LeftParen ∷ an_expression ∷ one sign.RightParen ∷ []
 -- an expression
 abbrev pub expression_move : Token → Move
 expression_move (token.Number _) = eats []
-expression_move (token.Name _) = eats (indices ∷ [])
+expression_move (token.Name _) = eats (an_index ∷ an_index ∷ [])
 expression_move (token.Sign sign.Me) = eats []
 expression_move (token.Sign sign.N) = eats []
 expression_move (token.Sign sign.Ltime) = eats []
-expression_move (token.Sign sign.Len) = eats (one sign.LeftParen ∷ a_queue ∷ one sign.RightParen ∷ [])
+expression_move (token.Sign sign.Len) = eats (one sign.LeftParen ∷ a_name ∷ an_index ∷ one sign.RightParen ∷ [])
 expression_move (token.Sign sign.AtRow) =
     eats (
-    one sign.LeftParen ∷ a_queue ∷ one sign.Comma ∷ an_expression ∷ one sign.RightParen ∷ one sign.Dot ∷ a_name ∷ []
+    one sign.LeftParen ∷ a_name ∷ an_index ∷ one sign.Comma ∷ an_expression ∷ one sign.RightParen ∷ one sign.Dot ∷ a_name ∷ []
     )
 expression_move (token.Sign sign.Size) = eats (one sign.LeftParen ∷ a_message ∷ one sign.RightParen ∷ [])
 expression_move (token.Sign sign.LeftParen) =
@@ -168,21 +161,11 @@ abbrev pub index_move : Token → Move
 index_move (token.Sign sign.LeftBracket) = eats (an_expression ∷ one sign.RightBracket ∷ [])
 index_move _ = skips
 
--- one index or two in square brackets, where there are any
-abbrev pub indices_move : Token → Move
-indices_move (token.Sign sign.LeftBracket) = eats (an_expression ∷ one sign.RightBracket ∷ an_index ∷ [])
-indices_move _ = skips
-
--- a queue
-abbrev pub queue_move : Token → Move
-queue_move (token.Name _) = eats (an_index ∷ [])
-queue_move _ = refuses
-
 -- a message that is no bare name
 abbrev pub built_move : Token → Move
 built_move (token.Sign sign.Nothing) = eats []
 built_move (token.Sign sign.Held) =
-    eats (one sign.LeftParen ∷ a_queue ∷ one sign.Comma ∷ an_expression ∷ one sign.RightParen ∷ [])
+    eats (one sign.LeftParen ∷ a_name ∷ an_index ∷ one sign.Comma ∷ an_expression ∷ one sign.RightParen ∷ [])
 built_move (token.Sign sign.Cut) =
     eats (
     one sign.LeftParen ∷ a_message ∷ one sign.Comma ∷ an_expression ∷ one sign.Comma ∷ an_expression
@@ -239,14 +222,14 @@ abbrev pub statement_move : Token → Move
 statement_move (token.Sign sign.Let) =
     eats (a_name ∷ one sign.Assign ∷ an_expression ∷ one sign.Semicolon ∷ [])
 statement_move (token.Sign sign.Set) =
-    eats (a_name ∷ indices ∷ one sign.Assign ∷ an_expression ∷ one sign.Semicolon ∷ [])
+    eats (a_name ∷ an_index ∷ an_index ∷ one sign.Assign ∷ an_expression ∷ one sign.Semicolon ∷ [])
 statement_move (token.Sign sign.Push) =
     eats (
-    a_queue ∷ one sign.LeftParen ∷ an_argument ∷ more_arguments ∷ one sign.RightParen ∷ one sign.Else ∷ a_block
+    a_name ∷ an_index ∷ one sign.LeftParen ∷ an_argument ∷ more_arguments ∷ one sign.RightParen ∷ one sign.Else ∷ a_block
     )
 statement_move (token.Sign sign.Take) =
     eats (
-    a_queue ∷ one sign.LeftParen ∷ a_name ∷ more_names ∷ one sign.RightParen ∷ a_block ++ one sign.Else ∷ a_block
+    a_name ∷ an_index ∷ one sign.LeftParen ∷ a_name ∷ more_names ∷ one sign.RightParen ∷ a_block ++ one sign.Else ∷ a_block
     )
 statement_move (token.Sign sign.If) = eats (a_likely ∷ an_expression ∷ a_block ++ an_otherwise ∷ [])
 statement_move (token.Sign sign.Each) =
@@ -283,13 +266,13 @@ handler_move (token.Sign sign.Down) = eats handling
 handler_move _ = refuses
 
 -- what says that an array is a square one, where it does
-abbrev pub second_move : Token → Move
-second_move (token.Sign sign.Star) = eats (one sign.N ∷ [])
-second_move _ = skips
+abbrev pub square_move : Token → Move
+square_move (token.Sign sign.Star) = eats (one sign.N ∷ [])
+square_move _ = skips
 
 -- what says that a cell is an array or a square array, where it does
 abbrev pub shape_move : Token → Move
-shape_move (token.Sign sign.LeftBracket) = eats (one sign.N ∷ a_second ∷ one sign.RightBracket ∷ [])
+shape_move (token.Sign sign.LeftBracket) = eats (one sign.N ∷ a_square ∷ one sign.RightBracket ∷ [])
 shape_move _ = skips
 
 -- the initial value of a cell, where there is one
@@ -297,11 +280,10 @@ abbrev pub initial_move : Token → Move
 initial_move (token.Sign sign.Assign) = eats (an_expression ∷ [])
 initial_move _ = skips
 
--- behind its first square bracket, the capacity of a queue, or that it is an array of queues, and their capacity
+-- between its square brackets, the capacity of a queue, or that it is an array of queues, and their capacity
 abbrev pub capacity_move : Token → Move
-capacity_move (token.Sign sign.N) =
-    eats (one sign.RightBracket ∷ one sign.LeftBracket ∷ a_size ∷ one sign.RightBracket ∷ [])
-capacity_move t = then_more (one sign.RightBracket ∷ []) (size_move t)
+capacity_move (token.Sign sign.N) = eats (one sign.RightBracket ∷ one sign.LeftBracket ∷ a_size ∷ [])
+capacity_move t = size_move t
 
 -- an item of a queue's rows
 abbrev pub an_item : List Symbol
@@ -317,7 +299,7 @@ abbrev pub cell_move : Token → Move
 cell_move (token.Sign sign.Int) = eats (a_name ∷ a_shape ∷ an_initial ∷ one sign.Semicolon ∷ [])
 cell_move (token.Sign sign.Queue) =
     eats (
-    a_name ∷ one sign.LeftBracket ∷ a_capacity ∷ one sign.Of ∷ one sign.LeftParen
+    a_name ∷ one sign.LeftBracket ∷ a_capacity ∷ one sign.RightBracket ∷ one sign.Of ∷ one sign.LeftParen
     ∷ an_item ++ more_items ∷ one sign.RightParen ∷ one sign.Semicolon ∷ []
     )
 cell_move _ = refuses
@@ -347,13 +329,13 @@ more_given_move (token.Sign sign.Comma) = eats (a_given ++ more_given ∷ [])
 more_given_move _ = skips
 
 -- the params that a place gives, in parentheses, where it gives any
-abbrev pub all_given_move : Token → Move
-all_given_move (token.Sign sign.LeftParen) = eats (a_given ++ more_given ∷ one sign.RightParen ∷ [])
-all_given_move _ = skips
+abbrev pub some_given_move : Token → Move
+some_given_move (token.Sign sign.LeftParen) = eats (a_given ++ more_given ∷ one sign.RightParen ∷ [])
+some_given_move _ = skips
 
 -- a place of the stack
 abbrev pub place_move : Token → Move
-place_move (token.Name _) = eats (all_given ∷ one sign.Semicolon ∷ [])
+place_move (token.Name _) = eats (some_given ∷ one sign.Semicolon ∷ [])
 place_move _ = refuses
 
 -- what an expected symbol does at a token
@@ -368,8 +350,6 @@ move an_ending t = ending_move t
 move an_operator t = operator_move t
 move an_expression t = expression_move t
 move an_index t = index_move t
-move indices t = indices_move t
-move a_queue t = queue_move t
 move a_message t = message_move t
 move a_built t = built_move t
 move an_argument t = argument_move t
@@ -386,7 +366,7 @@ move a_popped t = popped_move t
 move an_expected t = expected_move t
 move a_handler t = handler_move t
 move handlers t = begun (handlers ∷ []) (handler_move t)
-move a_second t = second_move t
+move a_square t = square_move t
 move a_shape t = shape_move t
 move an_initial t = initial_move t
 move a_capacity t = capacity_move t
@@ -397,14 +377,13 @@ move declarations t = begun (declarations ∷ []) (declaration_move t)
 move a_layer t = layer_move t
 move layers t = begun (layers ∷ []) (layer_move t)
 move more_given t = more_given_move t
-move all_given t = all_given_move t
+move some_given t = some_given_move t
 move a_place t = place_move t
 move places t = begun (places ∷ []) (place_move t)
 
 -- the symbols that may be left out
 abbrev pub is_optional : Symbol → Bool
 is_optional an_index = true
-is_optional indices = true
 is_optional more_arguments = true
 is_optional some_arguments = true
 is_optional a_pushed = true
@@ -416,14 +395,14 @@ is_optional some_names = true
 is_optional a_popped = true
 is_optional an_expected = true
 is_optional handlers = true
-is_optional a_second = true
+is_optional a_square = true
 is_optional a_shape = true
 is_optional an_initial = true
 is_optional more_items = true
 is_optional declarations = true
 is_optional layers = true
 is_optional more_given = true
-is_optional all_given = true
+is_optional some_given = true
 is_optional places = true
 is_optional _ = false
 

@@ -13,7 +13,7 @@ use Rattle.layer_ast.specs.Spells.{Fits, HasPlace}
 use Rattle.layer_ast.specs.Tree.{FileTree}
 use Rattle.layer_ast.specs.View.{file_tree}
 use Rattle.layer_ast.specs.declared.syntax.File.{File}
-use Rattle.layer_machine.specs.Machine.{Symbol, one, an_index, indices, a_shape, a_second, an_initial, more_arguments, more_names, more_items, more_given, all_given, a_pushed, a_popped, an_otherwise, accepted, refused, feed, step, run, start}
+use Rattle.layer_machine.specs.Machine.{Symbol, one, an_index, a_shape, a_square, an_initial, more_arguments, more_names, more_items, more_given, some_given, a_pushed, a_popped, an_otherwise, accepted, refused, feed, step, run, start}
 use Rattle.layer_parse.specs.declared.readers.Fault.{Fault}
 use Rattle.layer_parse.specs.declared.readers.Fault.TheVariants.{Refused, Memory}
 
@@ -105,9 +105,8 @@ pub record LeavesOut (s : Symbol) (tokens : List Lexed) : Type 0 where
 -- the optional parts that begin with a sign, and that sign
 abbrev pub IsOptional : Sign → Symbol → Type 0
 IsOptional LeftBracket an_index = Unit {0}
-IsOptional LeftBracket indices = Unit {0}
 IsOptional LeftBracket a_shape = Unit {0}
-IsOptional LeftParen all_given = Unit {0}
+IsOptional LeftParen some_given = Unit {0}
 IsOptional Comma more_arguments = Unit {0}
 IsOptional Comma more_names = Unit {0}
 IsOptional Comma more_items = Unit {0}
@@ -115,7 +114,7 @@ IsOptional Comma more_given = Unit {0}
 IsOptional With a_pushed = Unit {0}
 IsOptional With a_popped = Unit {0}
 IsOptional Else an_otherwise = Unit {0}
-IsOptional Star a_second = Unit {0}
+IsOptional Star a_square = Unit {0}
 IsOptional Assign an_initial = Unit {0}
 IsOptional _ _ = ⊥
 
