@@ -1,5 +1,5 @@
 -- One step back over a token: in front of what the machine expects behind it stands what it expected.
-use Rattle.std.proofs.Common.{◌≡◌, Bool, true, false, if◌then◌else◌, List, [], ◌∷◌, ◌++◌, Option, Some, None, IfSome, refl, sym, ap, ◌∙◌}
+use Rattle.std.proofs.Common.{◌≡◌, Bool, true, false, if◌then◌else◌, List, [], ◌∷◌, Option, Some, None, IfSome, refl, sym, ap}
 use denote.Enum.Bare.{same_true}
 use Rattle.layer_ast.specs.contracts.tokens.Sign.{the_type}
 use Rattle.layer_ast.specs.declared.names.At.{At}
@@ -19,13 +19,13 @@ use Rattle.layer_ast.specs.declared.syntax.Operator.TheVariants as operator
 use Rattle.layer_ast.specs.declared.syntax.Shape.{Shape}
 use Rattle.layer_ast.specs.declared.syntax.Shape.TheVariants as shape_of
 use Rattle.layer_ast.specs.declared.syntax.Sort.TheVariants as sort
-use Rattle.layer_ast.specs.Tree.{ExpressionTree, number, me, members, ltime, named, element, square, rows, item, size, binary, apply, pick, QueueTree, queue, queue_at, MessageTree, bare, built, BuiltTree, nothing, held, cut, tail, join, ArgumentTree, value, content, SizeTree, fixed, sized, StatementTree, bind, set, set_square, push, take, when, choose, each, emit, StatementTrees, none, more, Expected, always, common, rare, ItemsTree, DeclarationTree, param, int, rows_cell, rows_array, header}
+use Rattle.layer_ast.specs.Tree.{ExpressionTree, number, me, members, ltime, named, element, square, rows, item, size, binary, apply, pick, QueueTree, queue, queue_at, bare, built, nothing, held, cut, tail, join, value, content, SizeTree, fixed, sized, StatementTree, bind, set, set_square, push, take, when, choose, each, emit, StatementTrees, none, more, always, common, rare, ItemsTree, DeclarationTree, param, int, rows_cell, rows_array, header}
 use Rattle.layer_ast.specs.Print as print
-use Rattle.layer_ast.specs.Printed.{Printed, plain, placed, numeral, plain_numeral, name, kind, direction_sign, ending_sign, sort_sign, function_sign, operator_sign}
+use Rattle.layer_ast.specs.Printed.{Printed, plain, placed, numeral, plain_numeral, name, kind, direction_sign, function_sign}
 use Rattle.layer_machine.specs.Machine.{Symbol, one, a_name, a_number, a_kind, a_size, a_sort, an_ending, an_operator, an_expression, an_index, a_message, a_built, an_argument, more_arguments, some_arguments, a_pushed, a_likely, an_otherwise, a_statement, statements, more_names, some_names, a_popped, an_expected, a_handler, handlers, a_square, a_shape, an_initial, a_capacity, more_items, a_cell, a_declaration, declarations, a_layer, layers, more_given, some_given, a_place, places, Move, eats, skips, refuses, is_sign, begun, or_else, operand, emission, handling, name_move, number_move, kind_move, size_move, sort_move, ending_move, operator_move, expression_move, index_move, built_move, message_move, argument_move, more_arguments_move, pushed_move, likely_move, otherwise_move, statement_move, more_names_move, popped_move, expected_move, handler_move, square_move, shape_move, initial_move, capacity_move, more_items_move, cell_move, declaration_move, layer_move, more_given_move, some_given_move, place_move, move}
 use Rattle.layer_machine.specs.Parts.{otherwise, capacity}
 use Rattle.layer_machine.specs.Parts.{square as with_square}
-use Rattle.layer_machine.proofs.Phrases.{IsPrinted, Phrase, Chain, chain_split}
+use Rattle.layer_machine.proofs.Phrases.{Phrase, Chain, chain_split}
 
 -- a printed token that is this one at this place, with which the tokens are what a symbol stands for
 abbrev pub Front : Symbol → Token → At → List Printed → List Printed → Type 0
@@ -127,31 +127,45 @@ back_expression : (t : Token) (at : At) → Back an_expression t at (expression_
 back_expression (token.Number v) at = λ p k e. (numeral v at, refl, refl, (number at v, rw e))
 back_expression (token.Name w) at =
     λ p k (l1, (i, e1), (l2, (j, e2), e3)).
-        let n : Name = record { at = at; word = w } in
-        (name n, refl, refl, (indexed n i j, rw (e1, e2, e3) (indexed_prints n i j k)))
+    let n : Name = record { at = at; word = w } in
+    (name n, refl, refl, (indexed n i j, rw (e1, e2, e3) (indexed_prints n i j k)))
 back_expression (token.Sign sign.Me) at = λ p k e. (placed sign.Me at, refl, refl, (me at, rw e))
 back_expression (token.Sign sign.N) at = λ p k e. (placed sign.N at, refl, refl, (members at, rw e))
 back_expression (token.Sign sign.Ltime) at = λ p k e. (placed sign.Ltime at, refl, refl, (ltime at, rw e))
 back_expression (token.Sign sign.Len) at =
-    λ p k (l1, e1, (l2, (n, e2), (l3, (i, e3), (l4, e4, e5)))).
-        (placed sign.Len at, refl, refl, (rows at (queue_of n i), rw (e1, e2, e3, e4, e5)
-        (ap (λ r. placed sign.Len at ∷ plain sign.LeftParen ∷ r) (queue_prints n i (plain sign.RightParen ∷ k)))))
+    λ p k (l1, e1, (l2, (n, e2), (l3, (i, e3), (l4, e4, e5)))). (
+      placed sign.Len at,
+      refl,
+      refl,
+      (
+        rows at (queue_of n i),
+        rw (e1, e2, e3, e4, e5)
+            (ap (λ r. placed sign.Len at ∷ plain sign.LeftParen ∷ r) (queue_prints n i (plain sign.RightParen ∷ k))),
+      ),
+    )
 back_expression (token.Sign sign.AtRow) at =
-    λ p k (l1, e1, (l2, (n, e2), (l3, (i, e3), (l4, e4, (l5, (x, e5), (l6, e6, (l7, e7, (l8, (m, e8), e9)))))))).
-        (placed sign.AtRow at, refl, refl, (item at (queue_of n i) x m, rw (e1, e2, e3, e4, e5, e6, e7, e8, e9)
-        (ap (λ r. placed sign.AtRow at ∷ plain sign.LeftParen ∷ r) (queue_prints n i _))))
+    λ p k (l1, e1, (l2, (n, e2), (l3, (i, e3), (l4, e4, (l5, (x, e5), (l6, e6, (l7, e7, (l8, (m, e8), e9)))))))). (
+      placed sign.AtRow at,
+      refl,
+      refl,
+      (
+        item at (queue_of n i) x m,
+        rw (e1, e2, e3, e4, e5, e6, e7, e8, e9)
+            (ap (λ r. placed sign.AtRow at ∷ plain sign.LeftParen ∷ r) (queue_prints n i _)),
+      ),
+    )
 back_expression (token.Sign sign.Size) at =
     λ p k (l1, e1, (l2, (m, e2), (l3, e3, e4))). (placed sign.Size at, refl, refl, (size at m, rw (e1, e2, e3, e4)))
 back_expression (token.Sign sign.LeftParen) at =
     λ p k (l1, (a, e1), (l2, (o, e2), (l3, (b, e3), (l4, e4, e5)))).
-        (placed sign.LeftParen at, refl, refl, (binary at a o b, rw (e1, e2, e3, e4, e5)))
+    (placed sign.LeftParen at, refl, refl, (binary at a o b, rw (e1, e2, e3, e4, e5)))
 back_expression (token.Sign sign.Not) at = back_function function.Not at
 back_expression (token.Sign sign.Bit) at = back_function function.Bit at
 back_expression (token.Sign sign.Count) at = back_function function.Count at
 back_expression (token.Sign sign.Lowest) at = back_function function.Lowest at
 back_expression (token.Sign sign.Pick) at =
     λ p k (l1, e1, (l2, (a, e2), (l3, e3, (l4, (b, e4), (l5, e5, (l6, (c, e6), (l7, e7, e8))))))).
-        (placed sign.Pick at, refl, refl, (pick at a b c, rw (e1, e2, e3, e4, e5, e6, e7, e8)))
+    (placed sign.Pick at, refl, refl, (pick at a b c, rw (e1, e2, e3, e4, e5, e6, e7, e8)))
 back_expression _ at = tt
 
 back_index : (t : Token) (at : At) → Back an_index t at (index_move t)
@@ -162,18 +176,25 @@ back_index _ at = λ k. (None, refl)
 back_built : (t : Token) (at : At) → Back a_built t at (built_move t)
 back_built (token.Sign sign.Nothing) at = λ p k e. (placed sign.Nothing at, refl, refl, (nothing at, rw e))
 back_built (token.Sign sign.Held) at =
-    λ p k (l1, e1, (l2, (n, e2), (l3, (i, e3), (l4, e4, (l5, (x, e5), (l6, e6, e7)))))).
-        (placed sign.Held at, refl, refl, (held at (queue_of n i) x, rw (e1, e2, e3, e4, e5, e6, e7)
-        (ap (λ r. placed sign.Held at ∷ plain sign.LeftParen ∷ r) (queue_prints n i _))))
+    λ p k (l1, e1, (l2, (n, e2), (l3, (i, e3), (l4, e4, (l5, (x, e5), (l6, e6, e7)))))). (
+      placed sign.Held at,
+      refl,
+      refl,
+      (
+        held at (queue_of n i) x,
+        rw (e1, e2, e3, e4, e5, e6, e7)
+            (ap (λ r. placed sign.Held at ∷ plain sign.LeftParen ∷ r) (queue_prints n i _)),
+      ),
+    )
 back_built (token.Sign sign.Cut) at =
     λ p k (l1, e1, (l2, (m, e2), (l3, e3, (l4, (a, e4), (l5, e5, (l6, (b, e6), (l7, e7, e8))))))).
-        (placed sign.Cut at, refl, refl, (cut at m a b, rw (e1, e2, e3, e4, e5, e6, e7, e8)))
+    (placed sign.Cut at, refl, refl, (cut at m a b, rw (e1, e2, e3, e4, e5, e6, e7, e8)))
 back_built (token.Sign sign.Tail) at =
     λ p k (l1, e1, (l2, (m, e2), (l3, e3, (l4, (a, e4), (l5, e5, e6))))).
-        (placed sign.Tail at, refl, refl, (tail at m a, rw (e1, e2, e3, e4, e5, e6)))
+    (placed sign.Tail at, refl, refl, (tail at m a, rw (e1, e2, e3, e4, e5, e6)))
 back_built (token.Sign sign.Join) at =
     λ p k (l1, e1, (l2, (m, e2), (l3, e3, (l4, (n, e4), (l5, e5, e6))))).
-        (placed sign.Join at, refl, refl, (join at m n, rw (e1, e2, e3, e4, e5, e6)))
+    (placed sign.Join at, refl, refl, (join at m n, rw (e1, e2, e3, e4, e5, e6)))
 back_built _ at = tt
 
 -- what is a part of one kind is a part of another
@@ -197,8 +218,8 @@ back_begun : (part whole : Symbol) (behind : List Symbol) (t : Token) (at : At) 
     Back part t at m → Back whole t at (begun behind m)
 back_begun part whole behind t at (eats new) joined skip b =
     λ p k chain.
-        let (l, first, rest) = chain_split new behind p k chain in
-        let (q, e, place, here) = b p l first in (q, e, place, joined _ _ _ here rest)
+    let (l, first, rest) = chain_split new behind p k chain in
+    let (q, e, place, here) = b p l first in (q, e, place, joined _ _ _ here rest)
 back_begun part whole behind t at skips joined skip b = skip
 back_begun part whole behind t at refuses joined skip b = skip
 
@@ -226,7 +247,7 @@ back_some_arguments t at =
 back_pushed : (t : Token) (at : At) → Back a_pushed t at (pushed_move t)
 back_pushed (token.Sign sign.With) at =
     λ p k (l1, (n, e1), (l2, e2, (l3, (fields, e3), (l4, e4, e5)))).
-        (plain sign.With, refl, tt, (Some (record { name = n; fields = fields }), rw (e1, e2, e3, e4, e5)))
+    (plain sign.With, refl, tt, (Some (record { name = n; fields = fields }), rw (e1, e2, e3, e4, e5)))
 back_pushed _ at = λ k. (None, refl)
 
 back_likely : (t : Token) (at : At) → Back a_likely t at (likely_move t)
@@ -269,33 +290,55 @@ conditional_prints at l c b (Some o) k = refl
 
 back_emission : (d : Dir) (at : At) (p k : List Printed) → Chain emission p k →
     Front a_statement (token.Sign (direction_sign d)) at p k
-back_emission d at p k (l1, (what, e1), (l2, e2, (l3, (a, e3), (l4, (rest, e4), (l5, e5, (l6, (pushed, e6), (l7, e7, e8))))))) =
-    (placed (direction_sign d) at, refl, refl,
-    (emit at d what (record { first = a; rest = rest }) pushed, rw (e1, e2, e3, e4, e5, e6, e7, e8)))
+back_emission d at p k (l1, (what, e1), (l2, e2, (l3, (a, e3), (l4, (rest, e4), (l5, e5, (l6, (pushed, e6), (l7, e7, e8))))))) = (
+  placed (direction_sign d) at,
+  refl,
+  refl,
+  (emit at d what (record { first = a; rest = rest }) pushed, rw (e1, e2, e3, e4, e5, e6, e7, e8)),
+)
 
 back_statement : (t : Token) (at : At) → Back a_statement t at (statement_move t)
 back_statement (token.Sign sign.Let) at =
     λ p k (l1, (n, e1), (l2, e2, (l3, (v, e3), (l4, e4, e5)))).
-        (placed sign.Let at, refl, refl, (bind at n v, rw (e1, e2, e3, e4, e5)))
+    (placed sign.Let at, refl, refl, (bind at n v, rw (e1, e2, e3, e4, e5)))
 back_statement (token.Sign sign.Set) at =
     λ p k (l1, (n, e1), (l2, (i, e2), (l3, (j, e3), (l4, e4, (l5, (v, e5), (l6, e6, e7)))))).
-        (placed sign.Set at, refl, refl, (assign at n i j v, rw (e1, e2, e3, e4, e5, e6, e7) (assign_prints at n i j v k)))
+    (placed sign.Set at, refl, refl, (assign at n i j v, rw (e1, e2, e3, e4, e5, e6, e7) (assign_prints at n i j v k)))
 back_statement (token.Sign sign.Push) at =
-    λ p k (l1, (n, e1), (l2, (i, e2), (l3, e3, (l4, (a, e4), (l5, (rest, e5), (l6, e6, (l7, e7, (l8, e8, (l9, (o, e9), (l10, e10, e11)))))))))).
-        (placed sign.Push at, refl, refl, (push at (queue_of n i) (record { first = a; rest = rest }) o,
-        rw (e1, e2, e3, e4, e5, e6, e7, e8, e9, e10, e11) (ap (λ r. placed sign.Push at ∷ r) (queue_prints n i _))))
+    λ p k (l1, (n, e1), (l2, (i, e2), (l3, e3, (l4, (a, e4), (l5, (rest, e5), (l6, e6, (l7, e7, (l8, e8, (l9, (o, e9), (l10, e10, e11)))))))))). (
+      placed sign.Push at,
+      refl,
+      refl,
+      (
+        push at (queue_of n i) (record { first = a; rest = rest }) o,
+        rw (e1, e2, e3, e4, e5, e6, e7, e8, e9, e10, e11) (ap (λ r. placed sign.Push at ∷ r) (queue_prints n i _)),
+      ),
+    )
 back_statement (token.Sign sign.Take) at =
-    λ p k (l1, (n, e1), (l2, (i, e2), (l3, e3, (l4, (m, e4), (l5, (ms, e5), (l6, e6, (l7, e7, (l8, (b, e8), (l9, e9, (l10, e10, (l11, e11, (l12, (o, e12), (l13, e13, e14))))))))))))).
-        (placed sign.Take at, refl, refl, (take at (queue_of n i) (record { first = m; rest = ms }) b o,
+    λ p k (l1, (n, e1), (l2, (i, e2), (l3, e3, (l4, (m, e4), (l5, (ms, e5), (l6, e6, (l7, e7, (l8, (b, e8), (l9, e9, (l10, e10, (l11, e11, (l12, (o, e12), (l13, e13, e14))))))))))))). (
+      placed sign.Take at,
+      refl,
+      refl,
+      (
+        take at (queue_of n i) (record { first = m; rest = ms }) b o,
         rw (e1, e2, e3, e4, e5, e6, e7, e8, e9, e10, e11, e12, e13, e14)
-        (ap (λ r. placed sign.Take at ∷ r) (queue_prints n i _))))
+            (ap (λ r. placed sign.Take at ∷ r) (queue_prints n i _)),
+      ),
+    )
 back_statement (token.Sign sign.If) at =
-    λ p k (l1, (l, e1), (l2, (c, e2), (l3, e3, (l4, (b, e4), (l5, e5, (l6, (o, e6), e7)))))).
-        (placed sign.If at, refl, refl, (conditional at l c b o, rw (e1, e2, e3, e4, e5, e6, e7)
-        (conditional_prints at l c b o k)))
+    λ p k (l1, (l, e1), (l2, (c, e2), (l3, e3, (l4, (b, e4), (l5, e5, (l6, (o, e6), e7)))))). (
+      placed sign.If at,
+      refl,
+      refl,
+      (
+        conditional at l c b o,
+        rw (e1, e2, e3, e4, e5, e6, e7)
+            (conditional_prints at l c b o k),
+      ),
+    )
 back_statement (token.Sign sign.Each) at =
     λ p k (l1, (n, e1), (l2, e2, (l3, (x, e3), (l4, e4, (l5, (m, e5), (l6, e6, (l7, (b, e7), (l8, e8, e9)))))))).
-        (placed sign.Each at, refl, refl, (each at n x m b, rw (e1, e2, e3, e4, e5, e6, e7, e8, e9)))
+    (placed sign.Each at, refl, refl, (each at n x m b, rw (e1, e2, e3, e4, e5, e6, e7, e8, e9)))
 back_statement (token.Sign sign.Up) at = back_emission Up at
 back_statement (token.Sign sign.Down) at = back_emission Down at
 back_statement _ at = tt
@@ -319,7 +362,7 @@ back_some_names t at =
 back_popped : (t : Token) (at : At) → Back a_popped t at (popped_move t)
 back_popped (token.Sign sign.With) at =
     λ p k (l1, (n, e1), (l2, e2, (l3, (fields, e3), (l4, e4, e5)))).
-        (plain sign.With, refl, tt, (Some (record { name = n; fields = fields }), rw (e1, e2, e3, e4, e5)))
+    (plain sign.With, refl, tt, (Some (record { name = n; fields = fields }), rw (e1, e2, e3, e4, e5)))
 back_popped _ at = λ k. (None, refl)
 
 back_expected : (t : Token) (at : At) → Back an_expected t at (expected_move t)
@@ -330,12 +373,23 @@ back_expected _ at = λ k. (always, refl)
 
 back_handling : (d : Dir) (at : At) (p k : List Printed) → Chain handling p k →
     Front a_handler (token.Sign (direction_sign d)) at p k
-back_handling d at p k (l1, (what, e1), (l2, e2, (l3, (n, e3), (l4, (ns, e4), (l5, e5, (l6, (popped, e6), (l7, (expected, e7), (l8, e8, (l9, (b, e9), (l10, e10, e11)))))))))) =
-    (placed (direction_sign d) at, refl, refl,
-    ((record {
-      at = at; direction = d; kind = what; names = record { first = n; rest = ns }; popped = popped; expected = expected;
+back_handling d at p k (l1, (what, e1), (l2, e2, (l3, (n, e3), (l4, (ns, e4), (l5, e5, (l6, (popped, e6), (l7, (expected, e7), (l8, e8, (l9, (b, e9), (l10, e10, e11)))))))))) = (
+  placed (direction_sign d) at,
+  refl,
+  refl,
+  (
+    (record {
+      at = at;
+      direction = d;
+      kind = what;
+      names = record { first = n; rest = ns };
+      popped = popped;
+      expected = expected;
       block = b;
-    }), rw (e1, e2, e3, e4, e5, e6, e7, e8, e9, e10, e11)))
+    }),
+    rw (e1, e2, e3, e4, e5, e6, e7, e8, e9, e10, e11),
+  ),
+)
 
 back_handler : (t : Token) (at : At) → Back a_handler t at (handler_move t)
 back_handler (token.Sign sign.Up) at = back_handling Up at
@@ -363,7 +417,7 @@ array_prints true k = refl
 back_shape : (t : Token) (at : At) → Back a_shape t at (shape_move t)
 back_shape (token.Sign sign.LeftBracket) at =
     λ p k (l1, e1, (l2, (s, e2), (l3, e3, e4))).
-        (plain sign.LeftBracket, refl, tt, (array_of s, rw (e1, e2, e3, e4) (array_prints s k)))
+    (plain sign.LeftBracket, refl, tt, (array_of s, rw (e1, e2, e3, e4) (array_prints s k)))
 back_shape _ at = λ k. (shape_of.One, refl)
 
 back_initial : (t : Token) (at : At) → Back an_initial t at (initial_move t)
@@ -382,7 +436,7 @@ back_capacity _ at = tt
 back_more_items : (t : Token) (at : At) → Back more_items t at (more_items_move t)
 back_more_items (token.Sign sign.Comma) at =
     λ p k (l1, (n, e1), (l2, e2, (l3, (s, e3), (l4, (rest, e4), e5)))).
-        (plain sign.Comma, refl, tt, (record { name = n; sort = s } ∷ rest, rw (e1, e2, e3, e4, e5)))
+    (plain sign.Comma, refl, tt, (record { name = n; sort = s } ∷ rest, rw (e1, e2, e3, e4, e5)))
 back_more_items _ at = λ k. ([], refl)
 
 -- a queue or an array of queues
@@ -401,23 +455,27 @@ rows_print at n (true, s) is k = refl
 back_cell : (t : Token) (at : At) → Back a_cell t at (cell_move t)
 back_cell (token.Sign sign.Int) at =
     λ p k (l1, (n, e1), (l2, (s, e2), (l3, (v, e3), (l4, e4, e5)))).
-        (plain sign.Int, refl, tt, λ on. (int on n s v, rw (e1, e2, e3, e4, e5)))
+    (plain sign.Int, refl, tt, λ on. (int on n s v, rw (e1, e2, e3, e4, e5)))
 back_cell (token.Sign sign.Queue) at =
-    λ p k (l1, (n, e1), (l2, e2, (l3, (c, e3), (l4, e4, (l5, e5, (l6, e6, (l7, (m, e7), (l8, e8, (l9, (s, e9), (l10, (rest, e10), (l11, e11, (l12, e12, e13)))))))))))).
-        (plain sign.Queue, refl, tt, λ on.
-        let is : ItemsTree = record { first = record { name = m; sort = s }; rest = rest } in
-        (rows_of on n c is, rw (e1, e2, e3, e4, e5, e6, e7, e8, e9, e10, e11, e12, e13) (rows_print on n c is k)))
+    λ p k (l1, (n, e1), (l2, e2, (l3, (c, e3), (l4, e4, (l5, e5, (l6, e6, (l7, (m, e7), (l8, e8, (l9, (s, e9), (l10, (rest, e10), (l11, e11, (l12, e12, e13)))))))))))). (
+      plain sign.Queue,
+      refl,
+      tt,
+      λ on.
+          let is : ItemsTree = record { first = record { name = m; sort = s }; rest = rest } in
+          (rows_of on n c is, rw (e1, e2, e3, e4, e5, e6, e7, e8, e9, e10, e11, e12, e13) (rows_print on n c is k)),
+    )
 back_cell _ at = tt
 
 back_declaration : (t : Token) (at : At) → Back a_declaration t at (declaration_move t)
 back_declaration (token.Sign sign.Param) at =
     λ p k (l1, (n, e1), (l2, e2, (l3, (v, e3), (l4, e4, e5)))).
-        (placed sign.Param at, refl, refl, (param at n v, rw (e1, e2, e3, e4, e5)))
+    (placed sign.Param at, refl, refl, (param at n v, rw (e1, e2, e3, e4, e5)))
 back_declaration (token.Sign sign.State) at =
     λ p k (l1, cell, e1). (placed sign.State at, refl, refl, rw (sym e1) (cell at))
 back_declaration (token.Sign sign.Header) at =
     λ p k (l1, (n, e1), (l2, e2, (l3, (fields, e3), (l4, e4, (l5, (ending, e5), (l6, e6, e7)))))).
-        (placed sign.Header at, refl, refl, (header at n fields ending, rw (e1, e2, e3, e4, e5, e6, e7)))
+    (placed sign.Header at, refl, refl, (header at n fields ending, rw (e1, e2, e3, e4, e5, e6, e7)))
 back_declaration _ at = tt
 
 back_declarations : (t : Token) (at : At) → Back declarations t at (begun (declarations ∷ []) (declaration_move t))
@@ -427,9 +485,12 @@ back_declarations t at =
 
 back_layer : (t : Token) (at : At) → Back a_layer t at (layer_move t)
 back_layer (token.Sign sign.Layer) at =
-    λ p k (l1, (n, e1), (l2, e2, (l3, (ds, e3), (l4, (hs, e4), (l5, e5, e6))))).
-        (placed sign.Layer at, refl, refl,
-        (record { at = at; name = n; declarations = ds; handlers = hs }, rw (e1, e2, e3, e4, e5, e6)))
+    λ p k (l1, (n, e1), (l2, e2, (l3, (ds, e3), (l4, (hs, e4), (l5, e5, e6))))). (
+      placed sign.Layer at,
+      refl,
+      refl,
+      (record { at = at; name = n; declarations = ds; handlers = hs }, rw (e1, e2, e3, e4, e5, e6)),
+    )
 back_layer _ at = tt
 
 back_layers : (t : Token) (at : At) → Back layers t at (begun (layers ∷ []) (layer_move t))
@@ -440,20 +501,23 @@ back_layers t at =
 back_more_given : (t : Token) (at : At) → Back more_given t at (more_given_move t)
 back_more_given (token.Sign sign.Comma) at =
     λ p k (l1, (n, e1), (l2, e2, (l3, (v, e3), (l4, (rest, e4), e5)))).
-        (plain sign.Comma, refl, tt, (record { name = n; value = v } ∷ rest, rw (e1, e2, e3, e4, e5)))
+    (plain sign.Comma, refl, tt, (record { name = n; value = v } ∷ rest, rw (e1, e2, e3, e4, e5)))
 back_more_given _ at = λ k. ([], refl)
 
 back_some_given : (t : Token) (at : At) → Back some_given t at (some_given_move t)
 back_some_given (token.Sign sign.LeftParen) at =
     λ p k (l1, (n, e1), (l2, e2, (l3, (v, e3), (l4, (rest, e4), (l5, e5, e6))))).
-        (plain sign.LeftParen, refl, tt, (record { name = n; value = v } ∷ rest, rw (e1, e2, e3, e4, e5, e6)))
+    (plain sign.LeftParen, refl, tt, (record { name = n; value = v } ∷ rest, rw (e1, e2, e3, e4, e5, e6)))
 back_some_given _ at = λ k. ([], refl)
 
 back_place : (t : Token) (at : At) → Back a_place t at (place_move t)
 back_place (token.Name w) at =
-    λ p k (l1, (given, e1), (l2, e2, e3)).
-        (name (record { at = at; word = w }), refl, refl,
-        (record { name = record { at = at; word = w }; given = given }, rw (e1, e2, e3)))
+    λ p k (l1, (given, e1), (l2, e2, e3)). (
+      name (record { at = at; word = w }),
+      refl,
+      refl,
+      (record { name = record { at = at; word = w }; given = given }, rw (e1, e2, e3)),
+    )
 back_place _ at = tt
 
 back_places : (t : Token) (at : At) → Back places t at (begun (places ∷ []) (place_move t))

@@ -22,7 +22,7 @@ use Rattle.layer_ast.specs.Tree.{ExpressionTree, number, me, members, ltime, nam
 use Rattle.layer_ast.specs.Print as print
 use Rattle.layer_ast.specs.Printed.{Printed, plain, name, kind, direction_sign, ending_sign, sort_sign, function_sign, operator_sign}
 use Rattle.layer_ast.specs.Spells.{HasPlace}
-use Rattle.layer_machine.specs.Machine.{Symbol, one, a_name, a_number, a_kind, a_size, a_sort, an_ending, an_operator, an_expression, an_index, a_message, a_built, an_argument, more_arguments, some_arguments, a_pushed, a_likely, an_otherwise, a_statement, statements, a_block, more_names, some_names, a_popped, an_expected, handlers, a_square, a_shape, an_initial, a_capacity, more_items, a_declaration, declarations, a_layer, layers, more_given, some_given, a_place, places, Move, eats, skips, refuses, move, all_optional, moved, feed, operand, emission, handling, start}
+use Rattle.layer_machine.specs.Machine.{Symbol, one, a_name, a_size, a_sort, an_ending, an_operator, an_expression, an_index, a_message, a_built, an_argument, more_arguments, some_arguments, a_pushed, a_likely, an_otherwise, a_statement, statements, a_block, more_names, some_names, a_popped, an_expected, handlers, a_shape, an_initial, a_capacity, more_items, a_declaration, declarations, a_layer, layers, more_given, some_given, a_place, places, Move, eats, skips, refuses, move, all_optional, moved, feed, operand, emission, handling, start}
 
 -- the tokens of what is printed
 abbrev pub toks : List Printed → List Token

@@ -1,5 +1,5 @@
 -- What the machine expects, as printed tokens of trees. Each symbol has the tokens of some tree, and an optional one has none.
-use Rattle.std.proofs.Common.{◌≡◌, ℕ, Bool, true, false, ◌&&◌, List, [], ◌∷◌, ◌++◌, Option, Some, None, codes, refl, sym, true≢false}
+use Rattle.std.proofs.Common.{◌≡◌, ℕ, Bool, true, false, ◌&&◌, List, [], ◌∷◌, ◌++◌, Option, None, codes, refl, sym, true≢false}
 use Rattle.layer_ast.specs.declared.names.At.{At}
 use Rattle.layer_ast.specs.declared.names.Name.{Name}
 use Rattle.layer_ast.specs.declared.tokens.Dir.TheVariants.{Up}
@@ -157,11 +157,21 @@ some_phrase a_message k = (_, (bare some_name, refl))
 some_phrase a_built k = (_, (nothing somewhere, refl))
 some_phrase an_argument k = (_, (value zero_tree, refl))
 some_phrase a_statement k = (_, (some_statement, refl))
-some_phrase a_handler k =
-    (_, ((record {
-    at = somewhere; direction = Up; kind = Cast; names = record { first = some_name; rest = [] }; popped = None;
-    expected = always; block = none;
-    }), refl))
+some_phrase a_handler k = (
+  _,
+  (
+    (record {
+      at = somewhere;
+      direction = Up;
+      kind = Cast;
+      names = record { first = some_name; rest = [] };
+      popped = None;
+      expected = always;
+      block = none;
+    }),
+    refl,
+  ),
+)
 some_phrase a_capacity k = (_, ((false, fixed somewhere 1), refl))
 some_phrase a_cell k = (plain sign.Int ∷ name some_name ∷ plain sign.Semicolon ∷ k, λ at. (int at some_name shape_of.One None, refl))
 some_phrase a_declaration k = (_, (param somewhere some_name 0, refl))
