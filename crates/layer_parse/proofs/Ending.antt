@@ -8,7 +8,7 @@ use Rattle.layer_ast.specs.Printed.{plain}
 use Rattle.layer_ast.specs.Spells.{Fits}
 use Rattle.layer_ast.specs.Tree.{LayerTree, PlaceTree}
 use Rattle.layer_parse.specs.FirstForm.{IsFirstFormLayer, IsFirstFormPlace}
-use Rattle.layer_parse.specs.Machine.{Symbol, one, layers, a_place, places, accepted, refused, step, run, start, Outcome}
+use Rattle.layer_machine.specs.Machine.{Symbol, one, layers, a_place, places, accepted, refused, step, run, start, Outcome}
 use Rattle.layer_parse.specs.Reading.{Reads, ReadsFlat, ReadsOpening, ReadsFile}
 
 no_stack : (room : Option ℕ) (n : ℕ) (go : ℕ → List Symbol → Outcome) → step room None n go ≡ refused n

@@ -18,7 +18,7 @@ use Rattle.layer_ast.specs.Printed.{Printed, plain, name}
 use Rattle.layer_ast.specs.Spells.{Fits}
 use Rattle.layer_ast.specs.View.{expression_tree, argument_tree, statement_tree, statement_trees, handler_tree, declaration_tree, layer_tree, place_tree}
 use Rattle.layer_parse.specs.FirstForm.{IsFirstFormStatement, IsFirstFormBlock}
-use Rattle.layer_parse.specs.Machine.{Symbol, a_name, an_expression, more_arguments, more_names, a_statement, statements, a_handler, handlers, a_declaration, declarations, a_layer, layers, a_place, places, run}
+use Rattle.layer_machine.specs.Machine.{Symbol, a_name, an_expression, more_arguments, more_names, a_statement, statements, a_handler, handlers, a_declaration, declarations, a_layer, layers, a_place, places, run}
 use Rattle.layer_parse.specs.Reading.{Reads, ReadsFlat, Passes, Begins, Gathers, GathersFlat}
 
 -- one more part of the first form is gathered

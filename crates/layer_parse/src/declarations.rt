@@ -3,7 +3,7 @@ ghost use Rattle.std.specs.Prelude.{◌≡◌, ◌<◌, ◌≤◌, [], ◌∷◌
 ghost use Rattle.layer_ast.specs.Print as print;
 ghost use Rattle.layer_ast.specs.View.{declaration_tree};
 ghost use Rattle.layer_parse.specs.FirstForm.{IsFirstFormShape, IsFirstFormDeclaration};
-ghost use Rattle.layer_parse.specs.Machine.{a_shape, a_declaration, declarations as more_declarations};
+ghost use Rattle.layer_machine.specs.Machine.{a_shape, a_declaration, declarations as more_declarations};
 ghost use Rattle.layer_parse.specs.Reading.{Parses, SeesPart};
 
 use crate::names::some_names;

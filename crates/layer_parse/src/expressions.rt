@@ -2,12 +2,19 @@
 ghost use Rattle.std.specs.Prelude.{◌≡◌, [], ◌∷◌};
 ghost use Rattle.std.specs.Option.{option_map};
 ghost use Rattle.layer_ast.specs.Print as print;
+<<<<<<< HEAD
 ghost use Rattle.layer_ast.specs.Printed.{function_sign};
 ghost use Rattle.layer_ast.specs.View.{expression_tree, queue_tree, message_tree, built_tree};
 ghost use Rattle.layer_ast.specs.declared.tokens.Sign.TheVariants.{LeftParen, Comma, RightParen};
 ghost use Rattle.layer_machine.specs.Machine.{one, a_name, an_expression, an_index, indices as some_indices, a_queue, a_message, a_built};
 ghost use Rattle.layer_parse.specs.Parts.{print_indices, print_pair, pair_tree, print_row, row_tree};
 ghost use Rattle.layer_parse.specs.Reading.{Parses, ParsesAll, SeesOneOf};
+=======
+ghost use Rattle.layer_ast.specs.View.{expression_tree, argument_tree, arguments_tree};
+ghost use Rattle.layer_parse.specs.FirstForm.{IsFirstFormExpression, IsFirstFormArgument, IsFirstFormArguments};
+ghost use Rattle.layer_machine.specs.Machine.{an_expression, an_index, more_arguments, some_arguments as one_or_no_arguments};
+ghost use Rattle.layer_parse.specs.Reading.{Parses, ParsesAll, SeesPart};
+>>>>>>> d6f1a33eb9130a296fc00867205d85216c748cf7
 
 use crate::readers::{Fault, close, name, open, operator, past, read, room_inside, sign};
 use layer_ast::{Built, Expression, Function, Lexed, MessageExpression, Name, Queue, Sign, Token, Word};

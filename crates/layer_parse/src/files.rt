@@ -3,7 +3,7 @@ ghost use Rattle.std.specs.Prelude.{◌≡◌, ◌<◌, ◌≤◌, [], ◌∷◌
 ghost use Rattle.layer_ast.specs.Print as print;
 ghost use Rattle.layer_ast.specs.View.{layer_tree, place_tree};
 ghost use Rattle.layer_parse.specs.FirstForm.{IsFirstFormLayer, IsFirstFormPlace};
-ghost use Rattle.layer_parse.specs.Machine.{a_layer, layers as more_layers, a_place, places as more_places};
+ghost use Rattle.layer_machine.specs.Machine.{a_layer, layers as more_layers, a_place, places as more_places};
 ghost use Rattle.layer_parse.specs.Reading.{Parses, ParsesFlat, ParsesAllFlat, ParsesFile, SeesPart};
 
 use crate::declarations::declarations;

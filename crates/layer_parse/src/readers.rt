@@ -3,7 +3,7 @@ ghost use Rattle.std.specs.Prelude.{◌≡◌, suc};
 ghost use Rattle.layer_ast.specs.Print.{size as size_token};
 ghost use Rattle.layer_ast.specs.Printed.{plain, plain_numeral, name as name_token, kind as kind_token, operator_sign, sort_sign, ending_sign};
 ghost use Rattle.layer_ast.specs.View.{size_tree};
-ghost use Rattle.layer_parse.specs.Machine.{is_sign as has_sign, a_name, a_kind, an_operator, a_number, a_size, a_sort, an_ending};
+ghost use Rattle.layer_machine.specs.Machine.{is_sign as has_sign, a_name, a_kind, an_operator, a_number, a_size, a_sort, an_ending};
 ghost use Rattle.layer_parse.specs.Reading.{ParsesOne, ParsesSign, ParsesOpening, SeesSign, EntersBracket, IsPlain, IsOpening, IsClosing};
 ghost use Rattle.layer_parse.specs.declared.readers.Fault.TheVariants.{Memory};
 
@@ -158,24 +158,23 @@ pub fn operator(tokens: &[Lexed]) -> Result<(Operator, &[Lexed]), Fault>
     let Some((first, rest)) = tokens.split_first() else {
         return Err(Fault::Refused(0));
     };
-    let operator = match first.token {
-        Token::Sign(Sign::Plus) => Operator::Add,
-        Token::Sign(Sign::Minus) => Operator::Subtract,
-        Token::Sign(Sign::Star) => Operator::Multiply,
-        Token::Sign(Sign::Equal) => Operator::Equal,
-        Token::Sign(Sign::NotEqual) => Operator::NotEqual,
-        Token::Sign(Sign::Less) => Operator::Less,
-        Token::Sign(Sign::LessEqual) => Operator::LessOrEqual,
-        Token::Sign(Sign::Greater) => Operator::Greater,
-        Token::Sign(Sign::GreaterEqual) => Operator::GreaterOrEqual,
-        Token::Sign(Sign::And) => Operator::And,
-        Token::Sign(Sign::Or) => Operator::Or,
-        Token::Sign(Sign::Ampersand) => Operator::BitAnd,
-        Token::Sign(Sign::Bar) => Operator::BitOr,
-        Token::Sign(Sign::Caret) => Operator::BitXor,
-        _ => return Err(Fault::Refused(tokens.len())),
-    };
-    Ok((operator, rest))
+    match first.token {
+        Token::Sign(Sign::Plus) => Ok((Operator::Add, rest)),
+        Token::Sign(Sign::Minus) => Ok((Operator::Subtract, rest)),
+        Token::Sign(Sign::Star) => Ok((Operator::Multiply, rest)),
+        Token::Sign(Sign::Equal) => Ok((Operator::Equal, rest)),
+        Token::Sign(Sign::NotEqual) => Ok((Operator::NotEqual, rest)),
+        Token::Sign(Sign::Less) => Ok((Operator::Less, rest)),
+        Token::Sign(Sign::LessEqual) => Ok((Operator::LessOrEqual, rest)),
+        Token::Sign(Sign::Greater) => Ok((Operator::Greater, rest)),
+        Token::Sign(Sign::GreaterEqual) => Ok((Operator::GreaterOrEqual, rest)),
+        Token::Sign(Sign::And) => Ok((Operator::And, rest)),
+        Token::Sign(Sign::Or) => Ok((Operator::Or, rest)),
+        Token::Sign(Sign::Ampersand) => Ok((Operator::BitAnd, rest)),
+        Token::Sign(Sign::Bar) => Ok((Operator::BitOr, rest)),
+        Token::Sign(Sign::Caret) => Ok((Operator::BitXor, rest)),
+        _ => Err(Fault::Refused(tokens.len())),
+    }
 }
 
 /// Reads a number.

@@ -2,7 +2,7 @@ use Rattle.std.proofs.Common.{length, map, All}
 use Rattle.layer_ast.specs.Print as print
 use Rattle.layer_ast.specs.View.{declaration_tree}
 use Rattle.layer_parse.specs.FirstForm.{IsFirstFormDeclaration}
-use Rattle.layer_parse.specs.Machine.{declarations}
+use Rattle.layer_machine.specs.Machine.{declarations}
 use Rattle.layer_parse.specs.Reading.{Gathers}
 use Rattle.layer_parse.proofs.declarations.declarations.Given as goal
 

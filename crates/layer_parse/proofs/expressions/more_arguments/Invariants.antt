@@ -2,7 +2,7 @@ use Rattle.std.proofs.Common.{length, map, All}
 use Rattle.layer_ast.specs.Print as print
 use Rattle.layer_ast.specs.View.{argument_tree}
 use Rattle.layer_parse.specs.FirstForm.{IsFirstFormArgument}
-use Rattle.layer_parse.specs.Machine.{more_arguments}
+use Rattle.layer_machine.specs.Machine.{more_arguments}
 use Rattle.layer_parse.specs.Reading.{Gathers}
 use Rattle.layer_parse.proofs.expressions.more_arguments.Given as goal
 

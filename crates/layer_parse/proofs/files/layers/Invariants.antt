@@ -2,7 +2,7 @@ use Rattle.std.proofs.Common.{length, map, All}
 use Rattle.layer_ast.specs.Print as print
 use Rattle.layer_ast.specs.View.{layer_tree}
 use Rattle.layer_parse.specs.FirstForm.{IsFirstFormLayer}
-use Rattle.layer_parse.specs.Machine.{layers}
+use Rattle.layer_machine.specs.Machine.{layers}
 use Rattle.layer_parse.specs.Reading.{Gathers}
 use Rattle.layer_parse.proofs.files.layers.Given as goal
 

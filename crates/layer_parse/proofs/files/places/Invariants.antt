@@ -2,7 +2,7 @@ use Rattle.std.proofs.Common.{◌<◌, [], ◌∷◌, length, map, All}
 use Rattle.layer_ast.specs.Print as print
 use Rattle.layer_ast.specs.View.{place_tree}
 use Rattle.layer_parse.specs.FirstForm.{IsFirstFormPlace}
-use Rattle.layer_parse.specs.Machine.{a_place, places}
+use Rattle.layer_machine.specs.Machine.{a_place, places}
 use Rattle.layer_parse.specs.Reading.{GathersFlat}
 use Rattle.layer_parse.proofs.files.places.Given as goal
 

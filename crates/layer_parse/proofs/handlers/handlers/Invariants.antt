@@ -2,7 +2,7 @@ use Rattle.std.proofs.Common.{length, map, All}
 use Rattle.layer_ast.specs.Print as print
 use Rattle.layer_ast.specs.View.{handler_tree}
 use Rattle.layer_parse.specs.FirstForm.{IsFirstFormHandler}
-use Rattle.layer_parse.specs.Machine.{handlers}
+use Rattle.layer_machine.specs.Machine.{handlers}
 use Rattle.layer_parse.specs.Reading.{Gathers}
 use Rattle.layer_parse.proofs.handlers.handlers.Given as goal
 

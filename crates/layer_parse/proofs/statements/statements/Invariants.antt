@@ -2,7 +2,7 @@ use Rattle.std.proofs.Common.{length}
 use Rattle.layer_ast.specs.Print as print
 use Rattle.layer_ast.specs.View.{statement_trees}
 use Rattle.layer_parse.specs.FirstForm.{IsFirstFormBlock}
-use Rattle.layer_parse.specs.Machine.{statements}
+use Rattle.layer_machine.specs.Machine.{statements}
 use Rattle.layer_parse.specs.Reading.{Gathers}
 use Rattle.layer_parse.proofs.statements.statements.Given as goal
 
