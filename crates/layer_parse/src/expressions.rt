@@ -6,7 +6,7 @@ ghost use Rattle.layer_ast.specs.Print as print;
 ghost use Rattle.layer_ast.specs.Printed.{function_sign};
 ghost use Rattle.layer_ast.specs.View.{expression_tree, queue_tree, message_tree, built_tree};
 ghost use Rattle.layer_ast.specs.declared.tokens.Sign.TheVariants.{LeftParen, Comma, RightParen};
-ghost use Rattle.layer_machine.specs.Machine.{one, a_name, an_expression, an_index, indices as some_indices, a_queue, a_message, a_built};
+ghost use Rattle.layer_machine.specs.Machine.{one, a_name, an_expression, an_index, a_message, a_built};
 ghost use Rattle.layer_parse.specs.Parts.{print_indices, print_pair, pair_tree, print_row, row_tree};
 ghost use Rattle.layer_parse.specs.Reading.{Parses, ParsesAll, SeesOneOf};
 =======
@@ -139,7 +139,7 @@ pub fn indices(
     room: u32,
     tokens: &[Lexed],
 ) -> Result<(Option<Indices>, &[Lexed]), Fault>
-    ensures { Parses print_indices (λ i. i) some_indices room tokens.now result }
+    ensures { ParsesAll print_indices (λ i. i) (an_index ∷ an_index ∷ []) room tokens.now result }
 {
     let Some(rest) = past(Sign::LeftBracket, tokens) else {
         return Ok((None, tokens));
@@ -309,32 +309,10 @@ fn pair(alloc: Global, room: u32, tokens: &[Lexed]) -> Result<(Pair, &[Lexed]), 
 /// Reads a queue.
 #[cycle(expression)]
 pub fn queue(alloc: Global, room: u32, tokens: &[Lexed]) -> Result<(Queue, &[Lexed]), Fault>
-    ensures { Parses print.queue queue_tree a_queue room tokens.now result }
+    ensures { ParsesAll print.queue queue_tree (a_name ∷ an_index ∷ []) room tokens.now result }
 {
-    let Some((first, rest)) = tokens.split_first() else {
-        return Err(Fault::Refused(0));
-    };
-    match first.token {
-        Token::Name(word) => queue_of(alloc, room, word, *first, rest),
-        _ => Err(Fault::Refused(tokens.len())),
-    }
-}
-
-/// Reads a queue from behind its name.
-#[tactic(auto, using(crate::proofs::Fit::fits_first))]
-#[cycle(expression)]
-fn queue_of(
-    alloc: Global,
-    room: u32,
-    word: Word,
-    first: Lexed,
-    tokens: &[Lexed],
-) -> Result<(Queue, &[Lexed]), Fault>
-    requires { first.token ≡ Token.Name word }
-    ensures { Parses print.queue queue_tree a_queue room (first ∷ tokens.now) result }
-{
-    let name = Name { at: first.at, word };
-    let (index, rest) = index(alloc, room, tokens)?;
+    let (name, rest) = read!(name(tokens));
+    let (index, rest) = index(alloc, room, rest)?;
     let Some(index) = index else {
         return Ok((Queue { name, index: None }, rest));
     };
@@ -345,7 +323,7 @@ fn queue_of(
 /// Reads a queue and the number of one of its rows, in parentheses.
 #[cycle(expression)]
 fn row(alloc: Global, room: u32, tokens: &[Lexed]) -> Result<(Row, &[Lexed]), Fault>
-    ensures { ParsesAll print_row row_tree (one LeftParen ∷ a_queue ∷ one Comma ∷ an_expression ∷ one RightParen ∷ []) room tokens.now result }
+    ensures { ParsesAll print_row row_tree (one LeftParen ∷ a_name ∷ an_index ∷ one Comma ∷ an_expression ∷ one RightParen ∷ []) room tokens.now result }
 {
     let (inside, rest) = open(room, Sign::LeftParen, tokens)?;
     let (queue, rest) = queue(alloc, inside, rest)?;

@@ -5,8 +5,9 @@ ghost use Rattle.layer_ast.specs.Printed.{direction_sign};
 ghost use Rattle.layer_ast.specs.View.{pushed_tree, statement_tree, statement_trees, block_tree};
 ghost use Rattle.layer_ast.specs.declared.tokens.Sign.TheVariants.{Else};
 ghost use Rattle.layer_machine.specs.Machine.{one, a_likely, a_pushed, an_otherwise, a_statement, statements as more_statements, a_block};
-ghost use Rattle.layer_parse.specs.Parts.{AssignmentPrints, ConditionPrints, print_otherwise, block_behind_else};
-ghost use Rattle.layer_parse.specs.Reading.{Parses, ParsesAll, ParsesFlat, SeesPart};
+ghost use Rattle.layer_machine.specs.Parts.{otherwise as print_otherwise};
+ghost use Rattle.layer_parse.specs.Parts.{AssignmentPrints, DecisionPrints, block_behind_else};
+ghost use Rattle.layer_parse.specs.Reading.{Parses, ParsesAll, ReadsFlat, SeesPart};
 
 use crate::arguments::{arguments_in_parentheses, some_arguments_in_parentheses};
 use crate::expressions::{Indices, expression, indices, queue};
@@ -275,7 +276,7 @@ fn decision(
     block: Block,
     otherwise: Option<Block>,
 ) -> Statement
-    ensures { ConditionPrints at likely condition block otherwise result }
+    ensures { DecisionPrints at likely condition block otherwise result }
 {
     match otherwise {
         Some(otherwise) => Statement::Choose {
