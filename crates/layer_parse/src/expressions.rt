@@ -2,27 +2,22 @@
 ghost use Rattle.std.specs.Prelude.{◌≡◌, [], ◌∷◌};
 ghost use Rattle.std.specs.Option.{option_map};
 ghost use Rattle.layer_ast.specs.Print as print;
-<<<<<<< HEAD
 ghost use Rattle.layer_ast.specs.Printed.{function_sign};
 ghost use Rattle.layer_ast.specs.View.{expression_tree, queue_tree, message_tree, built_tree};
 ghost use Rattle.layer_ast.specs.declared.tokens.Sign.TheVariants.{LeftParen, Comma, RightParen};
 ghost use Rattle.layer_machine.specs.Machine.{one, a_name, an_expression, an_index, a_message, a_built};
 ghost use Rattle.layer_parse.specs.Parts.{print_indices, print_pair, pair_tree, print_row, row_tree};
 ghost use Rattle.layer_parse.specs.Reading.{Parses, ParsesAll, SeesOneOf};
-=======
-ghost use Rattle.layer_ast.specs.View.{expression_tree, argument_tree, arguments_tree};
-ghost use Rattle.layer_parse.specs.FirstForm.{IsFirstFormExpression, IsFirstFormArgument, IsFirstFormArguments};
-ghost use Rattle.layer_machine.specs.Machine.{an_expression, an_index, more_arguments, some_arguments as one_or_no_arguments};
-ghost use Rattle.layer_parse.specs.Reading.{Parses, ParsesAll, SeesPart};
->>>>>>> d6f1a33eb9130a296fc00867205d85216c748cf7
 
 use crate::readers::{Fault, close, name, open, operator, past, read, room_inside, sign};
-use layer_ast::{Built, Expression, Function, Lexed, MessageExpression, Name, Queue, Sign, Token, Word};
+use layer_ast::{
+    Built, Expression, Function, Lexed, MessageExpression, Name, Queue, Sign, Token, Word,
+};
 use std::alloc::Global;
 
-/// The indices behind a name: one, or two of a square array.
+/// The indices of an element: one, or two of a square array.
 #[derive(Drop)]
-pub struct Indices {
+pub struct Element {
     pub row: Expression,
     pub column: Option<Expression>,
 }
@@ -36,7 +31,7 @@ pub struct Pair {
 
 /// A queue and the number of one of its rows, in parentheses.
 #[derive(Drop)]
-pub struct Row {
+pub struct QueueRow {
     pub queue: Queue,
     pub row: Box<Expression>,
 }
@@ -120,7 +115,7 @@ fn named(
 {
     let name = Name { at: first.at, word };
     let (indices, rest) = indices(alloc, room, tokens)?;
-    let Some(Indices { row, column }) = indices else {
+    let Some(Element { row, column }) = indices else {
         return Ok((Expression::Named { name, index: None }, rest));
     };
     let row = Box::new(alloc, row)?;
@@ -138,7 +133,7 @@ pub fn indices(
     alloc: Global,
     room: u32,
     tokens: &[Lexed],
-) -> Result<(Option<Indices>, &[Lexed]), Fault>
+) -> Result<(Option<Element>, &[Lexed]), Fault>
     ensures { ParsesAll print_indices (λ i. i) (an_index ∷ an_index ∷ []) room tokens.now result }
 {
     let Some(rest) = past(Sign::LeftBracket, tokens) else {
@@ -148,7 +143,7 @@ pub fn indices(
     let (row, rest) = expression(alloc, inside, rest)?;
     let rest = close(Sign::RightBracket, rest)?;
     let (column, rest) = index(alloc, room, rest)?;
-    Ok((Some(Indices { row, column }), rest))
+    Ok((Some(Element { row, column }), rest))
 }
 
 /// Reads an index in square brackets, where there is one.
@@ -200,7 +195,7 @@ fn item(
     requires { first.token ≡ Token.Sign Sign.AtRow }
     ensures { Parses print.expression expression_tree an_expression room (first ∷ tokens.now) result }
 {
-    let (Row { queue, row }, rest) = row(alloc, room, tokens)?;
+    let (QueueRow { queue, row }, rest) = row(alloc, room, tokens)?;
     let rest = sign(Sign::Dot, rest)?;
     let (label, rest) = read!(name(rest));
     let at = first.at;
@@ -278,7 +273,7 @@ fn pick(
     let (inside, rest) = open(room, Sign::LeftParen, tokens)?;
     let (condition, rest) = expression(alloc, inside, rest)?;
     let rest = sign(Sign::Comma, rest)?;
-    let (Pair { first: one, second }, rest) = pair(alloc, inside, rest)?;
+    let (Pair { first: one, second }, rest) = two_expressions(alloc, inside, rest)?;
     let rest = close(Sign::RightParen, rest)?;
     let condition = Box::new(alloc, condition)?;
     let at = first.at;
@@ -295,7 +290,7 @@ fn pick(
 
 /// Reads two numbers with a comma between them.
 #[cycle(expression)]
-fn pair(alloc: Global, room: u32, tokens: &[Lexed]) -> Result<(Pair, &[Lexed]), Fault>
+fn two_expressions(alloc: Global, room: u32, tokens: &[Lexed]) -> Result<(Pair, &[Lexed]), Fault>
     ensures { ParsesAll print_pair pair_tree (an_expression ∷ one Comma ∷ an_expression ∷ []) room tokens.now result }
 {
     let (first, rest) = expression(alloc, room, tokens)?;
@@ -322,7 +317,7 @@ pub fn queue(alloc: Global, room: u32, tokens: &[Lexed]) -> Result<(Queue, &[Lex
 
 /// Reads a queue and the number of one of its rows, in parentheses.
 #[cycle(expression)]
-fn row(alloc: Global, room: u32, tokens: &[Lexed]) -> Result<(Row, &[Lexed]), Fault>
+fn row(alloc: Global, room: u32, tokens: &[Lexed]) -> Result<(QueueRow, &[Lexed]), Fault>
     ensures { ParsesAll print_row row_tree (one LeftParen ∷ a_name ∷ an_index ∷ one Comma ∷ an_expression ∷ one RightParen ∷ []) room tokens.now result }
 {
     let (inside, rest) = open(room, Sign::LeftParen, tokens)?;
@@ -331,7 +326,7 @@ fn row(alloc: Global, room: u32, tokens: &[Lexed]) -> Result<(Row, &[Lexed]), Fa
     let (row, rest) = expression(alloc, inside, rest)?;
     let rest = close(Sign::RightParen, rest)?;
     let row = Box::new(alloc, row)?;
-    Ok((Row { queue, row }, rest))
+    Ok((QueueRow { queue, row }, rest))
 }
 
 /// Reads a message.
@@ -392,7 +387,7 @@ fn held(
     requires { first.token ≡ Token.Sign Sign.Held }
     ensures { Parses print.built built_tree a_built room (first ∷ tokens.now) result }
 {
-    let (Row { queue, row }, rest) = row(alloc, room, tokens)?;
+    let (QueueRow { queue, row }, rest) = row(alloc, room, tokens)?;
     let at = first.at;
     Ok((Built::Held { at, queue, row }, rest))
 }
@@ -407,7 +402,13 @@ fn cut(alloc: Global, room: u32, first: Lexed, tokens: &[Lexed]) -> Result<(Buil
     let (inside, rest) = open(room, Sign::LeftParen, tokens)?;
     let (message, rest) = message(alloc, inside, rest)?;
     let rest = sign(Sign::Comma, rest)?;
-    let (Pair { first: from, second: length }, rest) = pair(alloc, inside, rest)?;
+    let (
+        Pair {
+            first: from,
+            second: length,
+        },
+        rest,
+    ) = two_expressions(alloc, inside, rest)?;
     let rest = close(Sign::RightParen, rest)?;
     let message = Box::new(alloc, message)?;
     let at = first.at;

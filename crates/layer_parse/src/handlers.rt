@@ -3,12 +3,7 @@ ghost use Rattle.std.specs.Prelude.{◌≡◌, ◌<◌, ◌≤◌, [], ◌∷◌
 ghost use Rattle.layer_ast.specs.Print as print;
 ghost use Rattle.layer_ast.specs.Printed.{direction_sign};
 ghost use Rattle.layer_ast.specs.View.{expected_tree, popped_tree, handler_tree};
-<<<<<<< HEAD
 ghost use Rattle.layer_machine.specs.Machine.{a_popped, an_expected, a_handler, handlers as more_handlers};
-=======
-ghost use Rattle.layer_parse.specs.FirstForm.{IsFirstFormExpected, IsFirstFormHandler};
-ghost use Rattle.layer_machine.specs.Machine.{a_popped, a_common, a_handler, handlers as more_handlers};
->>>>>>> d6f1a33eb9130a296fc00867205d85216c748cf7
 ghost use Rattle.layer_parse.specs.Reading.{Parses, SeesPart};
 
 use crate::expressions::expression;

@@ -2,12 +2,8 @@
 ghost use Rattle.std.specs.Option.{option_map};
 ghost use Rattle.layer_ast.specs.Print as print;
 ghost use Rattle.layer_ast.specs.View.{names_tree};
-<<<<<<< HEAD
 ghost use Rattle.layer_ast.specs.declared.tokens.Sign.TheVariants.{LeftParen, RightParen};
 ghost use Rattle.layer_machine.specs.Machine.{one, a_name, more_names as names_behind, some_names as one_or_no_names};
-=======
-ghost use Rattle.layer_machine.specs.Machine.{a_name, more_names as names_behind, some_names as one_or_no_names};
->>>>>>> d6f1a33eb9130a296fc00867205d85216c748cf7
 ghost use Rattle.std.specs.Prelude.{[], ◌∷◌};
 ghost use Rattle.layer_parse.specs.Parts.{names_within, some_names_within};
 ghost use Rattle.layer_parse.specs.Reading.{ParsesAll, ParsesFlat, ParsesAllFlat, SeesPart};

@@ -10,7 +10,7 @@ ghost use Rattle.layer_parse.specs.Parts.{AssignmentPrints, DecisionPrints, bloc
 ghost use Rattle.layer_parse.specs.Reading.{Parses, ParsesAll, ReadsFlat, SeesPart};
 
 use crate::arguments::{arguments_in_parentheses, some_arguments_in_parentheses};
-use crate::expressions::{Indices, expression, indices, queue};
+use crate::expressions::{Element, expression, indices, queue};
 use crate::names::names_in_parentheses;
 use crate::readers::{Fault, close, kind, name, open, past, read, sign, size};
 use layer_ast::{At, Block, Dir, Expression, Lexed, Likely, Name, Pushed, Sign, Statement, Token};
@@ -123,10 +123,10 @@ fn set(
 
 /// The assignment of a value to a cell, or to the element of an array that has these indices.
 #[tactic(auto, using(crate::proofs::Views::set_tree, crate::proofs::Views::set_square_tree))]
-fn assignment(at: At, name: Name, indices: Option<Indices>, value: Expression) -> Statement
+fn assignment(at: At, name: Name, indices: Option<Element>, value: Expression) -> Statement
     ensures { AssignmentPrints at name indices value result }
 {
-    let Some(Indices { row, column }) = indices else {
+    let Some(Element { row, column }) = indices else {
         return Statement::Set {
             at,
             name,
@@ -235,7 +235,10 @@ fn condition(
     let (condition, rest) = expression(alloc, room, rest)?;
     let (block, rest) = block(alloc, room, rest)?;
     let (otherwise, rest) = otherwise(alloc, room, rest)?;
-    Ok((decision(first.at, likely, condition, block, otherwise), rest))
+    Ok((
+        decision(first.at, likely, condition, block, otherwise),
+        rest,
+    ))
 }
 
 /// Reads which way a condition is predicted to go.
@@ -253,11 +256,7 @@ fn likely(tokens: &[Lexed]) -> (Likely, &[Lexed])
 
 /// Reads the other way of a condition, where there is one.
 #[cycle(statement)]
-fn otherwise(
-    alloc: Global,
-    room: u32,
-    tokens: &[Lexed],
-) -> Result<(Option<Block>, &[Lexed]), Fault>
+fn otherwise(alloc: Global, room: u32, tokens: &[Lexed]) -> Result<(Option<Block>, &[Lexed]), Fault>
     ensures { Parses print_otherwise (option_map block_tree) an_otherwise room tokens.now result }
 {
     let Some(rest) = past(Sign::Else, tokens) else {
