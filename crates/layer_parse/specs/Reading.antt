@@ -149,6 +149,13 @@ pub record Gathers {T : Type 0} (print : T → List Printed → List Printed) (s
   pub goes_on : (stack : List Symbol) → run room (s ∷ stack) tokens ≡ run room (s ∷ stack) rest
   pub no_longer : length rest ≤ length tokens
 
+-- the same where the machine first expects these symbols
+pub record GathersAfter {T : Type 0} (print : T → List Printed → List Printed) (expected : List Symbol) (s : Symbol) (room : ℕ)
+    (tokens : List Lexed) (tree : T) (rest : List Lexed) : Type 0 where
+  pub spelled : (k : List Printed) → Fits k rest → Fits (print tree k) tokens
+  pub goes_on : (stack : List Symbol) → run room (expected ++ stack) tokens ≡ run room (s ∷ stack) rest
+  pub no_longer : length rest ≤ length tokens
+
 -- the same of parts with no brackets in them, where the machine first expects these symbols
 pub record GathersFlat {T : Type 0} (print : T → List Printed → List Printed) (expected : List Symbol) (s : Symbol)
     (tokens : List Lexed) (tree : T) (rest : List Lexed) : Type 0 where
