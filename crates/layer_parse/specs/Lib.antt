@@ -1,3 +1,3 @@
 pub mod Answers
-pub mod Parts
+pub mod Library
 pub mod Reading

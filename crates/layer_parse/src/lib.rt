@@ -1,26 +1,83 @@
 //! The reading of layer files: bytes to trees.
 #![tactic(auto)]
 
+ghost use Rattle.std.specs.Prelude.{◌≡◌, ◌≤◌, length, Err};
+ghost use Rattle.layer_ast.specs.Cut.{cut as cut_of};
+ghost use Rattle.layer_ast.specs.Spells.{longest_file};
+ghost use Rattle.layer_ast.specs.View.{file_tree};
+ghost use Rattle.layer_lex.specs.Pieces.{tokens_of};
+ghost use Rattle.layer_machine.specs.Machine.{refused, run, start};
 ghost use Rattle.layer_parse.specs.Answers.{Answers};
+ghost use Rattle.layer_parse.specs.Reading.{ReadsFile};
 
 mod error;
+mod files;
+mod library;
 mod readers;
 
-use error::ParseError;
+pub use error::ParseError;
+
+use files::file;
 use layer_ast::File;
+use layer_lex::{Tokens, cut, end_of};
+use library::library;
+use readers::Fault;
 use std::alloc::Global;
 
 /// The most bytes that a text may have.
 const LONGEST: usize = 1_048_576;
 
-/// Reads the file that a text spells, and brings it the layers of the library that its places name and it lacks.
+/// Reads the file that a text is: the file that it spells, with the layers of the library that its places name and it lacks. A
+/// refusal has the first place where the text stops being the beginning of a file.
 pub fn parse(alloc: Global, text: &[u8]) -> Result<File, ParseError>
     ensures { Answers text.now result }
 {
     if text.len() > LONGEST {
         return Err(ParseError::TooLarge);
     }
-    Err(ParseError::Memory)
+    let tokens = cut(alloc, text)?;
+    match file(alloc, &tokens.tokens) {
+        Ok(file) => complete(alloc, text, &tokens, file),
+        Err(Fault::Refused(left)) => Err(refusal(text, &tokens, left)),
+        Err(Fault::Memory) => Err(ParseError::Memory),
+    }
+}
+
+/// Brings the layers of the library to the file that a text's tokens spell.
+fn complete(
+    alloc: Global,
+    text: &[u8],
+    tokens: &Tokens,
+    file: File,
+) -> Result<File, ParseError>
+    requires small { length text.now ≤ longest_file }
+    requires cut { tokens_of tokens.now ≡ cut_of text.now }
+    requires read { ReadsFile tokens.now.tokens.items (file_tree file) }
+    ensures { Answers text.now result }
+{
+    if let Some(at) = tokens.bad_at {
+        return Err(ParseError::BadToken(at));
+    }
+    let mut file = file;
+    file.library = library(alloc, &file.layers, &file.places)?;
+    Ok(file)
+}
+
+/// Why a text is refused whose tokens no file goes on with, where so many of them are left.
+fn refusal(text: &[u8], tokens: &Tokens, left: usize) -> ParseError
+    requires small { length text.now ≤ longest_file }
+    requires cut { tokens_of tokens.now ≡ cut_of text.now }
+    requires refused { run 100 start tokens.now.tokens.items ≡ refused left }
+    ensures { Answers text.now (Err result) }
+{
+    if left > 0 {
+        let token = tokens.tokens[tokens.tokens.len() - left];
+        return ParseError::Unexpected(token.at);
+    }
+    match tokens.bad_at {
+        Some(at) => ParseError::BadToken(at),
+        None => ParseError::Unexpected(end_of(text)),
+    }
 }
 
 #[cfg(test)]
