@@ -1,2 +1,6 @@
+pub mod Ending
 pub mod Fit
+pub mod Gathered
 pub mod Signs
+pub mod Under
+pub mod Views
