@@ -1,4 +1,5 @@
 pub mod Ending
+pub mod Exits
 pub mod Fit
 pub mod Gathered
 pub mod Signs

@@ -195,7 +195,7 @@ fn take(
     let (queue, rest) = queue(alloc, room, tokens)?;
     let (names, rest) = names_in_parentheses(alloc, room, rest)?;
     let (block, rest) = block(alloc, room, rest)?;
-    let (otherwise, rest) = read!(else_block(alloc, room, rest));
+    let (otherwise, rest) = else_block(alloc, room, rest)?;
     let at = first.at;
     Ok((
         Statement::Take {
