@@ -40,4 +40,3 @@ parses_as print view from to room tokens (Err Memory) same read = tt
 parses_as print view from to room tokens (Err (Refused n)) same read = record {
   stops = λ stack. same stack ∙ read.stops stack;
 }
-

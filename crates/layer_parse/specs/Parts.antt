@@ -1,5 +1,5 @@
 -- How parts are printed that are no trees of their own.
-use Rattle.std.specs.Prelude.{◌≡◌, ℕ, Bool, List, [], ◌∷◌, Option, Some, None, option_map, Result, Ok, Err}
+use Rattle.std.specs.Prelude.{◌≡◌, ℕ, Bool, true, false, List, [], ◌∷◌, Option, Some, None, option_map, Result, Ok, Err}
 use Rattle.std.specs.Borrow.{Bor}
 use Rattle.layer_ast.specs.declared.names.At.{At}
 use Rattle.layer_ast.specs.declared.names.Name.{Name}
@@ -10,8 +10,6 @@ use Rattle.layer_ast.specs.declared.syntax.Declaration.{Declaration}
 use Rattle.layer_ast.specs.declared.syntax.Expression.{Expression}
 use Rattle.layer_ast.specs.declared.syntax.Items.{Items}
 use Rattle.layer_ast.specs.declared.syntax.Likely.{Likely}
-use Rattle.layer_ast.specs.declared.syntax.Shape.{Shape}
-use Rattle.layer_ast.specs.declared.syntax.Shape.TheVariants.{Square}
 use Rattle.layer_ast.specs.declared.syntax.Statement.{Statement}
 use Rattle.layer_ast.specs.Print.{expression, queue, index, names, some_names, arguments, some_arguments, likely, block, statement, item, more_items, declaration}
 use Rattle.layer_ast.specs.Print as print
@@ -23,6 +21,7 @@ use Rattle.layer_machine.specs.Machine.{more_given}
 use Rattle.layer_machine.specs.Parts.{otherwise, capacity}
 use Rattle.layer_parse.specs.Reading.{ReadsFlat, StopsFlat}
 use Rattle.layer_parse.specs.declared.declarations.QueueCapacity.{QueueCapacity}
+use Rattle.layer_parse.specs.declared.declarations.QueueCapacity.TheVariants.{One, OfArray}
 use Rattle.layer_parse.specs.declared.expressions.Element.{Element}
 use Rattle.layer_parse.specs.declared.expressions.Pair.{Pair}
 use Rattle.layer_parse.specs.declared.expressions.QueueRow.{QueueRow}
@@ -98,28 +97,30 @@ pub record DecisionPrints (at : At) (l : Likely) (condition : Expression) (first
       Fits (statement (statement_tree s) k) tokens
 
 -- what says that an array is a square one, where it does
-abbrev pub print_square : Shape → List Printed → List Printed
-print_square Square k = plain Star ∷ plain N ∷ k
-print_square _ k = k
+abbrev pub print_square : Bool → List Printed → List Printed
+print_square true k = plain Star ∷ plain N ∷ k
+print_square false k = k
 
 -- the capacity of a queue: whether it is an array of queues, and their capacity
 abbrev pub capacity_tree : QueueCapacity → Bool × SizeTree
-capacity_tree c = (c.is_array, size_tree c.size)
+capacity_tree (One size) = (false, size_tree size)
+capacity_tree (OfArray size) = (true, size_tree size)
 
 -- the capacity of a queue in square brackets
 abbrev pub print_capacity : Bool × SizeTree → List Printed → List Printed
 print_capacity c k = plain LeftBracket ∷ capacity c (plain RightBracket ∷ k)
 
--- items in parentheses
-abbrev pub print_items_within : ItemsTree → List Printed → List Printed
-print_items_within is k = plain LeftParen ∷ item is.first (more_items is.rest (plain RightParen ∷ k))
+-- the items of a queue's rows to the end of its declaration
+abbrev pub print_items : ItemsTree → List Printed → List Printed
+print_items is k =
+    plain Of ∷ plain LeftParen ∷ item is.first (more_items is.rest (plain RightParen ∷ plain Semicolon ∷ k))
 
 -- a declaration is that of a queue, or of an array of queues, with this capacity and these items
 pub record QueuePrints (at : At) (n : Name) (size : QueueCapacity) (items : Items) (d : Declaration) : Type 0 where
   pub spelled : (k : List Printed) (tokens : List Lexed) →
       Fits (
       placed State at ∷ plain Queue ∷ name n
-      ∷ print_capacity (capacity_tree size) (plain Of ∷ print_items_within (items_tree items) (plain Semicolon ∷ k))
+      ∷ print_capacity (capacity_tree size) (print_items (items_tree items) k)
       ) tokens →
       Fits (declaration (declaration_tree d) k) tokens
 

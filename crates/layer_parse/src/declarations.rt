@@ -1,10 +1,10 @@
 //! Readers of declarations.
-ghost use Rattle.std.specs.Prelude.{◌≡◌, ◌<◌, ◌≤◌, [], ◌∷◌, ◌++◌, length, map, IfOk, option_map};
+ghost use Rattle.std.specs.Prelude.{◌≡◌, ◌<◌, ◌≤◌, [], ◌∷◌, length, map, IfOk, option_map};
 ghost use Rattle.layer_ast.specs.Print as print;
 ghost use Rattle.layer_ast.specs.View.{expression_tree, item_tree, items_tree, declaration_tree};
-ghost use Rattle.layer_ast.specs.declared.tokens.Sign.TheVariants.{Int, Queue, N, LeftBracket, RightBracket, LeftParen, RightParen};
-ghost use Rattle.layer_machine.specs.Machine.{one, a_name, a_size, a_square, a_shape, an_initial, a_capacity, an_item, more_items as items_behind, a_cell, a_declaration, declarations as more_declarations};
-ghost use Rattle.layer_parse.specs.Parts.{QueuePrints, print_square, print_capacity, capacity_tree, print_items_within};
+ghost use Rattle.layer_ast.specs.declared.tokens.Sign.TheVariants.{N, Of, LeftBracket, RightBracket, LeftParen, RightParen, Colon, Semicolon};
+ghost use Rattle.layer_machine.specs.Machine.{one, a_name, a_sort, a_size, a_square, a_shape, an_initial, a_capacity, an_item, more_items as items_behind, a_declaration, declarations as more_declarations};
+ghost use Rattle.layer_parse.specs.Parts.{QueuePrints, print_square, print_capacity, capacity_tree, print_items};
 ghost use Rattle.layer_parse.specs.Reading.{Parses, ParsesAll, ParsesFlat, ParsesAllFlat, SeesPart, SeesOneOf};
 
 use crate::expressions::expression;
@@ -17,9 +17,9 @@ use std::alloc::Global;
 
 /// The capacity of a queue, or of each queue of an array of queues.
 #[derive(Clone, Copy)]
-pub struct QueueCapacity {
-    pub is_array: bool,
-    pub size: Size,
+pub enum QueueCapacity {
+    One(Size),
+    OfArray(Size),
 }
 
 /// Reads declarations as long as one begins.
@@ -144,20 +144,23 @@ fn shape(room: u32, tokens: &[Lexed]) -> Result<(Shape, &[Lexed]), Fault>
     };
     let _ = room_inside(room, rest)?;
     let rest = sign(Sign::N, rest)?;
-    let (shape, rest) = square(rest)?;
+    let (is_square, rest) = square(rest)?;
     let rest = close(Sign::RightBracket, rest)?;
-    Ok((shape, rest))
+    if is_square {
+        return Ok((Shape::Square, rest));
+    }
+    Ok((Shape::Array, rest))
 }
 
-/// Reads what says that an array is a square one, where it does.
-fn square(tokens: &[Lexed]) -> Result<(Shape, &[Lexed]), Fault>
+/// Reads what says that an array is a square one. The result has whether it does.
+fn square(tokens: &[Lexed]) -> Result<(bool, &[Lexed]), Fault>
     ensures { ParsesFlat print_square (λ s. s) a_square tokens.now result }
 {
     let Some(rest) = past(Sign::Star, tokens) else {
-        return Ok((Shape::Array, tokens));
+        return Ok((false, tokens));
     };
     let rest = sign(Sign::N, rest)?;
-    Ok((Shape::Square, rest))
+    Ok((true, rest))
 }
 
 /// Reads the initial value of a cell, where there is one.
@@ -191,9 +194,7 @@ fn queue(
 {
     let (name, rest) = read!(name(tokens));
     let (capacity, rest) = read!(capacity(room, rest));
-    let rest = sign(Sign::Of, rest)?;
-    let (items, rest) = items_in_parentheses(alloc, room, rest)?;
-    let rest = sign(Sign::Semicolon, rest)?;
+    let (items, rest) = items(alloc, room, rest)?;
     Ok((queue_of(first.at, name, capacity, items), rest))
 }
 
@@ -201,21 +202,19 @@ fn queue(
 fn queue_of(at: At, name: Name, capacity: QueueCapacity, items: Items) -> Declaration
     ensures { QueuePrints at name capacity items result }
 {
-    let QueueCapacity { is_array, size } = capacity;
-    if is_array {
-        Declaration::Queues {
+    match capacity {
+        QueueCapacity::One(capacity) => Declaration::Queue {
             at,
             name,
-            capacity: size,
+            capacity,
             items,
-        }
-    } else {
-        Declaration::Queue {
+        },
+        QueueCapacity::OfArray(capacity) => Declaration::Queues {
             at,
             name,
-            capacity: size,
+            capacity,
             items,
-        }
+        },
     }
 }
 
@@ -244,8 +243,7 @@ fn capacity_of_array(room: u32, tokens: &[Lexed]) -> Result<(QueueCapacity, &[Le
     let (_, rest) = open(room, Sign::LeftBracket, rest)?;
     let (size, rest) = read!(size(rest));
     let rest = close(Sign::RightBracket, rest)?;
-    let is_array = true;
-    Ok((QueueCapacity { is_array, size }, rest))
+    Ok((QueueCapacity::OfArray(size), rest))
 }
 
 /// Reads the capacity of a single queue in square brackets.
@@ -255,8 +253,7 @@ fn capacity_of_one(room: u32, tokens: &[Lexed]) -> Result<(QueueCapacity, &[Lexe
     let (_, rest) = open(room, Sign::LeftBracket, tokens)?;
     let (size, rest) = read!(size(rest));
     let rest = close(Sign::RightBracket, rest)?;
-    let is_array = false;
-    Ok((QueueCapacity { is_array, size }, rest))
+    Ok((QueueCapacity::One(size), rest))
 }
 
 /// Whether a capacity is that of an array of queues.
@@ -269,18 +266,17 @@ fn begins_array(tokens: &[Lexed]) -> bool
     matches!(first.token, Token::Sign(Sign::N))
 }
 
-/// Reads the items of a queue's rows, with commas between them, in parentheses.
-fn items_in_parentheses(
-    alloc: Global,
-    room: u32,
-    tokens: &[Lexed],
-) -> Result<(Items, &[Lexed]), Fault>
-    ensures { ParsesAll print_items_within items_tree (one LeftParen ∷ an_item ++ items_behind ∷ one RightParen ∷ []) room tokens.now result }
+/// Reads the items of a queue's rows to the end of its declaration.
+fn items(alloc: Global, room: u32, tokens: &[Lexed]) -> Result<(Items, &[Lexed]), Fault>
+    ensures { ParsesAll print_items items_tree
+        (one Of ∷ one LeftParen ∷ a_name ∷ one Colon ∷ a_sort ∷ items_behind ∷ one RightParen ∷ one Semicolon ∷ []) room tokens.now result }
 {
-    let (_, rest) = open(room, Sign::LeftParen, tokens)?;
+    let rest = sign(Sign::Of, tokens)?;
+    let (_, rest) = open(room, Sign::LeftParen, rest)?;
     let (first, rest) = read!(item(rest));
     let (more, rest) = more_items(alloc, rest)?;
     let rest = close(Sign::RightParen, rest)?;
+    let rest = sign(Sign::Semicolon, rest)?;
     Ok((Items { first, rest: more }, rest))
 }
 

@@ -242,15 +242,17 @@ fn condition(
 }
 
 /// Reads which way a condition is predicted to go.
+#[tactic(auto, unfolding(layer_ast::specs::Spells::Fits))]
 fn likely(tokens: &[Lexed]) -> (Likely, &[Lexed])
     ensures { ReadsFlat print.likely (a_likely ∷ []) (λ room. room) tokens.now result.0 result.1.now }
 {
-    if let Some(rest) = past(Sign::Rare, tokens) {
-        return (Likely::Else, rest);
-    }
-    match past(Sign::Two, tokens) {
-        Some(rest) => (Likely::Two, rest),
-        None => (Likely::First, tokens),
+    let Some((first, rest)) = tokens.split_first() else {
+        return (Likely::First, tokens);
+    };
+    match first.token {
+        Token::Sign(Sign::Rare) => (Likely::Else, rest),
+        Token::Sign(Sign::Two) => (Likely::Two, rest),
+        _ => (Likely::First, tokens),
     }
 }
 
