@@ -7,11 +7,10 @@ overflow_sub-len c =
     let within = left_within c.args.tokens.now.tokens.items c.args.left c.requires.refused in search (rules, within)
 
 pub returns-then-left-gt0 : goal.returns-then-left-gt0
-returns-then-left-gt0 c = (
-  c.requires.small,
-  inl (inside_here c.args.text.now c.args.tokens.now.tokens.items c.args.tokens.now.bad_at c.requires.cut c.args.left
-      c.len.result c.index-token.result.now c.if-left-gt0.true c.requires.refused (search rules) c.index-token.ensures),
-)
+returns-then-left-gt0 c =
+    let stops = inside_here c.args.text.now c.args.tokens.now.tokens.items c.args.tokens.now.bad_at c.requires.cut c.args.left
+    c.len.result c.index-token.result.now c.if-left-gt0.true c.requires.refused (search rules) c.index-token.ensures in
+    (c.requires.small, inl (search (rules, stops)))
 
 pub returns-in-Some : goal.returns-in-Some
 returns-in-Some c = (
