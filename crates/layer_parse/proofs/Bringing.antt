@@ -1,6 +1,5 @@
 -- One place more, and what the library brings for it.
-use Rattle.std.proofs.Common.{◌≡◌, ◌≢◌, ℕ, ◌+◌, ◌<◌, List, [], ◌∷◌, ◌++◌, length, take, get_or, map, filter, filter_map, Bool, true, false, not, ◌||◌, cond, if◌then◌else◌, Option, Some, None, bytes_eq, refl, sym, ap, subst, ◌∙◌, append-nil}
-use Rattle.std.proofs.lemmas.Bool.{leb-true}
+use Rattle.std.proofs.Common.{◌≡◌, ◌≢◌, ℕ, ◌+◌, ◌<◌, List, [], ◌∷◌, ◌++◌, length, take, get_or, map, filter, filter_map, Bool, true, false, not, ◌||◌, cond, if◌then◌else◌, Some, None, bytes_eq, refl, sym, ap, subst, ◌∙◌, append-nil}
 use Rattle.std.proofs.lemmas.List.{map_more, map-append}
 use Rattle.std.proofs.lemmas.List.Elements.{filter-append, filter_map-append}
 use Rattle.std.proofs.lemmas.List.Folds.{list_any-append}
@@ -203,8 +202,10 @@ brought layers w text seen later all more l is new lacked pushed spells grown = 
   brings = λ words before.
       let absent : has words w ≡ false = sym (before.known w (some_text w text is)) ∙ sym new in
       record {
-        spelled = rw (map-append layer_tree all (l ∷ []),
-            called_new (map layer_tree layers) words w text (sym is) (ap not (lacking layers w ∙ sym lacked)) absent)
+        spelled = rw (
+          map-append layer_tree all (l ∷ []),
+          called_new (map layer_tree layers) words w text (sym is) (ap not (lacking layers w ∙ sym lacked)) absent,
+        )
             (all_zip_push (called (map layer_tree layers) words) (map layer_tree all) text (layer_tree l) before.spelled spells);
         known = λ v some. known_more seen words w v (before.known v some);
       };
@@ -221,6 +222,9 @@ pub next_place : (layers : List LayerTree) (places : List Place) (i : ℕ) (p : 
     BringsFor layers p.name.word seen later before behind →
     Brought layers (map (λ place. place.name.word) (map place_tree (take (i + 1) places))) later behind
 next_place layers places i p seen later before behind within is so_far brings =
-    rw (map_more place_tree places i p within, ← is,
-    map-append (λ place. place.name.word) (map place_tree (take i places)) (place_tree p ∷ []))
+    rw (
+      map_more place_tree places i p within,
+      ← is,
+      map-append (λ place. place.name.word) (map place_tree (take i places)) (place_tree p ∷ []),
+    )
     (brings.brings (map (λ place. place.name.word) (map place_tree (take i places))) so_far)

@@ -1,5 +1,5 @@
 -- Each text of the library is one layer.
-use Rattle.std.proofs.Common.{◌≡◌, ◌≢◌, ℕ, ◌≤◌, leb, List, [], ◌∷◌, length, cond, Bool, true, false, Option, Some, None, All, bytes_eq, refl, sym, ap, subst, ◌∙◌}
+use Rattle.std.proofs.Common.{◌≡◌, ℕ, leb, List, [], ◌∷◌, length, cond, Bool, true, false, Option, Some, bytes_eq, refl, sym, ap, subst, ◌∙◌}
 use Rattle.std.proofs.lemmas.Bool.{leb-true}
 use Rattle.std.specs.Map.{lookup}
 use Rattle.file_mean.specs.Library.{SpellsLayer}
@@ -15,7 +15,7 @@ use Rattle.layer_lib.specs.Order.{collect, stable, local, total}
 use Rattle.layer_lib.specs.Membership.{suspect, elect, sync, intra, top}
 use Rattle.layer_machine.specs.Machine.{a_layer}
 use Rattle.layer_machine.proofs.Complete.{toks, accepts, layer_drives}
-use Rattle.layer_machine.proofs.Runs.{tokens_in, tokens_fit, run_accepts}
+use Rattle.layer_machine.proofs.Runs.{tokens_fit, run_accepts}
 use Rattle.layer_parse.specs.Library.{IsLayerText}
 use Rattle.library_trees.proofs.Texts.Bottom as bottom_text
 use Rattle.library_trees.proofs.Texts.Mnak as mnak_text

@@ -6,7 +6,7 @@ use Rattle.layer_ast.specs.declared.tokens.Sign.{Sign}
 use Rattle.layer_ast.specs.Depth.{room_behind}
 use Rattle.layer_ast.specs.Printed.{Printed}
 use Rattle.layer_machine.specs.Machine.{Symbol, one, is_sign, eats, refuses, moved, feed, step, run, Outcome}
-use Rattle.layer_parse.specs.Reading.{Reads, Stops, Begins, ParsesAll}
+use Rattle.layer_parse.specs.Reading.{Begins, ParsesAll}
 use Rattle.layer_parse.specs.declared.readers.Fault.{Fault}
 use Rattle.layer_parse.specs.declared.readers.Fault.TheVariants.{Refused, Memory}
 

@@ -1,5 +1,5 @@
 -- What the reading of a whole text says of it.
-use Rattle.std.proofs.Common.{◌≡◌, ℕ, zero, suc, ◌+◌, ◌-◌, ◌<◌, ◌≤◌, List, [], ◌∷◌, length, map, slice_get, get_or, Option, Some, None, ◌⊎◌, inl, inr, refl, sym, ap, subst, ◌∙◌, arith}
+use Rattle.std.proofs.Common.{◌≡◌, ℕ, zero, suc, ◌+◌, ◌-◌, ◌<◌, ◌≤◌, List, [], ◌∷◌, length, slice_get, get_or, Option, Some, None, refl, sym, ap, subst, ◌∙◌, arith}
 use Rattle.std.proofs.lemmas.Option.{slice_get_read}
 use Rattle.file_mean.specs.Library.{SpellsLayer, HasLibrary, IsFile}
 use Rattle.layer_ast.specs.declared.names.At.{At}
@@ -7,13 +7,13 @@ use Rattle.layer_ast.specs.declared.tokens.Lexed.{Lexed}
 use Rattle.layer_ast.specs.Cut.{cut, Tokens}
 use Rattle.layer_ast.specs.Depth.{room_behind}
 use Rattle.layer_ast.specs.Print as print
-use Rattle.layer_ast.specs.Spells.{Fits, Spells, longest_file}
+use Rattle.layer_ast.specs.Spells.{Fits}
 use Rattle.layer_ast.specs.Stops.{end_of, StopsBad, StopsInside, StopsAtEnd}
 use Rattle.layer_ast.specs.Tree.{LayerTree, FileTree}
 use Rattle.layer_machine.specs.Machine.{Symbol, a_layer, start, Outcome, accepted, refused, step, run}
 use Rattle.layer_machine.proofs.Runs.{tokens_in, accepted_takes, goes_within, stops_with}
 use Rattle.layer_machine.proofs.Texts.{accepted_bad, refused_bad, refused_end, refused_inside}
-use Rattle.layer_parse.specs.Library.{IsLayerText, called}
+use Rattle.layer_parse.specs.Library.{IsLayerText}
 use Rattle.layer_parse.specs.Reading.{Reads, ReadsFile}
 
 no_stack : (room : Option ℕ) (n : ℕ) (go : ℕ → List Symbol → Outcome) → step room None n go ≡ refused n
@@ -41,7 +41,7 @@ module _ (text : List ℕ) (tokens : List Lexed) (bad_at : Option At) (cuts : re
         Reads print.layer (a_layer ∷ []) 100 tokens l rest → SpellsLayer text l
     layer_spelled l rest is read =
         let ends : run 100 [] rest ≡ accepted =
-            sym (read.goes_on []) ∙ (ap (run 100 (a_layer ∷ [])) same_tokens ∙ is.taken) in
+        sym (read.goes_on []) ∙ (ap (run 100 (a_layer ∷ [])) same_tokens ∙ is.taken) in
         record {
           good = is.good;
           fits = subst (Fits (print.layer l [])) same_tokens (read.spelled [] (nothing_left rest 100 ends));

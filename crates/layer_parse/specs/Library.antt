@@ -1,5 +1,5 @@
 -- What bringing a file the layers of the library means, place by place.
-use Rattle.std.specs.Prelude.{◌≡◌, ◌≢◌, ℕ, ◌≤◌, List, [], ◌∷◌, ◌++◌, length, map, filter, filter_map, Bool, bytes_eq, None}
+use Rattle.std.specs.Prelude.{◌≡◌, ◌≢◌, ℕ, ◌≤◌, List, [], ◌∷◌, ◌++◌, length, filter, filter_map, Bool, bytes_eq, None}
 use Rattle.std.specs.List.{AllZip, list_any}
 use Rattle.file_mean.specs.Library.{SpellsLayer, lacks, each_once}
 use Rattle.layer_ast.specs.declared.names.Word.{Word}

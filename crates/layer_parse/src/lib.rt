@@ -22,7 +22,6 @@ mod readers;
 mod statements;
 
 pub use error::ParseError;
-
 use files::file;
 use layer_ast::File;
 use layer_lex::{Tokens, cut, end_of};
@@ -50,12 +49,7 @@ pub fn parse(alloc: Global, text: &[u8]) -> Result<File, ParseError>
 }
 
 /// Brings the layers of the library to the file that a text's tokens spell.
-fn complete(
-    alloc: Global,
-    text: &[u8],
-    tokens: &Tokens,
-    file: File,
-) -> Result<File, ParseError>
+fn complete(alloc: Global, text: &[u8], tokens: &Tokens, file: File) -> Result<File, ParseError>
     requires small { length text.now ≤ longest_file }
     requires cut { tokens_of tokens.now ≡ cut_of text.now }
     requires read { ReadsFile tokens.now.tokens.items (file_tree file) }
@@ -163,14 +157,38 @@ stack { every(keep = 9, a = 0); bottom; top; }
         let texts: [(&[u8], ParseError); 10] = [
             (b"", ParseError::Unexpected(At { line: 1, col: 1 })),
             (b"stack { }", ParseError::Unexpected(At { line: 1, col: 9 })),
-            (b"stack { layer; }", ParseError::Unexpected(At { line: 1, col: 9 })),
-            (b"stack { a; } }", ParseError::Unexpected(At { line: 1, col: 14 })),
-            (b"stack { a; } !", ParseError::BadToken(At { line: 1, col: 14 })),
-            (b"stack { a; 012", ParseError::BadToken(At { line: 1, col: 12 })),
-            (b"stack { a ! }", ParseError::BadToken(At { line: 1, col: 11 })),
-            (b"stack { a a !", ParseError::Unexpected(At { line: 1, col: 11 })),
-            (b"stack {\n a(k = 1;", ParseError::Unexpected(At { line: 2, col: 9 })),
-            (b"stack {\n a;\n", ParseError::Unexpected(At { line: 3, col: 1 })),
+            (
+                b"stack { layer; }",
+                ParseError::Unexpected(At { line: 1, col: 9 }),
+            ),
+            (
+                b"stack { a; } }",
+                ParseError::Unexpected(At { line: 1, col: 14 }),
+            ),
+            (
+                b"stack { a; } !",
+                ParseError::BadToken(At { line: 1, col: 14 }),
+            ),
+            (
+                b"stack { a; 012",
+                ParseError::BadToken(At { line: 1, col: 12 }),
+            ),
+            (
+                b"stack { a ! }",
+                ParseError::BadToken(At { line: 1, col: 11 }),
+            ),
+            (
+                b"stack { a a !",
+                ParseError::Unexpected(At { line: 1, col: 11 }),
+            ),
+            (
+                b"stack {\n a(k = 1;",
+                ParseError::Unexpected(At { line: 2, col: 9 }),
+            ),
+            (
+                b"stack {\n a;\n",
+                ParseError::Unexpected(At { line: 3, col: 1 }),
+            ),
         ];
         for text in texts {
             assert_eq!(rt; parse(rt.alloc(), text.0).err(), Some(text.1));

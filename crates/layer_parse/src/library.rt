@@ -14,11 +14,7 @@ use std::alloc::{AllocError, Global};
 
 /// The layers of the library that places name and a file lacks, each once, in the order of the places. Each name of the
 /// library is looked for among the layers at most once.
-pub fn library(
-    alloc: Global,
-    layers: &[Layer],
-    places: &[Place],
-) -> Result<Vec<Layer>, AllocError>
+pub fn library(alloc: Global, layers: &[Layer], places: &[Place]) -> Result<Vec<Layer>, AllocError>
     ensures { IfOk result (λ v. AllZip SpellsLayer
         (called (map layer_tree layers.now) (map (λ place. place.name.word) (map place_tree places.now)))
         (map layer_tree v.items)) }

@@ -1,4 +1,3 @@
-use Rattle.std.proofs.Common.{rules}
 use Rattle.layer_ast.specs.View.{file_tree}
 use Rattle.layer_parse.proofs.Whole.{read_bad, read_file}
 use Rattle.layer_parse.proofs.complete.Goals as goal

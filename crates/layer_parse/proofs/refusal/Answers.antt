@@ -1,4 +1,4 @@
-use Rattle.std.proofs.Common.{◌≡◌, length, inl, inr, rules}
+use Rattle.std.proofs.Common.{inl, inr, rules}
 use Rattle.layer_parse.proofs.Whole.{left_within, inside_here, end_bad, end_early, nothing_more}
 use Rattle.layer_parse.proofs.refusal.Goals as goal
 

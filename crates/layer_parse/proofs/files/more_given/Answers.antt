@@ -1,4 +1,4 @@
-use Rattle.layer_parse.proofs.Gathered.{given_gathered, given_ends}
+use Rattle.layer_parse.proofs.Gathered.{given_gathered}
 use Rattle.layer_parse.proofs.files.more_given.Goals as goal
 
 pub loop-behind-preserved : goal.loop-behind-preserved
