@@ -110,7 +110,7 @@ stack { cnt; }
   state queue q[keep] of (m: msg, p: part);
   state queue r[n][4] of (k: int);
   header one(x, y) passes;
-  header two() ends;
+  header other() ends;
   up Cast(o, m) with one(x, y) common (not(x) and bit(y)) {
     let z = (count(x) | lowest(at(r[o], 0).k));
     set a = z;
@@ -119,9 +119,9 @@ stack { cnt; }
     push q (m, held(q, 0)) else { }
     take r[o] (k) { up Cast(o, m); } else { set a = (a - k); }
     if rare (a == b[o]) { } else { if two (a != 1) { } }
-    each i below len(q) max keep { if (i >= 2) { down Send(i, nothing) with two(); } }
+    each i below len(q) max keep { if (i >= 2) { down Send(i, nothing) with other(); } }
   }
-  up Send(o, m) with two() rare { }
+  up Send(o, m) with other() rare { }
   down Timer(t) { }
 }
 stack { every(keep = 9, a = 0); bottom; top; }
