@@ -13,6 +13,10 @@ Fits [] [] = Unit {0}
 Fits (p ∷ printed) (l ∷ lexed) = (l.token ≡ p.token) × IfSome p.at (λ at. l.at ≡ at) × Fits printed lexed
 Fits _ _ = ⊥
 
+-- the most bytes of a file
+abbrev pub longest_file : ℕ
+longest_file = 1048576
+
 -- the file has a place in its stack
 abbrev pub HasPlace : FileTree → Type 0
 HasPlace f = f.places ≢ []

@@ -1,5 +1,5 @@
 -- The end of a file.
-use Rattle.std.proofs.Common.{All, ◌≡◌, ℕ, suc, nat_eq, true, false, List, [], ◌∷◌, length, Option, Some, None, refl, true≢false, sym, ap, ◌∙◌, ◌<◌, arith, eqb-true}
+use Rattle.std.proofs.Common.{◌≡◌, ℕ, suc, nat_eq, true, false, List, [], ◌∷◌, length, Option, Some, None, refl, true≢false, sym, ap, ◌∙◌, ◌<◌, arith, eqb-true}
 use Rattle.layer_ast.specs.declared.tokens.Lexed.{Lexed}
 use Rattle.layer_ast.specs.Depth.{room_behind}
 use Rattle.layer_ast.specs.declared.tokens.Sign.TheVariants as sign
@@ -7,8 +7,7 @@ use Rattle.layer_ast.specs.Print as print
 use Rattle.layer_ast.specs.Printed.{plain}
 use Rattle.layer_ast.specs.Spells.{Fits}
 use Rattle.layer_ast.specs.Tree.{LayerTree, PlaceTree}
-use Rattle.layer_parse.specs.FirstForm.{IsFirstFormLayer, IsFirstFormPlace}
-use Rattle.layer_parse.specs.Machine.{Symbol, one, layers, a_place, places, accepted, refused, step, run, start, Outcome}
+use Rattle.layer_machine.specs.Machine.{Symbol, one, layers, a_place, places, accepted, refused, step, run, start, Outcome}
 use Rattle.layer_parse.specs.Reading.{Reads, ReadsFlat, ReadsOpening, ReadsFile}
 
 no_stack : (room : Option ℕ) (n : ℕ) (go : ℕ → List Symbol → Outcome) → step room None n go ≡ refused n
@@ -35,23 +34,22 @@ module _ (tokens behind_layers behind_stack inside_stack behind_places rest : Li
     (ps : List PlaceTree) (a : Reads print.layers (layers ∷ []) 100 tokens ls behind_layers)
     (b : ReadsFlat (λ p k. p ∷ k) (one sign.Stack ∷ []) (λ room. room) behind_layers (plain sign.Stack) behind_stack)
     (c : ReadsOpening sign.LeftBrace 100 behind_stack inside inside_stack)
-    (d : ReadsFlat print.places (a_place ∷ places ∷ []) (λ room. room) inside_stack ps behind_places)
+    (d : Reads print.places (a_place ∷ places ∷ []) inside inside_stack ps behind_places)
     (e : ReadsFlat (λ p k. p ∷ k) (one sign.RightBrace ∷ []) suc behind_places (plain sign.RightBrace) rest) where
   file_goes_on : run 100 start tokens ≡ run (suc inside) [] rest
   file_goes_on =
       a.goes_on (one sign.Stack ∷ one sign.LeftBrace ∷ a_place ∷ places ∷ one sign.RightBrace ∷ [])
       ∙ (b.goes_on 100 (one sign.LeftBrace ∷ a_place ∷ places ∷ one sign.RightBrace ∷ [])
       ∙ (c.goes_on (a_place ∷ places ∷ one sign.RightBrace ∷ [])
-      ∙ (d.goes_on inside (one sign.RightBrace ∷ []) ∙ e.goes_on inside [])))
+      ∙ (d.goes_on (one sign.RightBrace ∷ []) ∙ e.goes_on inside [])))
 
   pub file_refused : false ≡ nat_eq (length rest) 0 → run 100 start tokens ≡ refused (length rest)
   file_refused is = file_goes_on ∙ ends_later rest (suc inside) (sym is)
 
-  pub file_read : true ≡ nat_eq (length rest) 0 → 0 < length ps → All IsFirstFormLayer ls → All IsFirstFormPlace ps →
-      (library : List LayerTree) → library ≡ [] → ReadsFile tokens record { layers = ls; places = ps; library = library }
-  file_read is some layers_formed places_formed library none_of_it = record {
+  pub file_read : true ≡ nat_eq (length rest) 0 → 0 < length ps → (library : List LayerTree) →
+      ReadsFile tokens record { layers = ls; places = ps; library = library }
+  file_read is some library = record {
     fits = a.spelled _ (b.spelled _ (c.spelled _ (d.spelled _ (e.spelled [] (nothing_fits rest (sym is))))));
     accepts = file_goes_on ∙ ends_here rest (suc inside) (sym is);
     placed = λ none. absurd (omega (arith, ap length none));
-    formed = record { layers = layers_formed; places = places_formed; library = none_of_it };
   }

@@ -1,36 +1,25 @@
 -- Part after part, a repetition is read.
-use Rattle.std.proofs.Common.{◌≡◌, ℕ, ◌≤◌, List, [], ◌∷◌, ◌++◌, length, map, All, refl, sym, ap, subst, ◌∙◌, arith}
+use Rattle.std.proofs.Common.{◌≡◌, ℕ, suc, ◌≤◌, List, [], ◌∷◌, ◌++◌, length, map, refl, sym, ap, subst, ◌∙◌, arith}
 use Rattle.std.proofs.lemmas.List.{map-append}
-use Rattle.std.proofs.lemmas.List.Elements.{All-push}
 use Rattle.layer_ast.specs.declared.tokens.Lexed.{Lexed}
-use Rattle.layer_ast.specs.declared.tokens.Sign.TheVariants.{Comma}
+use Rattle.layer_ast.specs.declared.tokens.Sign.TheVariants.{Comma, LeftParen, RightParen}
 use Rattle.layer_ast.specs.declared.names.Name.{Name}
 use Rattle.layer_ast.specs.declared.syntax.Argument.{Argument}
-use Rattle.layer_ast.specs.declared.syntax.Argument.TheVariants.{Value}
 use Rattle.layer_ast.specs.declared.syntax.Declaration.{Declaration}
-use Rattle.layer_ast.specs.declared.syntax.Expression.{Expression}
+use Rattle.layer_ast.specs.declared.syntax.Given.{Given}
 use Rattle.layer_ast.specs.declared.syntax.Handler.{Handler}
+use Rattle.layer_ast.specs.declared.syntax.Item.{Item}
 use Rattle.layer_ast.specs.declared.syntax.Layer.{Layer}
 use Rattle.layer_ast.specs.declared.syntax.Place.{Place}
 use Rattle.layer_ast.specs.declared.syntax.Statement.{Statement}
 use Rattle.layer_ast.specs.Print as print
 use Rattle.layer_ast.specs.Printed.{Printed, plain, name}
 use Rattle.layer_ast.specs.Spells.{Fits}
-use Rattle.layer_ast.specs.View.{expression_tree, argument_tree, statement_tree, statement_trees, handler_tree, declaration_tree, layer_tree, place_tree}
-use Rattle.layer_parse.specs.FirstForm.{IsFirstFormStatement, IsFirstFormBlock}
-use Rattle.layer_parse.specs.Machine.{Symbol, a_name, an_expression, more_arguments, more_names, a_statement, statements, a_handler, handlers, a_declaration, declarations, a_layer, layers, a_place, places, run}
-use Rattle.layer_parse.specs.Reading.{Reads, ReadsFlat, Passes, Begins, Gathers, GathersFlat}
-
--- one more part of the first form is gathered
-pub form_gathered : {A T : Type 0} (P : T → Type 0) (view : A → T) (all : List A) (x : A) → All P (map view all) → P (view x) →
-    All P (map view (all ++ x ∷ []))
-form_gathered P view all x so_far here =
-    subst (All P) (sym (map-append view all (x ∷ []))) (All-push P (map view all) (view x) so_far here)
-
-pub statement_formed : (all : List Statement) (s : Statement) → IsFirstFormBlock (statement_trees all) →
-    IsFirstFormStatement (statement_tree s) → IsFirstFormBlock (statement_trees (all ++ s ∷ []))
-statement_formed [] s so_far here = (here, tt)
-statement_formed (x ∷ all) s so_far here = (so_far.0, statement_formed all s so_far.1 here)
+use Rattle.layer_ast.specs.Tree.{GivenTree}
+use Rattle.layer_ast.specs.View.{argument_tree, item_tree, given_tree, statement_tree, statement_trees, handler_tree, declaration_tree, layer_tree, place_tree}
+use Rattle.layer_machine.specs.Machine.{Symbol, one, a_name, an_argument, more_arguments, more_names, an_item, more_items, a_given, more_given, some_given, a_statement, statements, a_handler, handlers, a_declaration, declarations, a_layer, layers, a_place, places, run}
+use Rattle.layer_parse.specs.Parts.{ReadsGiven}
+use Rattle.layer_parse.specs.Reading.{Reads, ReadsFlat, Passes, Unseen, Begins, Gathers, GathersAfter, GathersFlat}
 
 -- one more part is gathered, where printing it behind the others is printing them all
 gathered : {L : Type 0} (print : L → List Printed → List Printed) (many : Symbol) (room : ℕ) (tokens rest last : List Lexed)
@@ -46,22 +35,22 @@ gathered print many room tokens rest last before after part same so_far spelled 
 }
 
 -- printing one more argument
-arguments-append : (all : List Argument) (e : Expression) (k : List Printed) →
-    print.more_arguments (map argument_tree (all ++ Value e ∷ [])) k
-    ≡ print.more_arguments (map argument_tree all) (plain Comma ∷ print.expression (expression_tree e) k)
-arguments-append [] e k = refl
-arguments-append (x ∷ all) e k =
-    ap (λ printed. plain Comma ∷ print.argument (argument_tree x) printed) (arguments-append all e k)
+arguments-append : (all : List Argument) (a : Argument) (k : List Printed) →
+    print.more_arguments (map argument_tree (all ++ a ∷ [])) k
+    ≡ print.more_arguments (map argument_tree all) (plain Comma ∷ print.argument (argument_tree a) k)
+arguments-append [] a k = refl
+arguments-append (x ∷ all) a k =
+    ap (λ printed. plain Comma ∷ print.argument (argument_tree x) printed) (arguments-append all a k)
 
--- a comma and an expression are one more argument
-pub argument_gathered : (room : ℕ) (tokens rest behind last : List Lexed) (all : List Argument) (e : Expression) →
+-- a comma and an argument are one more argument
+pub argument_gathered : (room : ℕ) (tokens rest behind last : List Lexed) (all : List Argument) (a : Argument) →
     Gathers print.more_arguments more_arguments room tokens (map argument_tree all) rest → Passes Comma rest behind →
-    Reads print.expression (an_expression ∷ []) room behind (expression_tree e) last →
-    Gathers print.more_arguments more_arguments room tokens (map argument_tree (all ++ Value e ∷ [])) last
-argument_gathered room tokens rest behind last all e so_far comma read =
+    Reads print.argument (an_argument ∷ []) room behind (argument_tree a) last →
+    Gathers print.more_arguments more_arguments room tokens (map argument_tree (all ++ a ∷ [])) last
+argument_gathered room tokens rest behind last all a so_far comma read =
     gathered print.more_arguments more_arguments room tokens rest last (map argument_tree all)
-    (map argument_tree (all ++ Value e ∷ [])) (λ k. plain Comma ∷ print.expression (expression_tree e) k)
-    (arguments-append all e) so_far (λ k h. comma.spelled _ (read.spelled k h))
+    (map argument_tree (all ++ a ∷ [])) (λ k. plain Comma ∷ print.argument (argument_tree a) k)
+    (arguments-append all a) so_far (λ k h. comma.spelled _ (read.spelled k h))
     (λ stack. comma.steps room more_arguments stack ∙ read.goes_on (more_arguments ∷ stack))
     (omega (arith, comma.shorter, read.no_longer))
 
@@ -84,6 +73,96 @@ name_gathered tokens rest behind last all n so_far comma read = record {
       so_far.goes_on room stack ∙ (comma.steps room more_names stack ∙ read.goes_on room (more_names ∷ stack));
   no_longer = omega (arith, so_far.no_longer, comma.shorter, read.no_longer);
 }
+
+-- printing one more of them
+items-append : (all : List Item) (x : Item) (k : List Printed) →
+    print.more_items (map item_tree (all ++ x ∷ [])) k
+    ≡ print.more_items (map item_tree all) (plain Comma ∷ print.item (item_tree x) k)
+items-append [] x k = refl
+items-append (y ∷ all) x k =
+    ap (λ printed. plain Comma ∷ print.item (item_tree y) printed) (items-append all x k)
+
+-- a comma and an item are one more item
+pub item_gathered : (tokens rest behind last : List Lexed) (all : List Item) (x : Item) →
+    GathersFlat print.more_items (more_items ∷ []) more_items tokens (map item_tree all) rest → Passes Comma rest behind →
+    ReadsFlat print.item an_item (λ room. room) behind (item_tree x) last →
+    GathersFlat print.more_items (more_items ∷ []) more_items tokens (map item_tree (all ++ x ∷ [])) last
+item_gathered tokens rest behind last all x so_far comma read = record {
+  spelled = λ k h.
+      subst (λ printed. Fits printed tokens) (sym (items-append all x k))
+      (so_far.spelled _ (comma.spelled _ (read.spelled k h)));
+  goes_on = λ room stack.
+      so_far.goes_on room stack ∙ (comma.steps room more_items stack ∙ read.goes_on room (more_items ∷ stack));
+  no_longer = omega (arith, so_far.no_longer, comma.shorter, read.no_longer);
+}
+
+-- printing one more of them
+givens-append : (all : List GivenTree) (x : GivenTree) (k : List Printed) →
+    print.more_given (all ++ x ∷ []) k ≡ print.more_given all (plain Comma ∷ print.given x k)
+givens-append [] x k = refl
+givens-append (y ∷ all) x k = ap (λ printed. plain Comma ∷ print.given y printed) (givens-append all x k)
+
+-- the params of a place so far, behind a first one
+pub record GathersGiven (first : GivenTree) (tokens : List Lexed) (all : List GivenTree) (rest : List Lexed) : Type 0 where
+  pub more : List GivenTree
+  pub is : all ≡ first ∷ more
+  pub read : GathersFlat print.more_given (more_given ∷ []) more_given tokens more rest
+
+-- behind the first one stand none yet
+pub given_none : (first : Given) (tokens : List Lexed) →
+    GathersGiven (given_tree first) tokens (map given_tree (first ∷ [])) tokens
+given_none first tokens = record {
+  more = [];
+  is = refl;
+  read = record { spelled = λ k h. h; goes_on = λ room stack. refl; no_longer = omega arith };
+}
+
+-- a comma and a given param are one more
+pub given_gathered : (first : GivenTree) (tokens rest behind last : List Lexed) (all : List Given) (x : Given) →
+    GathersGiven first tokens (map given_tree all) rest → Passes Comma rest behind →
+    ReadsFlat print.given a_given (λ room. room) behind (given_tree x) last →
+    GathersGiven first tokens (map given_tree (all ++ x ∷ [])) last
+given_gathered first tokens rest behind last all x so_far comma read = record {
+  more = so_far.more ++ given_tree x ∷ [];
+  is = map-append given_tree all (x ∷ []) ∙ ap (λ list. list ++ given_tree x ∷ []) so_far.is;
+  read = record {
+    spelled = λ k h.
+        subst (λ printed. Fits printed tokens) (sym (givens-append so_far.more (given_tree x) k))
+        (so_far.read.spelled _ (comma.spelled _ (read.spelled k h)));
+    goes_on = λ room stack.
+        so_far.read.goes_on room stack ∙ (comma.steps room more_given stack ∙ read.goes_on room (more_given ∷ stack));
+    no_longer = omega (arith, so_far.read.no_longer, comma.shorter, read.no_longer);
+  };
+}
+
+-- all of them are read where no comma follows
+pub given_ends : (first : GivenTree) (tokens : List Lexed) (all : List GivenTree) (rest : List Lexed) →
+    GathersGiven first tokens all rest → Unseen Comma rest → ReadsGiven first tokens all rest
+given_ends first tokens all rest so_far unseen = record {
+  more = so_far.more;
+  is = so_far.is;
+  read = record {
+    spelled = so_far.read.spelled;
+    goes_on = λ room stack. so_far.read.goes_on room stack ∙ unseen.goes_on more_given tt room stack;
+    no_longer = so_far.read.no_longer;
+  };
+}
+
+-- a parenthesis, a first param, those behind it and a parenthesis are all params of a place
+pub given_read : (room inside : ℕ) (tokens behind behind_first behind_all rest : List Lexed) (first : GivenTree)
+    (all : List GivenTree) → Passes LeftParen tokens behind → room ≡ suc inside →
+    ReadsFlat print.given a_given (λ left. left) behind first behind_first → ReadsGiven first behind_first all behind_all →
+    ReadsFlat (λ p k. p ∷ k) (one RightParen ∷ []) suc behind_all (plain RightParen) rest →
+    Reads print.all_given (some_given ∷ []) room tokens all rest
+given_read room inside tokens behind behind_first behind_all rest first all opens within read more closes =
+    rw (within, more.is) record {
+      spelled = λ k h. opens.spelled _ (read.spelled _ (more.read.spelled _ (closes.spelled k h)));
+      goes_on = λ stack.
+          opens.steps (suc inside) some_given stack
+          ∙ (read.goes_on inside (more_given ∷ one RightParen ∷ stack)
+          ∙ (more.read.goes_on inside (one RightParen ∷ stack) ∙ closes.goes_on inside stack));
+      no_longer = omega (arith, opens.shorter, read.no_longer, more.read.no_longer, closes.no_longer);
+    }
 
 module _ {L T : Type 0} (print_all : L → List Printed → List Printed) (print_one : T → List Printed → List Printed)
     (many one_of_them : Symbol) (room : ℕ) (tokens rest last : List Lexed) (before after : L) (part : T) where
@@ -162,14 +241,14 @@ module _ (room : ℕ) (tokens rest last : List Lexed) where
       (map layer_tree (all ++ l ∷ [])) (layer_tree l) (layers-append all l)
 
 -- one more place of the stack
-pub place_gathered : (tokens rest last : List Lexed) (expected : List Symbol) (all : List Place) (p : Place) →
-    GathersFlat print.places expected places tokens (map place_tree all) rest → Begins places (a_place ∷ places ∷ []) rest →
-    ReadsFlat print.place (a_place ∷ []) (λ room. room) rest (place_tree p) last →
-    GathersFlat print.places expected places tokens (map place_tree (all ++ p ∷ [])) last
-place_gathered tokens rest last expected all p so_far begins read = record {
+pub place_gathered : (room : ℕ) (tokens rest last : List Lexed) (expected : List Symbol) (all : List Place) (p : Place) →
+    GathersAfter print.places expected places room tokens (map place_tree all) rest → Begins places (a_place ∷ places ∷ []) rest →
+    Reads print.place (a_place ∷ []) room rest (place_tree p) last →
+    GathersAfter print.places expected places room tokens (map place_tree (all ++ p ∷ [])) last
+place_gathered room tokens rest last expected all p so_far begins read = record {
   spelled = λ k h.
       subst (λ printed. Fits printed tokens) (sym (places-append all p k)) (so_far.spelled _ (read.spelled k h));
-  goes_on = λ room stack.
-      so_far.goes_on room stack ∙ (begins.begins room stack ∙ read.goes_on room (places ∷ stack));
+  goes_on = λ stack.
+      so_far.goes_on stack ∙ (begins.begins room stack ∙ read.goes_on (places ∷ stack));
   no_longer = omega (arith, so_far.no_longer, read.no_longer);
 }

@@ -10,7 +10,7 @@ use Rattle.layer_ast.specs.declared.tokens.Token.TheVariants as token
 use Rattle.layer_ast.specs.Depth.{room_inside, room_behind}
 use Rattle.layer_ast.specs.Printed.{plain}
 use Rattle.layer_parse.proofs.Fit.{fits_first}
-use Rattle.layer_parse.specs.Machine.{Symbol, one, is_sign, eats, refuses, moved, feed, step, run, Outcome}
+use Rattle.layer_machine.specs.Machine.{Symbol, one, is_sign, eats, refuses, moved, feed, step, run, Outcome}
 use Rattle.layer_parse.specs.Reading.{ReadsFlat, ReadsOpening, Passes, IsPlain, IsOpening, IsClosing}
 
 sign_is : (want : Sign) (t : Token) → is_sign want t ≡ true → t ≡ token.Sign want

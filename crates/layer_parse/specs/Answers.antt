@@ -1,21 +1,19 @@
 -- What the parser answers.
-use Rattle.std.specs.Prelude.{ℕ, ◌<◌, ◌≤◌, List, length, Result, Ok, Err}
+use Rattle.std.specs.Prelude.{ℕ, ◌<◌, ◌≤◌, List, length, Result, Ok, Err, ◌⊎◌}
+use Rattle.file_mean.specs.Library.{IsFile}
 use Rattle.layer_ast.specs.declared.syntax.File.{File}
-use Rattle.layer_ast.specs.Spells.{Spells}
-use Rattle.layer_ast.specs.Tree.{FileTree}
+use Rattle.layer_ast.specs.Spells.{longest_file}
+use Rattle.layer_ast.specs.Stops.{StopsBad, StopsInside, StopsAtEnd}
 use Rattle.layer_ast.specs.View.{file_tree}
-use Rattle.layer_parse.specs.declared.ParseError.{ParseError}
-use Rattle.layer_parse.specs.declared.ParseError.TheVariants.{TooLarge, Later, Memory}
-use Rattle.layer_parse.specs.FirstForm.{IsFirstForm}
+use Rattle.layer_parse.specs.declared.error.ParseError.{ParseError}
+use Rattle.layer_parse.specs.declared.error.ParseError.TheVariants.{TooLarge, BadToken, Unexpected, Memory}
 
--- the text spells no file of the first form
-pub record IsNoFile (text : List ℕ) : Type 0 where
-  pub none : (f : FileTree) → IsFirstForm f → Spells text f → ⊥
-
--- what the parser answers: the file that a text of at most 1,048,576 bytes spells, and that it is of the first form; that the
--- text is larger; that it spells no file of the first form; or that there was no memory
+-- what the parser answers: the file that a text is, with the layers that the library brings it; that the text is larger than a
+-- file may be; where it stops being the beginning of a file, at a bad token, at a token that no file goes on with or at its end; or
+-- that there was no memory
 abbrev pub Answers : List ℕ → Result File ParseError → Type 0
-Answers text (Ok f) = (length text ≤ 1048576) × Spells text (file_tree f) × IsFirstForm (file_tree f)
-Answers text (Err TooLarge) = 1048576 < length text
-Answers text (Err Later) = (length text ≤ 1048576) × IsNoFile text
-Answers text (Err Memory) = length text ≤ 1048576
+Answers text (Ok f) = (length text ≤ longest_file) × IsFile text (file_tree f)
+Answers text (Err TooLarge) = longest_file < length text
+Answers text (Err (BadToken at)) = (length text ≤ longest_file) × StopsBad text at
+Answers text (Err (Unexpected at)) = (length text ≤ longest_file) × (StopsInside text at ⊎ StopsAtEnd text at)
+Answers text (Err Memory) = length text ≤ longest_file

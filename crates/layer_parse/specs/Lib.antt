@@ -1,4 +1,4 @@
 pub mod Answers
-pub mod FirstForm
-pub mod Machine
+pub mod Library
+pub mod Parts
 pub mod Reading

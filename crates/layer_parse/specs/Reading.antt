@@ -4,7 +4,7 @@ use Rattle.std.specs.Prelude.{◌≡◌, ℕ, Bool, true, false, suc, ◌≤◌,
 use Rattle.std.specs.Borrow.{Bor}
 use Rattle.layer_ast.specs.declared.tokens.Lexed.{Lexed}
 use Rattle.layer_ast.specs.declared.tokens.Sign.{Sign}
-use Rattle.layer_ast.specs.declared.tokens.Sign.TheVariants.{LeftBrace, RightBrace, LeftParen, RightParen, LeftBracket, RightBracket, Comma, With, Common}
+use Rattle.layer_ast.specs.declared.tokens.Sign.TheVariants.{LeftBrace, RightBrace, LeftParen, RightParen, LeftBracket, RightBracket, Comma, With, Star, Assign, Else}
 use Rattle.layer_ast.specs.declared.tokens.Token.TheVariants as token
 use Rattle.layer_ast.specs.Depth.{room_behind}
 use Rattle.layer_ast.specs.Print.{file}
@@ -13,8 +13,7 @@ use Rattle.layer_ast.specs.Spells.{Fits, HasPlace}
 use Rattle.layer_ast.specs.Tree.{FileTree}
 use Rattle.layer_ast.specs.View.{file_tree}
 use Rattle.layer_ast.specs.declared.syntax.File.{File}
-use Rattle.layer_parse.specs.FirstForm.{IsFirstForm}
-use Rattle.layer_parse.specs.Machine.{Symbol, one, an_index, a_shape, more_arguments, more_names, a_pushed, a_popped, a_common, accepted, refused, feed, step, run, start}
+use Rattle.layer_machine.specs.Machine.{Symbol, one, an_index, a_shape, a_square, an_initial, more_arguments, more_names, more_items, more_given, some_given, a_pushed, a_popped, an_otherwise, accepted, refused, feed, step, run, start}
 use Rattle.layer_parse.specs.declared.readers.Fault.{Fault}
 use Rattle.layer_parse.specs.declared.readers.Fault.TheVariants.{Refused, Memory}
 
@@ -107,11 +106,16 @@ pub record LeavesOut (s : Symbol) (tokens : List Lexed) : Type 0 where
 abbrev pub IsOptional : Sign → Symbol → Type 0
 IsOptional LeftBracket an_index = Unit {0}
 IsOptional LeftBracket a_shape = Unit {0}
+IsOptional LeftParen some_given = Unit {0}
 IsOptional Comma more_arguments = Unit {0}
 IsOptional Comma more_names = Unit {0}
+IsOptional Comma more_items = Unit {0}
+IsOptional Comma more_given = Unit {0}
 IsOptional With a_pushed = Unit {0}
 IsOptional With a_popped = Unit {0}
-IsOptional Common a_common = Unit {0}
+IsOptional Else an_otherwise = Unit {0}
+IsOptional Star a_square = Unit {0}
+IsOptional Assign an_initial = Unit {0}
 IsOptional _ _ = ⊥
 
 -- a sign is not the next token, and the machine leaves each optional part out that begins with it
@@ -133,11 +137,23 @@ abbrev pub SeesPart : Symbol → List Symbol → List Lexed → Bool → Type 0
 SeesPart s expected tokens true = Begins s expected tokens
 SeesPart s expected tokens false = LeavesOut s tokens
 
+-- what a test answers for a part that stands in one of two forms, given what the machine expects of each in its place
+abbrev pub SeesOneOf : Symbol → List Symbol → List Symbol → List Lexed → Bool → Type 0
+SeesOneOf s expected other tokens true = Begins s expected tokens
+SeesOneOf s expected other tokens false = Begins s other tokens
+
 -- these are the parts so far of a repetition, and the machine goes on with the repetition behind them
 pub record Gathers {T : Type 0} (print : T → List Printed → List Printed) (s : Symbol) (room : ℕ) (tokens : List Lexed) (tree : T)
     (rest : List Lexed) : Type 0 where
   pub spelled : (k : List Printed) → Fits k rest → Fits (print tree k) tokens
   pub goes_on : (stack : List Symbol) → run room (s ∷ stack) tokens ≡ run room (s ∷ stack) rest
+  pub no_longer : length rest ≤ length tokens
+
+-- the same where the machine first expects these symbols
+pub record GathersAfter {T : Type 0} (print : T → List Printed → List Printed) (expected : List Symbol) (s : Symbol) (room : ℕ)
+    (tokens : List Lexed) (tree : T) (rest : List Lexed) : Type 0 where
+  pub spelled : (k : List Printed) → Fits k rest → Fits (print tree k) tokens
+  pub goes_on : (stack : List Symbol) → run room (expected ++ stack) tokens ≡ run room (s ∷ stack) rest
   pub no_longer : length rest ≤ length tokens
 
 -- the same of parts with no brackets in them, where the machine first expects these symbols
@@ -177,12 +193,11 @@ IsClosing RightParen = Unit {0}
 IsClosing RightBracket = Unit {0}
 IsClosing _ = ⊥
 
--- a whole file of the first form was read
+-- a whole file was read, without the layers that the library brings
 pub record ReadsFile (tokens : List Lexed) (f : FileTree) : Type 0 where
   pub fits : Fits (file f) tokens
   pub accepts : run 100 start tokens ≡ accepted
   pub placed : HasPlace f
-  pub formed : IsFirstForm f
 
 -- what the reader of a whole file answers
 abbrev pub ParsesFile : List Lexed → Result File Fault → Type 0

@@ -1,24 +1,23 @@
 //! Readers of layers, of the places of a stack, and of whole files.
-ghost use Rattle.std.specs.Prelude.{◌≡◌, ◌<◌, ◌≤◌, [], ◌∷◌, length, map, All, IfOk};
+ghost use Rattle.std.specs.Prelude.{◌≡◌, ◌<◌, ◌≤◌, [], ◌∷◌, ◌++◌, length, map, IfOk};
 ghost use Rattle.layer_ast.specs.Print as print;
-ghost use Rattle.layer_ast.specs.View.{layer_tree, place_tree};
-ghost use Rattle.layer_parse.specs.FirstForm.{IsFirstFormLayer, IsFirstFormPlace};
-ghost use Rattle.layer_parse.specs.Machine.{a_layer, layers as more_layers, a_place, places as more_places};
-ghost use Rattle.layer_parse.specs.Reading.{Parses, ParsesFlat, ParsesAllFlat, ParsesFile, SeesPart};
+ghost use Rattle.layer_ast.specs.View.{layer_tree, given_tree, place_tree};
+ghost use Rattle.layer_machine.specs.Machine.{a_layer, layers as more_layers, a_given, some_given as one_or_no_given, a_place, places as more_places};
+ghost use Rattle.layer_parse.specs.Parts.{ParsesGiven};
+ghost use Rattle.layer_parse.specs.Reading.{Parses, ParsesAll, ParsesAllFlat, ParsesFile, SeesPart};
 
 use crate::declarations::declarations;
 use crate::handlers::handlers;
-use crate::readers::{Fault, close, name, open, read, sign};
-use layer_ast::{File, Layer, Lexed, Name, Place, Sign, Token, Word};
+use crate::readers::{Fault, close, name, number, open, past, read, room_inside, sign};
+use layer_ast::{File, Given, Layer, Lexed, Name, Place, Sign, Token, Word};
 use std::alloc::Global;
 
 /// How many brackets may be open at once.
-const DEEPEST: u32 = 100;
+pub const DEEPEST: u32 = 100;
 
 /// Reads layers as long as one begins.
 fn layers(alloc: Global, room: u32, tokens: &[Lexed]) -> Result<(Vec<Layer>, &[Lexed]), Fault>
-    ensures read { Parses print.layers (λ v. map layer_tree v.items) more_layers room tokens.now result }
-    ensures form { IfOk result (λ r. All IsFirstFormLayer (map layer_tree r.0.items)) }
+    ensures { Parses print.layers (λ v. map layer_tree v.items) more_layers room tokens.now result }
 {
     let mut all = Vec::new(alloc);
     let mut rest = tokens;
@@ -40,9 +39,9 @@ fn begins_layer(tokens: &[Lexed]) -> bool
     matches!(first.token, Token::Sign(Sign::Layer))
 }
 
-fn layer(alloc: Global, room: u32, tokens: &[Lexed]) -> Result<(Layer, &[Lexed]), Fault>
+/// Reads a layer.
+pub fn layer(alloc: Global, room: u32, tokens: &[Lexed]) -> Result<(Layer, &[Lexed]), Fault>
     ensures read { Parses print.layer layer_tree a_layer room tokens.now result }
-    ensures form { IfOk result (λ r. IsFirstFormLayer (layer_tree r.0)) }
     ensures shorter { IfOk result (λ r. length r.1.now < length tokens.now) }
 {
     let Some((first, rest)) = tokens.split_first() else {
@@ -64,7 +63,6 @@ fn layer_body(
 ) -> Result<(Layer, &[Lexed]), Fault>
     requires { first.token ≡ Token.Sign Sign.Layer }
     ensures read { Parses print.layer layer_tree a_layer room (first ∷ tokens.now) result }
-    ensures form { IfOk result (λ r. IsFirstFormLayer (layer_tree r.0)) }
     ensures shorter { IfOk result (λ r. length r.1.now ≤ length tokens.now) }
 {
     let (name, rest) = read!(name(tokens));
@@ -85,16 +83,15 @@ fn layer_body(
 }
 
 /// Reads places as long as one begins, at least one.
-fn places(alloc: Global, tokens: &[Lexed]) -> Result<(Vec<Place>, &[Lexed]), Fault>
-    ensures read { ParsesAllFlat print.places (λ v. map place_tree v.items) (a_place ∷ more_places ∷ []) tokens.now result }
-    ensures form { IfOk result (λ r. All IsFirstFormPlace (map place_tree r.0.items)) }
+fn places(alloc: Global, room: u32, tokens: &[Lexed]) -> Result<(Vec<Place>, &[Lexed]), Fault>
+    ensures read { ParsesAll print.places (λ v. map place_tree v.items) (a_place ∷ more_places ∷ []) room tokens.now result }
     ensures some { IfOk result (λ r. 0 < length r.0.items) }
 {
-    let (first, mut rest) = read!(place(alloc, tokens));
+    let (first, mut rest) = read!(place(alloc, room, tokens));
     let mut all = Vec::new(alloc);
     all.push(first)?;
     while begins_place(rest) {
-        let (next, behind) = read!(place(alloc, rest));
+        let (next, behind) = read!(place(alloc, room, rest));
         all.push(next)?;
         rest = behind;
     }
@@ -111,16 +108,15 @@ fn begins_place(tokens: &[Lexed]) -> bool
     matches!(first.token, Token::Name(_))
 }
 
-fn place(alloc: Global, tokens: &[Lexed]) -> Result<(Place, &[Lexed]), Fault>
-    ensures read { ParsesFlat print.place place_tree a_place tokens.now result }
-    ensures form { IfOk result (λ r. IsFirstFormPlace (place_tree r.0)) }
+fn place(alloc: Global, room: u32, tokens: &[Lexed]) -> Result<(Place, &[Lexed]), Fault>
+    ensures read { Parses print.place place_tree a_place room tokens.now result }
     ensures shorter { IfOk result (λ r. length r.1.now < length tokens.now) }
 {
     let Some((first, rest)) = tokens.split_first() else {
         return Err(Fault::Refused(0));
     };
     match first.token {
-        Token::Name(word) => place_of(alloc, word, *first, rest),
+        Token::Name(word) => place_of(alloc, room, word, *first, rest),
         _ => Err(Fault::Refused(tokens.len())),
     }
 }
@@ -129,30 +125,73 @@ fn place(alloc: Global, tokens: &[Lexed]) -> Result<(Place, &[Lexed]), Fault>
 #[tactic(auto, using(crate::proofs::Fit::fits_first))]
 fn place_of(
     alloc: Global,
+    room: u32,
     word: Word,
     first: Lexed,
     tokens: &[Lexed],
 ) -> Result<(Place, &[Lexed]), Fault>
     requires { first.token ≡ Token.Name word }
-    ensures read { ParsesFlat print.place place_tree a_place (first ∷ tokens.now) result }
-    ensures form { IfOk result (λ r. IsFirstFormPlace (place_tree r.0)) }
+    ensures read { Parses print.place place_tree a_place room (first ∷ tokens.now) result }
     ensures shorter { IfOk result (λ r. length r.1.now ≤ length tokens.now) }
 {
-    let rest = sign(Sign::Semicolon, tokens)?;
+    let (given, rest) = some_given(alloc, room, tokens)?;
+    let rest = sign(Sign::Semicolon, rest)?;
     let name = Name { at: first.at, word };
-    let given = Vec::new(alloc);
     Ok((Place { name, given }, rest))
 }
 
-/// Reads a whole file.
+/// Reads the params that a place gives, where it gives any.
+fn some_given(alloc: Global, room: u32, tokens: &[Lexed]) -> Result<(Vec<Given>, &[Lexed]), Fault>
+    ensures { Parses print.all_given (λ v. map given_tree v.items) one_or_no_given room tokens.now result }
+{
+    let Some(rest) = past(Sign::LeftParen, tokens) else {
+        return Ok((Vec::new(alloc), tokens));
+    };
+    let _ = room_inside(room, rest)?;
+    let (first, rest) = read!(given(rest));
+    let (all, rest) = more_given(alloc, first, rest)?;
+    let rest = close(Sign::RightParen, rest)?;
+    Ok((all, rest))
+}
+
+/// Reads params that a place gives behind a first one, each behind a comma, as long as there is a comma.
+fn more_given(
+    alloc: Global,
+    first: Given,
+    tokens: &[Lexed],
+) -> Result<(Vec<Given>, &[Lexed]), Fault>
+    ensures { ParsesGiven (λ v. map given_tree v.items) (given_tree first) tokens.now result }
+{
+    let mut all = Vec::new(alloc);
+    all.push(first)?;
+    let mut rest = tokens;
+    while let Some(behind) = past(Sign::Comma, rest) {
+        let (next, behind) = read!(given(behind));
+        all.push(next)?;
+        rest = behind;
+    }
+    Ok((all, rest))
+}
+
+/// Reads a param that a place gives.
+fn given(tokens: &[Lexed]) -> Result<(Given, &[Lexed]), Fault>
+    ensures { ParsesAllFlat print.given given_tree a_given tokens.now result }
+{
+    let (name, rest) = read!(name(tokens));
+    let rest = sign(Sign::Assign, rest)?;
+    let (value, rest) = number(rest)?;
+    Ok((Given { name, value }, rest))
+}
+
+/// Reads a whole file, without the layers that the library brings.
 pub fn file(alloc: Global, tokens: &[Lexed]) -> Result<File, Fault>
     ensures { ParsesFile tokens.now result }
 {
     let library = Vec::new(alloc);
     let (layers, rest) = layers(alloc, DEEPEST, tokens)?;
     let rest = sign(Sign::Stack, rest)?;
-    let (_, rest) = open(DEEPEST, Sign::LeftBrace, rest)?;
-    let (places, rest) = places(alloc, rest)?;
+    let (inside, rest) = open(DEEPEST, Sign::LeftBrace, rest)?;
+    let (places, rest) = places(alloc, inside, rest)?;
     let rest = close(Sign::RightBrace, rest)?;
     if !rest.is_empty() {
         return Err(Fault::Refused(rest.len()));

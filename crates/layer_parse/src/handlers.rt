@@ -1,16 +1,14 @@
 //! Readers of handlers.
-ghost use Rattle.std.specs.Prelude.{◌≡◌, ◌<◌, ◌≤◌, [], ◌∷◌, length, map, All, IfOk};
-ghost use Rattle.std.specs.Option.{option_map};
+ghost use Rattle.std.specs.Prelude.{◌≡◌, ◌<◌, ◌≤◌, [], ◌∷◌, length, map, IfOk, option_map};
 ghost use Rattle.layer_ast.specs.Print as print;
 ghost use Rattle.layer_ast.specs.Printed.{direction_sign};
 ghost use Rattle.layer_ast.specs.View.{expected_tree, popped_tree, handler_tree};
-ghost use Rattle.layer_parse.specs.FirstForm.{IsFirstFormExpected, IsFirstFormHandler};
-ghost use Rattle.layer_parse.specs.Machine.{a_popped, a_common, a_handler, handlers as more_handlers};
+ghost use Rattle.layer_machine.specs.Machine.{a_popped, an_expected, a_handler, handlers as more_handlers};
 ghost use Rattle.layer_parse.specs.Reading.{Parses, SeesPart};
 
 use crate::expressions::expression;
-use crate::names::{names, some_names};
-use crate::readers::{Fault, close, kind, name, open, past, read};
+use crate::names::{names_in_parentheses, some_names_in_parentheses};
+use crate::readers::{Fault, kind, name, past, read};
 use crate::statements::block;
 use layer_ast::{Dir, Expected, Handler, Lexed, Popped, Sign, Token};
 use std::alloc::Global;
@@ -21,8 +19,7 @@ pub fn handlers(
     room: u32,
     tokens: &[Lexed],
 ) -> Result<(Vec<Handler>, &[Lexed]), Fault>
-    ensures read { Parses print.handlers (λ v. map handler_tree v.items) more_handlers room tokens.now result }
-    ensures form { IfOk result (λ r. All IsFirstFormHandler (map handler_tree r.0.items)) }
+    ensures { Parses print.handlers (λ v. map handler_tree v.items) more_handlers room tokens.now result }
 {
     let mut all = Vec::new(alloc);
     let mut rest = tokens;
@@ -46,7 +43,6 @@ fn begins_handler(tokens: &[Lexed]) -> bool
 
 fn handler(alloc: Global, room: u32, tokens: &[Lexed]) -> Result<(Handler, &[Lexed]), Fault>
     ensures read { Parses print.handler handler_tree a_handler room tokens.now result }
-    ensures form { IfOk result (λ r. IsFirstFormHandler (handler_tree r.0)) }
     ensures shorter { IfOk result (λ r. length r.1.now < length tokens.now) }
 {
     let Some((first, rest)) = tokens.split_first() else {
@@ -70,13 +66,10 @@ fn handling(
 ) -> Result<(Handler, &[Lexed]), Fault>
     requires { first.token ≡ Token.Sign (direction_sign direction) }
     ensures read { Parses print.handler handler_tree a_handler room (first ∷ tokens.now) result }
-    ensures form { IfOk result (λ r. IsFirstFormHandler (handler_tree r.0)) }
     ensures shorter { IfOk result (λ r. length r.1.now ≤ length tokens.now) }
 {
     let (kind, rest) = kind(tokens)?;
-    let (_, rest) = open(room, Sign::LeftParen, rest)?;
-    let (names, rest) = names(alloc, rest)?;
-    let rest = close(Sign::RightParen, rest)?;
+    let (names, rest) = names_in_parentheses(alloc, room, rest)?;
     let (popped, rest) = popped(alloc, room, rest)?;
     let (expected, rest) = expected(alloc, room, rest)?;
     let (block, rest) = block(alloc, room, rest)?;
@@ -103,20 +96,36 @@ fn popped(alloc: Global, room: u32, tokens: &[Lexed]) -> Result<(Option<Popped>,
         return Ok((None, tokens));
     };
     let (name, rest) = read!(name(rest));
-    let (_, rest) = open(room, Sign::LeftParen, rest)?;
-    let (fields, rest) = some_names(alloc, rest)?;
-    let rest = close(Sign::RightParen, rest)?;
+    let (fields, rest) = some_names_in_parentheses(alloc, room, rest)?;
     Ok((Some(Popped { name, fields }), rest))
 }
 
-/// Reads what a handler says is common, where it does.
+/// Reads when a handler is predicted, where it isn't always.
+#[tactic(auto, unfolding(layer_ast::specs::Spells::Fits))]
 fn expected(alloc: Global, room: u32, tokens: &[Lexed]) -> Result<(Expected, &[Lexed]), Fault>
-    ensures read { Parses print.expected expected_tree a_common room tokens.now result }
-    ensures form { IfOk result (λ r. IsFirstFormExpected (expected_tree r.0)) }
+    ensures { Parses print.expected expected_tree an_expected room tokens.now result }
 {
-    let Some(rest) = past(Sign::Common, tokens) else {
+    let Some((first, rest)) = tokens.split_first() else {
         return Ok((Expected::Always, tokens));
     };
-    let (condition, rest) = expression(alloc, room, rest)?;
+    match first.token {
+        Token::Sign(Sign::Rare) => Ok((Expected::Rare, rest)),
+        Token::Sign(Sign::Common) => common(alloc, room, *first, rest),
+        _ => Ok((Expected::Always, tokens)),
+    }
+}
+
+/// Reads the condition of a handler that is common, from behind its word.
+#[tactic(auto, using(crate::proofs::Fit::fits_first))]
+fn common(
+    alloc: Global,
+    room: u32,
+    first: Lexed,
+    tokens: &[Lexed],
+) -> Result<(Expected, &[Lexed]), Fault>
+    requires { first.token ≡ Token.Sign Sign.Common }
+    ensures { Parses print.expected expected_tree an_expected room (first ∷ tokens.now) result }
+{
+    let (condition, rest) = expression(alloc, room, tokens)?;
     Ok((Expected::Common(condition), rest))
 }

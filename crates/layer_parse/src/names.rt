@@ -2,11 +2,13 @@
 ghost use Rattle.std.specs.Option.{option_map};
 ghost use Rattle.layer_ast.specs.Print as print;
 ghost use Rattle.layer_ast.specs.View.{names_tree};
-ghost use Rattle.layer_parse.specs.Machine.{a_name, more_names as names_behind, some_names as one_or_no_names};
+ghost use Rattle.layer_ast.specs.declared.tokens.Sign.TheVariants.{LeftParen, RightParen};
+ghost use Rattle.layer_machine.specs.Machine.{one, a_name, more_names as names_behind, some_names as one_or_no_names};
 ghost use Rattle.std.specs.Prelude.{[], ◌∷◌};
-ghost use Rattle.layer_parse.specs.Reading.{ParsesFlat, ParsesAllFlat, SeesPart};
+ghost use Rattle.layer_parse.specs.Parts.{names_within, some_names_within};
+ghost use Rattle.layer_parse.specs.Reading.{ParsesAll, ParsesFlat, ParsesAllFlat, SeesPart};
 
-use crate::readers::{Fault, name, past, read};
+use crate::readers::{Fault, close, name, open, past, read};
 use layer_ast::{Lexed, Name, Names, Sign, Token};
 use std::alloc::Global;
 
@@ -25,7 +27,7 @@ fn more_names(alloc: Global, tokens: &[Lexed]) -> Result<(Vec<Name>, &[Lexed]), 
 }
 
 /// Reads names with commas between them.
-pub fn names(alloc: Global, tokens: &[Lexed]) -> Result<(Names, &[Lexed]), Fault>
+fn names(alloc: Global, tokens: &[Lexed]) -> Result<(Names, &[Lexed]), Fault>
     ensures { ParsesAllFlat print.names names_tree (a_name ∷ names_behind ∷ []) tokens.now result }
 {
     let (first, rest) = read!(name(tokens));
@@ -33,8 +35,36 @@ pub fn names(alloc: Global, tokens: &[Lexed]) -> Result<(Names, &[Lexed]), Fault
     Ok((Names { first, rest: more }, rest))
 }
 
+/// Reads names with commas between them, in parentheses.
+pub fn names_in_parentheses(
+    alloc: Global,
+    room: u32,
+    tokens: &[Lexed],
+) -> Result<(Names, &[Lexed]), Fault>
+    ensures { ParsesAll names_within names_tree (one LeftParen ∷ a_name ∷ names_behind ∷ one RightParen ∷ []) room tokens.now result }
+{
+    let (_, rest) = open(room, Sign::LeftParen, tokens)?;
+    let (names, rest) = names(alloc, rest)?;
+    let rest = close(Sign::RightParen, rest)?;
+    Ok((names, rest))
+}
+
+/// Reads names with commas between them, in parentheses, or empty parentheses.
+pub fn some_names_in_parentheses(
+    alloc: Global,
+    room: u32,
+    tokens: &[Lexed],
+) -> Result<(Option<Names>, &[Lexed]), Fault>
+    ensures { ParsesAll some_names_within (option_map names_tree) (one LeftParen ∷ one_or_no_names ∷ one RightParen ∷ []) room tokens.now result }
+{
+    let (_, rest) = open(room, Sign::LeftParen, tokens)?;
+    let (names, rest) = some_names(alloc, rest)?;
+    let rest = close(Sign::RightParen, rest)?;
+    Ok((names, rest))
+}
+
 /// Reads names with commas between them, where there are any.
-pub fn some_names(alloc: Global, tokens: &[Lexed]) -> Result<(Option<Names>, &[Lexed]), Fault>
+fn some_names(alloc: Global, tokens: &[Lexed]) -> Result<(Option<Names>, &[Lexed]), Fault>
     ensures { ParsesFlat print.some_names (option_map names_tree) one_or_no_names tokens.now result }
 {
     if !begins_name(tokens) {

@@ -1,12 +1,13 @@
 //! Readers of single tokens, and what every reader says.
-ghost use Rattle.std.specs.Prelude.{◌≡◌, suc, IfOk};
-ghost use Rattle.layer_ast.specs.Printed.{plain, name as name_token, kind as kind_token, operator_sign};
-ghost use Rattle.layer_parse.specs.FirstForm.{IsFirstFormOperator};
-ghost use Rattle.layer_parse.specs.Machine.{is_sign as has_sign, a_name, a_kind, an_operator};
+ghost use Rattle.std.specs.Prelude.{◌≡◌, suc};
+ghost use Rattle.layer_ast.specs.Print.{size as size_token};
+ghost use Rattle.layer_ast.specs.Printed.{plain, plain_numeral, name as name_token, kind as kind_token, operator_sign, sort_sign, ending_sign};
+ghost use Rattle.layer_ast.specs.View.{size_tree};
+ghost use Rattle.layer_machine.specs.Machine.{is_sign as has_sign, a_name, a_kind, an_operator, a_number, a_size, a_sort, an_ending};
 ghost use Rattle.layer_parse.specs.Reading.{ParsesOne, ParsesSign, ParsesOpening, SeesSign, EntersBracket, IsPlain, IsOpening, IsClosing};
 ghost use Rattle.layer_parse.specs.declared.readers.Fault.TheVariants.{Memory};
 
-use layer_ast::{Kind, Lexed, Name, Operator, Sign, Token};
+use layer_ast::{Ending, Kind, Lexed, Name, Operator, Sign, Size, Sort, Token};
 use std::alloc::{AllocError, AllocFailed};
 
 /// Why a reader gave up: a file goes on otherwise, with so many tokens left, or there was no memory.
@@ -152,15 +153,90 @@ pub fn kind(tokens: &[Lexed]) -> Result<(Kind, &[Lexed]), Fault>
 /// Reads an operator.
 #[tactic(auto, unfolding(layer_ast::specs::Spells::Fits))]
 pub fn operator(tokens: &[Lexed]) -> Result<(Operator, &[Lexed]), Fault>
-    ensures read { ParsesOne (λ o. plain (operator_sign o)) an_operator tokens.now result }
-    ensures form { IfOk result (λ r. IsFirstFormOperator r.0) }
+    ensures { ParsesOne (λ o. plain (operator_sign o)) an_operator tokens.now result }
 {
     let Some((first, rest)) = tokens.split_first() else {
         return Err(Fault::Refused(0));
     };
     match first.token {
         Token::Sign(Sign::Plus) => Ok((Operator::Add, rest)),
+        Token::Sign(Sign::Minus) => Ok((Operator::Subtract, rest)),
+        Token::Sign(Sign::Star) => Ok((Operator::Multiply, rest)),
         Token::Sign(Sign::Equal) => Ok((Operator::Equal, rest)),
+        Token::Sign(Sign::NotEqual) => Ok((Operator::NotEqual, rest)),
+        Token::Sign(Sign::Less) => Ok((Operator::Less, rest)),
+        Token::Sign(Sign::LessEqual) => Ok((Operator::LessOrEqual, rest)),
+        Token::Sign(Sign::Greater) => Ok((Operator::Greater, rest)),
+        Token::Sign(Sign::GreaterEqual) => Ok((Operator::GreaterOrEqual, rest)),
+        Token::Sign(Sign::And) => Ok((Operator::And, rest)),
+        Token::Sign(Sign::Or) => Ok((Operator::Or, rest)),
+        Token::Sign(Sign::Ampersand) => Ok((Operator::BitAnd, rest)),
+        Token::Sign(Sign::Bar) => Ok((Operator::BitOr, rest)),
+        Token::Sign(Sign::Caret) => Ok((Operator::BitXor, rest)),
+        _ => Err(Fault::Refused(tokens.len())),
+    }
+}
+
+/// Reads a number.
+#[tactic(auto, unfolding(layer_ast::specs::Spells::Fits))]
+pub fn number(tokens: &[Lexed]) -> Result<(u32, &[Lexed]), Fault>
+    ensures { ParsesOne plain_numeral a_number tokens.now result }
+{
+    let Some((first, rest)) = tokens.split_first() else {
+        return Err(Fault::Refused(0));
+    };
+    match first.token {
+        Token::Number(value) => Ok((value, rest)),
+        _ => Err(Fault::Refused(tokens.len())),
+    }
+}
+
+/// Reads a size.
+#[tactic(auto, unfolding(layer_ast::specs::Spells::Fits))]
+pub fn size(tokens: &[Lexed]) -> Result<(Size, &[Lexed]), Fault>
+    ensures { ParsesOne (λ s. size_token (size_tree s)) a_size tokens.now result }
+{
+    let Some((first, rest)) = tokens.split_first() else {
+        return Err(Fault::Refused(0));
+    };
+    let at = first.at;
+    match first.token {
+        Token::Number(value) => Ok((Size::Number { at, value }, rest)),
+        Token::Name(word) => {
+            let name = Name { at, word };
+            Ok((Size::Named { name }, rest))
+        }
+        _ => Err(Fault::Refused(tokens.len())),
+    }
+}
+
+/// Reads what an item of a row is.
+#[tactic(auto, unfolding(layer_ast::specs::Spells::Fits))]
+pub fn sort(tokens: &[Lexed]) -> Result<(Sort, &[Lexed]), Fault>
+    ensures { ParsesOne (λ s. plain (sort_sign s)) a_sort tokens.now result }
+{
+    let Some((first, rest)) = tokens.split_first() else {
+        return Err(Fault::Refused(0));
+    };
+    match first.token {
+        Token::Sign(Sign::Int) => Ok((Sort::Int, rest)),
+        Token::Sign(Sign::Msg) => Ok((Sort::Msg, rest)),
+        Token::Sign(Sign::Part) => Ok((Sort::Part, rest)),
+        _ => Err(Fault::Refused(tokens.len())),
+    }
+}
+
+/// Reads whether the headers of the layers above follow a header.
+#[tactic(auto, unfolding(layer_ast::specs::Spells::Fits))]
+pub fn ending(tokens: &[Lexed]) -> Result<(Ending, &[Lexed]), Fault>
+    ensures { ParsesOne (λ e. plain (ending_sign e)) an_ending tokens.now result }
+{
+    let Some((first, rest)) = tokens.split_first() else {
+        return Err(Fault::Refused(0));
+    };
+    match first.token {
+        Token::Sign(Sign::Passes) => Ok((Ending::Passes, rest)),
+        Token::Sign(Sign::Ends) => Ok((Ending::Ends, rest)),
         _ => Err(Fault::Refused(tokens.len())),
     }
 }

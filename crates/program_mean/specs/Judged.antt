@@ -1,5 +1,6 @@
 -- Which stack the bytes of a file mean, or why the file is refused.
 use Rattle.std.specs.Prelude.{◌≡◌, ℕ, ◌<◌, ◌≤◌, List, length, Option, Some, None, Result, Ok, Err, ◌⊎◌}
+use Rattle.layer_ast.specs.Spells.{longest_file}
 use Rattle.layer_ast.specs.Stops.{StopsBad, StopsInside, StopsAtEnd}
 use Rattle.layer_ast.specs.Tree.{FileTree}
 use Rattle.layer_mean.specs.Tree.{LayerTree}
@@ -46,10 +47,6 @@ judged_by file None = said_accepted (accepted (stack_of file))
 -- The accepted stack of a file, or the first cause for which the file is refused: names, then types, then the stack.
 abbrev pub judged : FileTree → Result (List LayerTree) FileFault
 judged file = judged_by file (file_fault file)
-
--- The most bytes of a file.
-abbrev pub longest_file : ℕ
-longest_file = 1048576
 
 -- The bytes of a file mean an accepted stack.
 pub record Means (text : List ℕ) (stack : List LayerTree) : Type 0 where

@@ -1,15 +1,13 @@
-use Rattle.std.proofs.Common.{◌<◌, [], ◌∷◌, length, map, All}
+use Rattle.std.proofs.Common.{◌<◌, [], ◌∷◌, length, map}
 use Rattle.layer_ast.specs.Print as print
 use Rattle.layer_ast.specs.View.{place_tree}
-use Rattle.layer_parse.specs.FirstForm.{IsFirstFormPlace}
-use Rattle.layer_parse.specs.Machine.{a_place, places}
-use Rattle.layer_parse.specs.Reading.{GathersFlat}
+use Rattle.layer_machine.specs.Machine.{a_place, places}
+use Rattle.layer_parse.specs.Reading.{GathersAfter}
 use Rattle.layer_parse.proofs.files.places.Given as goal
 
 abbrev pub invariant-loop-alloc : goal.invariant-loop-alloc
 invariant-loop-alloc l =
-    GathersFlat print.places (a_place ∷ places ∷ []) places l.fn.tokens (map place_tree l.all.items) l.rest
-    × All IsFirstFormPlace (map place_tree l.all.items)
+    GathersAfter print.places (a_place ∷ places ∷ []) places l.room l.fn.tokens (map place_tree l.all.items) l.rest
     × (0 < length l.all.items)
 
 abbrev pub decreases-loop-alloc : goal.decreases-loop-alloc

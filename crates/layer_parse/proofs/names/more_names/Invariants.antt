@@ -1,6 +1,6 @@
 use Rattle.std.proofs.Common.{[], ◌∷◌, length}
 use Rattle.layer_ast.specs.Print as print
-use Rattle.layer_parse.specs.Machine.{more_names}
+use Rattle.layer_machine.specs.Machine.{more_names}
 use Rattle.layer_parse.specs.Reading.{GathersFlat}
 use Rattle.layer_parse.proofs.names.more_names.Given as goal
 
