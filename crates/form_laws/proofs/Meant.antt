@@ -17,7 +17,7 @@ use Rattle.layer_ast.specs.Tree.{ExpressionTree, number, me, members, named, ele
 use Rattle.first_mean.specs.Tree as resolved
 use Rattle.first_mean.specs.declared.layer.Form.TheVariants as form
 use Rattle.first_mean.specs.declared.layer.Operator as resolved_operator
-use Rattle.layer_parse.specs.FirstForm.{IsFirstFormOperator, IsFirstFormExpression, IsFirstFormArgument, IsFirstFormArguments, IsFirstFormPushed, IsFirstFormStatement, IsFirstFormBlock, IsFirstFormExpected, IsFirstFormHandler, IsFirstFormShape, IsFirstFormDeclaration, IsFirstFormLayer, IsFirstFormPlace}
+use Rattle.first_parse.specs.FirstForm.{IsFirstFormOperator, IsFirstFormExpression, IsFirstFormArgument, IsFirstFormArguments, IsFirstFormPushed, IsFirstFormStatement, IsFirstFormBlock, IsFirstFormExpected, IsFirstFormHandler, IsFirstFormShape, IsFirstFormDeclaration, IsFirstFormLayer, IsFirstFormPlace}
 use Rattle.layer_resolve.specs.Names.{Declared, Scope, form_of, is_built, declared, declared_together, cell_number, header_tag}
 use Rattle.layer_resolve.specs.Numbers.{each, operator_of, binary_of, number_of, argument_of}
 use Rattle.layer_resolve.specs.Stack.{popped_tag, scope_of, common_of, handler_in, handler_with, handler_of, complete, layer_with, layer_of, gives_none, one_layer}

@@ -3,8 +3,8 @@ use Rattle.std.specs.Prelude.{◌≡◌, ℕ, List, [], Some, None}
 use Rattle.layer_ast.specs.Spells.{Spells}
 use Rattle.layer_ast.specs.Tree.{FileTree}
 use Rattle.first_mean.specs.Tree.{LayerTree}
-use Rattle.layer_parse.specs.Answers.{IsNoFile}
-use Rattle.layer_parse.specs.FirstForm.{IsFirstForm}
+use Rattle.first_parse.specs.Answers.{IsNoFile}
+use Rattle.first_parse.specs.FirstForm.{IsFirstForm}
 use Rattle.layer_resolve.specs.Stack.{stack_of}
 
 -- a file as it is spelled, to which the library brings no layer

@@ -3,6 +3,7 @@
 
 ghost use Rattle.std.specs.Prelude.{◌≡◌, ◌+◌, ◌<◌, ◌≤◌, length, IfOk};
 ghost use Rattle.layer_ast.specs.Cut.{cut as cut_of, place_behind as next_place};
+ghost use Rattle.layer_ast.specs.Stops.{end_of as end};
 ghost use Rattle.layer_lex.specs.Pieces.{found, tokens_of, is_number as is_number_piece, past, GoesOn};
 
 mod pieces;
@@ -86,6 +87,14 @@ fn place_past(bytes: &[u8], at: At) -> At
         at = place_behind(*byte, at);
     }
     at
+}
+
+/// The place just past the last byte of a text.
+pub fn end_of(text: &[u8]) -> At
+    requires { length text.now < 4294967295 }
+    ensures { result ≡ end text.now }
+{
+    place_past(text, At { line: 1, col: 1 })
 }
 
 fn place_behind(byte: u8, at: At) -> At

@@ -1,0 +1,5 @@
+pub mod Back
+pub mod Complete
+pub mod Phrases
+pub mod Runs
+pub mod Texts

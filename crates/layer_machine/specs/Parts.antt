@@ -14,3 +14,8 @@ otherwise (Some block) k = plain sign.Else ∷ print.block block k
 abbrev pub capacity : Bool × SizeTree → List Printed → List Printed
 capacity (false, size) k = print.size size ∷ k
 capacity (true, size) k = plain sign.N ∷ plain sign.RightBracket ∷ plain sign.LeftBracket ∷ print.size size ∷ k
+
+-- behind `n`, what says that an array is a square one, where it does
+abbrev pub square : Bool → List Printed → List Printed
+square false k = k
+square true k = plain sign.Star ∷ plain sign.N ∷ k

@@ -1,7 +1,10 @@
+pub mod Bringing
 pub mod Ending
 pub mod Exits
 pub mod Fit
 pub mod Gathered
+pub mod LibraryTexts
 pub mod Signs
 pub mod Under
 pub mod Views
+pub mod Whole

@@ -1,3 +1,4 @@
 pub mod Answers
+pub mod Library
 pub mod Parts
 pub mod Reading

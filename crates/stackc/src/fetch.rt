@@ -10,7 +10,7 @@ ghost use Rattle.stackc.specs.File.{ReadsStack, JudgesStack, shown_layer, most_f
 
 use crate::fault::Fault;
 use first_mean::Layer;
-use layer_parse::{ParseError, parse};
+use first_parse::{ParseError, parse};
 use layer_resolve::{ResolveError, resolve};
 use outside::{Got, Shelf, ShelfError};
 use script_mean::{Script, ScriptEvent};

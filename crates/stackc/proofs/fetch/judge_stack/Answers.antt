@@ -2,7 +2,7 @@
 -- form, none means a stack.
 use Rattle.std.proofs.Common.{◌≡◌, ◌≤◌, length, None, Some, sym, ◌∙◌}
 use Rattle.layer_ast.specs.View.{file_tree}
-use Rattle.layer_parse.specs.Answers.{IsNoFile}
+use Rattle.first_parse.specs.Answers.{IsNoFile}
 use Rattle.layer_resolve.specs.Stack.{stack_of}
 use Rattle.form_laws.proofs.Forms.{refused_means_none, spelled_means_one}
 use Rattle.stackc.proofs.fetch.judge_stack.Goals as goal

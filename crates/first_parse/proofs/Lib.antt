@@ -1,0 +1,7 @@
+pub mod Complete
+pub mod Ending
+pub mod Fit
+pub mod Gathered
+pub mod Judge
+pub mod Signs
+pub mod Views

@@ -1,0 +1,4 @@
+pub mod Answers
+pub mod FirstForm
+pub mod Machine
+pub mod Reading

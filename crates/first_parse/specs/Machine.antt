@@ -1,0 +1,247 @@
+-- A machine with a stack that reads the tokens of a file from left to right, one token after another: what it expects
+-- next lies on the stack. It only joins the readers to the printer; no public clause speaks of it.
+use Rattle.std.specs.Prelude.{ℕ, suc, Bool, true, false, ◌&&◌, if◌then◌else◌, List, [], ◌∷◌, ◌++◌, length, Option, Some, None}
+use denote.Enum.Bare.{sameb}
+use Rattle.layer_ast.specs.contracts.tokens.Sign.{the_type}
+use Rattle.layer_ast.specs.declared.tokens.Lexed.{Lexed}
+use Rattle.layer_ast.specs.declared.tokens.Sign.{Sign}
+use Rattle.layer_ast.specs.declared.tokens.Sign.TheVariants as sign
+use Rattle.layer_ast.specs.declared.tokens.Token.{Token}
+use Rattle.layer_ast.specs.declared.tokens.Token.TheVariants as token
+use Rattle.layer_ast.specs.Depth.{room_behind}
+
+-- what is expected: a given sign, a part of the grammar, an optional part, or a repetition
+pub data Symbol : Type 0 where
+  one : (s : Sign) → Symbol
+  a_name : Symbol
+  a_kind : Symbol
+  an_operator : Symbol
+  an_expression : Symbol
+  an_index : Symbol
+  more_arguments : Symbol
+  some_arguments : Symbol
+  a_pushed : Symbol
+  a_statement : Symbol
+  statements : Symbol
+  more_names : Symbol
+  some_names : Symbol
+  a_popped : Symbol
+  a_common : Symbol
+  a_handler : Symbol
+  handlers : Symbol
+  a_shape : Symbol
+  a_declaration : Symbol
+  declarations : Symbol
+  a_layer : Symbol
+  layers : Symbol
+  a_place : Symbol
+  places : Symbol
+
+-- what an expected symbol does at a token: it takes it and then expects others, it is left out, or there is no way on
+pub data Move : Type 0 where
+  eats : (expected : List Symbol) → Move
+  skips : Move
+  refuses : Move
+
+-- a token is this sign
+abbrev pub is_sign : Sign → Token → Bool
+is_sign s (token.Sign t) = sameb the_type t s
+is_sign s _ = false
+
+-- a name
+abbrev pub name_move : Token → Move
+name_move (token.Name _) = eats []
+name_move _ = refuses
+
+-- a kind
+abbrev pub kind_move : Token → Move
+kind_move (token.Kind _) = eats []
+kind_move _ = refuses
+
+-- an operator
+abbrev pub operator_move : Token → Move
+operator_move (token.Sign sign.Plus) = eats []
+operator_move (token.Sign sign.Equal) = eats []
+operator_move _ = refuses
+
+-- an expression
+abbrev pub expression_move : Token → Move
+expression_move (token.Number _) = eats []
+expression_move (token.Name _) = eats (an_index ∷ [])
+expression_move (token.Sign sign.Me) = eats []
+expression_move (token.Sign sign.N) = eats []
+expression_move (token.Sign sign.LeftParen) =
+    eats (an_expression ∷ an_operator ∷ an_expression ∷ one sign.RightParen ∷ [])
+expression_move _ = refuses
+
+-- an index in square brackets, where there is one
+abbrev pub index_move : Token → Move
+index_move (token.Sign sign.LeftBracket) = eats (an_expression ∷ one sign.RightBracket ∷ [])
+index_move _ = skips
+
+-- expressions, each behind a comma
+abbrev pub more_arguments_move : Token → Move
+more_arguments_move (token.Sign sign.Comma) = eats (an_expression ∷ more_arguments ∷ [])
+more_arguments_move _ = skips
+
+-- an optional part that begins as another part and goes on with these symbols
+abbrev pub begun : List Symbol → Move → Move
+begun behind (eats expected) = eats (expected ++ behind)
+begun behind _ = skips
+
+-- the header that an emission puts on, where it does
+abbrev pub pushed_move : Token → Move
+pushed_move (token.Sign sign.With) =
+    eats (a_name ∷ one sign.LeftParen ∷ some_arguments ∷ one sign.RightParen ∷ [])
+pushed_move _ = skips
+
+-- what follows the direction of an emission
+abbrev pub emission : List Symbol
+emission =
+    a_kind ∷ one sign.LeftParen ∷ an_expression ∷ more_arguments ∷ one sign.RightParen ∷ a_pushed ∷ one sign.Semicolon
+    ∷ []
+
+-- a statement
+abbrev pub statement_move : Token → Move
+statement_move (token.Sign sign.Set) =
+    eats (a_name ∷ an_index ∷ one sign.Assign ∷ an_expression ∷ one sign.Semicolon ∷ [])
+statement_move (token.Sign sign.Up) = eats emission
+statement_move (token.Sign sign.Down) = eats emission
+statement_move _ = refuses
+
+-- statements in braces
+abbrev pub a_block : List Symbol
+a_block = one sign.LeftBrace ∷ statements ∷ one sign.RightBrace ∷ []
+
+-- names, each behind a comma
+abbrev pub more_names_move : Token → Move
+more_names_move (token.Sign sign.Comma) = eats (a_name ∷ more_names ∷ [])
+more_names_move _ = skips
+
+-- the header that a handler takes off, where it does
+abbrev pub popped_move : Token → Move
+popped_move (token.Sign sign.With) = eats (a_name ∷ one sign.LeftParen ∷ some_names ∷ one sign.RightParen ∷ [])
+popped_move _ = skips
+
+-- what a handler says is common, where it does
+abbrev pub common_move : Token → Move
+common_move (token.Sign sign.Common) = eats (an_expression ∷ [])
+common_move _ = skips
+
+-- what follows the direction of a handler
+abbrev pub handling : List Symbol
+handling =
+    a_kind ∷ one sign.LeftParen ∷ a_name ∷ more_names ∷ one sign.RightParen ∷ a_popped ∷ a_common ∷ a_block
+
+-- a handler
+abbrev pub handler_move : Token → Move
+handler_move (token.Sign sign.Up) = eats handling
+handler_move (token.Sign sign.Down) = eats handling
+handler_move _ = refuses
+
+-- what says that a cell is an array, where it does
+abbrev pub shape_move : Token → Move
+shape_move (token.Sign sign.LeftBracket) = eats (one sign.N ∷ one sign.RightBracket ∷ [])
+shape_move _ = skips
+
+-- a declaration
+abbrev pub declaration_move : Token → Move
+declaration_move (token.Sign sign.State) = eats (one sign.Int ∷ a_name ∷ a_shape ∷ one sign.Semicolon ∷ [])
+declaration_move (token.Sign sign.Header) =
+    eats (
+    a_name ∷ one sign.LeftParen ∷ some_names ∷ one sign.RightParen ∷ one sign.Passes ∷ one sign.Semicolon ∷ []
+    )
+declaration_move _ = refuses
+
+-- a layer
+abbrev pub layer_move : Token → Move
+layer_move (token.Sign sign.Layer) =
+    eats (a_name ∷ one sign.LeftBrace ∷ declarations ∷ handlers ∷ one sign.RightBrace ∷ [])
+layer_move _ = refuses
+
+-- a place of the stack
+abbrev pub place_move : Token → Move
+place_move (token.Name _) = eats (one sign.Semicolon ∷ [])
+place_move _ = refuses
+
+-- what an expected symbol does at a token
+abbrev pub move : Symbol → Token → Move
+move (one s) t = if is_sign s t then eats [] else refuses
+move a_name t = name_move t
+move a_kind t = kind_move t
+move an_operator t = operator_move t
+move an_expression t = expression_move t
+move an_index t = index_move t
+move more_arguments t = more_arguments_move t
+move some_arguments t = begun (more_arguments ∷ []) (expression_move t)
+move a_pushed t = pushed_move t
+move a_statement t = statement_move t
+move statements t = begun (statements ∷ []) (statement_move t)
+move more_names t = more_names_move t
+move some_names t = begun (more_names ∷ []) (name_move t)
+move a_popped t = popped_move t
+move a_common t = common_move t
+move a_handler t = handler_move t
+move handlers t = begun (handlers ∷ []) (handler_move t)
+move a_shape t = shape_move t
+move a_declaration t = declaration_move t
+move declarations t = begun (declarations ∷ []) (declaration_move t)
+move a_layer t = layer_move t
+move layers t = begun (layers ∷ []) (layer_move t)
+move a_place t = place_move t
+move places t = begun (places ∷ []) (place_move t)
+
+-- the symbols that may be left out
+abbrev pub is_optional : Symbol → Bool
+is_optional an_index = true
+is_optional more_arguments = true
+is_optional some_arguments = true
+is_optional a_pushed = true
+is_optional statements = true
+is_optional more_names = true
+is_optional some_names = true
+is_optional a_popped = true
+is_optional a_common = true
+is_optional handlers = true
+is_optional a_shape = true
+is_optional declarations = true
+is_optional layers = true
+is_optional places = true
+is_optional _ = false
+
+-- whether each symbol of a stack may be left out
+abbrev pub all_optional : List Symbol → Bool
+all_optional [] = true
+all_optional (s ∷ stack) = is_optional s && all_optional stack
+
+-- the stack behind a token that its first symbol moved at, given what the rest of the stack makes of the token
+abbrev pub moved : Move → List Symbol → Option (List Symbol) → Option (List Symbol)
+moved (eats expected) stack skipped = Some (expected ++ stack)
+moved skips stack skipped = skipped
+moved refuses stack skipped = None
+
+-- the stack behind a token, where the stack takes it
+abbrev pub feed : List Symbol → Token → Option (List Symbol)
+feed [] t = None
+feed (s ∷ stack) t = moved (move s t) stack (feed stack t)
+
+-- how a run ends: at the end of a file, or refused with so many tokens left
+pub data Outcome : Type 0 where
+  accepted : Outcome
+  refused : (left : ℕ) → Outcome
+
+-- one token of a run, where so many tokens are left
+abbrev pub step : Option ℕ → Option (List Symbol) → ℕ → (ℕ → List Symbol → Outcome) → Outcome
+step None _ left go = refused left
+step (Some room) None left go = refused left
+step (Some room) (Some stack) left go = go room stack
+
+-- the run over tokens, with room for so many brackets
+abbrev pub run : ℕ → List Symbol → List Lexed → Outcome
+run room stack [] = if all_optional stack then accepted else refused 0
+run room stack (t ∷ tokens) =
+    step (room_behind t.token room) (feed stack t.token) (suc (length tokens)) (λ left expected. run left expected tokens)
+
+-- the stack at the start of a file
+abbrev pub start : List Symbol
+start = layers ∷ one sign.Stack ∷ one sign.LeftBrace ∷ a_place ∷ places ∷ one sign.RightBrace ∷ []
