@@ -1,3 +1,4 @@
 pub mod Cutting
+pub mod Groups
 pub mod Numbers
 pub mod Tables

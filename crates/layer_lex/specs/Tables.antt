@@ -1,7 +1,18 @@
 -- Tables of spellings, as the lexer keeps them.
-use Rattle.std.specs.Prelude.{ℕ, List, map}
+use Rattle.std.specs.Prelude.{ℕ, nat_eq, List, [], ◌∷◌, map, find, Option, None}
 use Rattle.std.specs.Borrow.{Bor}
+use Rattle.std.specs.Option.{option_and_then}
+use Rattle.layer_ast.specs.Spelling.{beside}
 
 -- a table with its spellings as they are, and not as references to them
 abbrev pub shown : {X : Type 0} → List (Bor (List ℕ) × X) → List (List ℕ × X)
 shown table = map (λ entry. (entry.0.now, entry.1)) table
+
+-- a grouped table in the same way
+abbrev pub shown_groups : {X : Type 0} → List (ℕ × Bor (List (Bor (List ℕ) × X))) → List (ℕ × List (List ℕ × X))
+shown_groups groups = map (λ group. (group.0, shown group.1.now)) groups
+
+-- what stands beside a word in the group of its first byte
+unfoldable pub beside_in_group : {X : Type 0} → List (ℕ × List (List ℕ × X)) → List ℕ → Option X
+beside_in_group groups [] = None
+beside_in_group groups (b ∷ bs) = option_and_then (λ group. beside group.1 (b ∷ bs)) (find (λ group. nat_eq b group.0) groups)
