@@ -1,0 +1,9 @@
+mod Blocks
+mod Finds
+mod Lists
+mod Rows
+mod Scopes
+mod Sorted
+mod Tables
+mod Trees
+mod Twice

@@ -1,0 +1,28 @@
+-- The faults of the statements of a block.
+use Rattle.std.specs.Prelude.{List, ◌++◌, flat_map, fold}
+use Rattle.layer_ast.specs.Tree.{StatementTree, StatementTrees}
+use Rattle.file_faults.specs.Faults.{NameFault}
+use Rattle.file_faults.specs.Limits.{maximum_in}
+use Rattle.file_faults.specs.NameFaults.{size_faults, statement_name_faults, twice_among}
+use Rattle.file_faults.specs.Scope.{Scope, brought, scope_behind, standing_in, standing_inside, visible}
+
+-- The faults of the statements of a block that stands in a scope.
+abbrev pub block_faults : Scope → StatementTrees → List NameFault
+block_faults scope block = flat_map statement_name_faults (standing_in scope block)
+
+-- The faults of a statement, and of those inside it.
+abbrev pub statement_faults : Scope → StatementTree → List NameFault
+statement_faults scope statement =
+    statement_name_faults (record { scope = scope; statement = statement })
+    ++ flat_map statement_name_faults (standing_inside scope statement)
+
+-- Those of what a statement declares, and of the statements inside it.
+abbrev pub inner_faults : Scope → StatementTree → List NameFault
+inner_faults scope statement =
+    twice_among (visible scope) (brought statement)
+    ++ flat_map size_faults (maximum_in statement)
+    ++ flat_map statement_name_faults (standing_inside scope statement)
+
+-- The scope behind statements that stand one behind the other.
+abbrev pub scope_behind_all : Scope → List StatementTree → Scope
+scope_behind_all = fold scope_behind
