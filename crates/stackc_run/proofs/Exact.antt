@@ -1,6 +1,6 @@
 -- Each refusal comes exactly where it is due.
 use Rattle.std.proofs.Common.{◌≡◌, ℕ, ◌<◌, ◌≤◌, ◌⊎◌, List, length, refl, sym, ap, subst, ◌∙◌, arith, Option, ⊎_elim, inl, inr}
-use Rattle.std.specs.Prelude.{Some, None, Ok, Err, Result, IfSome, IsSomeAnd}
+use Rattle.std.specs.Prelude.{Some, None, Ok, Err, Result, IsSomeAnd}
 use Rattle.std.specs.Option.{option_map}
 use Rattle.outside.specs.Shelf.{Shelved, found_in, after_read}
 use Rattle.first_mean.specs.Tree.{LayerTree}
@@ -8,10 +8,10 @@ use Rattle.script_mean.specs.declared.script.Script.{Script}
 use Rattle.stackc_run.specs.Tells.{Tells}
 use Rattle.stackc_run.specs.Job.{Replay}
 use Rattle.stackc_run.specs.File.{Means, IsTooLarge, IsNoStack, IsStack, most_file}
-use Rattle.stackc_run.specs.Fetched.{Finds, FindsNone, IsScript, IsTooLong, IsNoScript}
+use Rattle.stackc_run.specs.Fetched.{Finds, FindsNone, IsTooLong, IsNoScript}
 use Rattle.stackc_run.specs.Meaning.{meant, long, later, Refusal}
 use Rattle.stackc_run.specs.Ended.{Around, Errors, Ended, Done, Said, Says, whole, failed, no_memory, status}
-use Rattle.stackc_run.specs.Exact.{Asks, RefusesFile, TakesFile, RefusesScript, Misses, Comes, Due, Has, Exact}
+use Rattle.stackc_run.specs.Exact.{Asks, RefusesFile, TakesFile, RefusesScript, Misses, Comes, Exact}
 use Rattle.stackc_run.specs.declared.fault.Fault.{Fault}
 use Rattle.stackc_run.specs.declared.fault.Fault.TheVariants.{Words, FileTooLarge, FileLater, ScriptTooLong, ScriptLater, Read, Write, Memory}
 use Rattle.stackc_run.proofs.Complete.{told_so, one_some, not_none}

@@ -1,10 +1,9 @@
 -- With status 0 the output's stream has the whole report.
-use Rattle.std.proofs.Common.{◌≡◌, ℕ, ◌<◌, Bool, true, subst, sym, ◌∙◌, arith, List}
+use Rattle.std.proofs.Common.{◌≡◌, ℕ, ◌<◌, true, subst, sym, ◌∙◌, arith}
 use Rattle.std.specs.Prelude.{Option, Result, Ok, Err}
 use Rattle.outside.proofs.Appended.{appends_keeps}
 use Rattle.outside.specs.Shelf.{Shelved}
 use Rattle.first_run.specs.Report.{report}
-use Rattle.stackc_run.specs.Tells.{Tells}
 use Rattle.stackc_run.specs.Job.{Replay}
 use Rattle.stackc_run.specs.Run.{around, errors}
 use Rattle.stackc_run.specs.Ended.{Around, Errors, Ended, Done, Said, Says, whole, failed, no_memory, status}

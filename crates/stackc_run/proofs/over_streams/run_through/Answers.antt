@@ -1,10 +1,6 @@
-use Rattle.std.proofs.Common.{None, map}
-use Rattle.std.specs.String.{string_bytes}
-use Rattle.outside.specs.Stream.{stream_of}
+use Rattle.std.proofs.Common.{None}
 use Rattle.outside.specs.StdSink.{gathered}
-use Rattle.stackc_run.specs.Job.{job}
 use Rattle.stackc_run.specs.Tells.{tells}
-use Rattle.stackc_run.specs.Through.{RunsThrough}
 use Rattle.stackc_run.proofs.Through.{delivers}
 use Rattle.stackc_run.proofs.over_streams.run_through.Goals as goal
 
