@@ -1,4 +1,0 @@
-pub mod Gaining
-pub mod Stories
-pub mod Held
-pub mod Complete

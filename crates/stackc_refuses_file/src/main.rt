@@ -1,0 +1,9 @@
+//! The program's run on a file that isn't of the form that is built so far: it ends with status 1.
+#![tactic(auto)]
+
+use stackc_run::program;
+use std::process::ExitCode;
+
+fn main(rt: HostRuntime) -> ExitCode {
+    ExitCode::from(program(&rt, rt.stdout(), rt.stderr()))
+}

@@ -1,0 +1,6 @@
+pub mod Gaining
+pub mod Stories
+pub mod Held
+pub mod Complete
+pub mod Exact
+pub mod Through

@@ -1,0 +1,50 @@
+//! The program over the system's arguments, files and streams.
+
+use crate::over_streams::run_through;
+use outside::{FileShelf, StdSink};
+use std::alloc::Global;
+use std::env;
+use std::io::{self, ErrorKind, Write};
+use std::rt::{Env, Files};
+
+/// The status where memory ran out before the standard error was made.
+const NO_MEMORY: u8 = 7;
+
+/// Does the job that the command line names, and answers the program's status. Where memory runs out before the
+/// standard error is made, nothing is said.
+pub fn program<R: AllocGlobal + Env + Files, O: Write + Drop, E: Write + Drop>(
+    system: &R,
+    out: O,
+    err: E,
+) -> u8 {
+    begun(system, out, err).unwrap_or(NO_MEMORY)
+}
+
+fn begun<R: AllocGlobal + Env + Files, O: Write + Drop, E: Write + Drop>(
+    system: &R,
+    out: O,
+    err: E,
+) -> io::Result<u8> {
+    let alloc = system.alloc();
+    let words = words(system)?;
+    let mut shelf = FileShelf::of(system);
+    let mut out = StdSink::of(alloc, out)?;
+    let mut err = StdSink::of(alloc, err)?;
+    Ok(run_through(alloc, &words, &mut shelf, &mut out, &mut err))
+}
+
+/// The words of the command line, without the program's name. Where one of them isn't UTF-8 there are none, since such a
+/// word is no job's. An error says that memory ran out.
+fn words<R: AllocGlobal + Env>(system: &R) -> io::Result<Vec<String>> {
+    let mut words = Vec::new(system.alloc());
+    match env::args(system) {
+        Ok(all) => {
+            for word in all.skip(1) {
+                words.push(word)?;
+            }
+        }
+        Err(error) if error.kind() == ErrorKind::InvalidData => {}
+        Err(error) => return Err(error),
+    }
+    Ok(words)
+}

@@ -1,0 +1,264 @@
+//! Whole runs over files and sinks in memory: what no clause says is that memory is not wanted.
+
+use crate::{run, run_through};
+use outside::{MemShelf, MemSink, NamedFile, StdSink};
+use std::alloc::{AllocError, Global};
+use std::io::{self, ErrorKind, Write};
+use std::test::Fail;
+
+const COUNTER: &[u8] =
+    b"layer cnt {\n  state int k;\n  state int e[n];\n  header num(seq) passes;\n  down Cast(p, m) {\n    down Cast(p, m) with num(k);\n    set k = (k + 1);\n  }\n  up Cast(o, m) with num(seq) common (seq == e[o]) {\n    set e[o] = (seq + 1);\n    up Cast(o, m);\n  }\n}\nstack { cnt; }\n";
+
+/// A layer with a queue, which is not of the form that is built so far.
+const QUEUE: &[u8] =
+    b"layer one {\n  state int s = 4294967295;\n  state queue q[1] of (x: int);\n  header num(v) passes;\n  header full() ends;\n  down Cast(p, m) {\n    push q (s) else { down Cast(p, nothing) with full(); }\n    set s = (s + 1);\n    down Cast(p, m) with num(s);\n  }\n}\nstack { one; }\n";
+
+/// What a run left: its status, and the bytes on its output and on its standard error.
+#[derive(Drop)]
+struct Left {
+    status: u8,
+    out: Vec<u8>,
+    err: Vec<u8>,
+}
+
+fn words(alloc: Global, texts: &[&str]) -> Result<Vec<String>, AllocError> {
+    let mut words = Vec::new(alloc);
+    for text in texts {
+        words.push(String::from_str(alloc, text)?)?;
+    }
+    Ok(words)
+}
+
+fn named(alloc: Global, name: &str, bytes: &[u8]) -> Result<NamedFile, AllocError> {
+    Ok(NamedFile {
+        name: String::from_str(alloc, name)?,
+        bytes: Vec::from_slice(alloc, bytes)?,
+    })
+}
+
+/// A replay of a script over a stack file, with the reads and the puts that are to fail.
+fn replayed(
+    alloc: Global,
+    file: &[u8],
+    script: &[u8],
+    reads: Vec<bool>,
+    puts: Vec<Option<u64>>,
+) -> Result<Left, AllocError> {
+    let words = words(alloc, &["replay", "f", "s", "--run", "layered"])?;
+    let files = vec![in alloc; named(alloc, "f", file)?, named(alloc, "s", script)?]?;
+    let mut shelf = MemShelf::of(files, reads);
+    let mut out = MemSink::of(alloc, puts);
+    let mut err = MemSink::of(alloc, Vec::new(alloc));
+    let status = run(alloc, &words, &mut shelf, &mut out, &mut err);
+    Ok(Left {
+        status,
+        out: Vec::from_slice(alloc, out.contents())?,
+        err: Vec::from_slice(alloc, err.contents())?,
+    })
+}
+
+#[test]
+fn replays_and_refuses(rt: HostRuntime) -> Result<(), Fail> {
+    let alloc = rt.alloc();
+    let first = b"group 1 stamp 7 members 3\n";
+    let cases: [(&[u8], &[u8], u8, &[u8], &[u8]); 9] = [
+        (
+            COUNTER,
+            b"group 1 stamp 7 members 3\ncast 0 6869\ngive 1 1\n",
+            0,
+            b"packet 1 0 all cnt.num(0) 6869\ndeliver 1 cast 0 6869\nend 2\n",
+            b"",
+        ),
+        (COUNTER, first, 0, b"end 0\n", b""),
+        (
+            COUNTER,
+            b"group 1 stamp 7 members 3\ncast 0 6869\ngive 1 1\ngive 1 1\nstate 1\n",
+            0,
+            b"packet 1 0 all cnt.num(0) 6869\ndeliver 1 cast 0 6869\ndeliver 1 cast 0 6869\nstate 1 0 7\ncell 1 0 cnt.k 0\ncell 1 0 cnt.e 1 0 0\nend 4\n",
+            b"",
+        ),
+        (
+            COUNTER,
+            b"group 1 stamp 7 members 3\ncast 2 -\ngive 1 2\ngive 2 0\ngive 0 0\n",
+            0,
+            b"packet 1 2 all cnt.num(0) -\nrefused 2 sender\nabsent 0 2\nabsent 0 0\nend 4\n",
+            b"",
+        ),
+        (QUEUE, first, 1, b"", b"file: later\n"),
+        (b"", first, 1, b"", b"file: later\n"),
+        (
+            COUNTER,
+            b"group 1 stamp 7 members 3\ncast 0 6\n",
+            3,
+            b"",
+            b"script: later\n",
+        ),
+        (
+            COUNTER,
+            b"group 1 stamp 7 members 3\ncast 3 61\n",
+            3,
+            b"",
+            b"script: later\n",
+        ),
+        (
+            COUNTER,
+            b"group 1 stamp 7 members 3\ntick 0 0\n",
+            3,
+            b"",
+            b"script: later\n",
+        ),
+    ];
+    for (file, script, status, out, err) in cases {
+        let left = replayed(alloc, file, script, Vec::new(alloc), Vec::new(alloc))?;
+        assert_eq!(rt; left.status, status);
+        assert_eq!(rt; left.out.as_slice(), out);
+        assert_eq!(rt; left.err.as_slice(), err);
+    }
+    Ok(())
+}
+
+#[test]
+fn says_what_failed(rt: HostRuntime) -> Result<(), Fail> {
+    let alloc = rt.alloc();
+    let script = b"group 1 stamp 7 members 3\ncast 0 6869\ngive 1 1\n";
+    let third = replayed(
+        alloc,
+        COUNTER,
+        script,
+        Vec::new(alloc),
+        vec![in alloc; None, None, Some(0)]?,
+    )?;
+    assert_eq!(rt; third.status, 5);
+    assert_eq!(rt;
+        third.out.as_slice(),
+        b"packet 1 0 all cnt.num(0) 6869\ndeliver 1 cast 0 6869\n".as_slice()
+    );
+    assert_eq!(rt; third.err.as_slice(), b"write fault\n".as_slice());
+    for reads in [vec![in alloc; true]?, vec![in alloc; false, true]?] {
+        let left = replayed(alloc, COUNTER, script, reads, Vec::new(alloc))?;
+        assert_eq!(rt; left.status, 4);
+        assert_eq!(rt; left.out.as_slice(), b"".as_slice());
+        assert_eq!(rt; left.err.as_slice(), b"read fault\n".as_slice());
+    }
+    Ok(())
+}
+
+#[test]
+fn refuses_what_is_too_large(rt: HostRuntime) -> Result<(), Fail> {
+    let alloc = rt.alloc();
+    let first = b"group 1 stamp 7 members 3\n";
+    let large = vec![in alloc; b' '; 1_048_577]?;
+    let left = replayed(alloc, &large, first, Vec::new(alloc), Vec::new(alloc))?;
+    assert_eq!(rt; left.status, 1);
+    assert_eq!(rt; left.err.as_slice(), b"file: too large\n".as_slice());
+    let bytes = vec![in alloc; b'\n'; 4_194_305]?;
+    let lines = vec![in alloc; b'\n'; 100_001]?;
+    for script in [bytes, lines] {
+        let left = replayed(alloc, COUNTER, &script, Vec::new(alloc), Vec::new(alloc))?;
+        assert_eq!(rt; left.status, 3);
+        assert_eq!(rt; left.out.as_slice(), b"".as_slice());
+        assert_eq!(rt; left.err.as_slice(), b"script: too long\n".as_slice());
+    }
+    let mut script = Vec::from_slice(alloc, b"group 1 stamp 7 members 3\ncast 0 ")?;
+    script.extend_from_slice(&vec![in alloc; b'6'; 2 * 8193]?)?;
+    let left = replayed(alloc, COUNTER, &script, Vec::new(alloc), Vec::new(alloc))?;
+    assert_eq!(rt; left.status, 3);
+    assert_eq!(rt; left.err.as_slice(), b"script: later\n".as_slice());
+    Ok(())
+}
+
+#[test]
+fn refuses_other_words(rt: HostRuntime) -> Result<(), Fail> {
+    let alloc = rt.alloc();
+    let cases: [&[&str]; 5] = [
+        &[],
+        &["replay", "a"],
+        &["play", "f", "s", "--run", "layered"],
+        &["replay", "f", "s", "--run", "bypass"],
+        &["replay", "f", "s", "--run", "layered", "--wire"],
+    ];
+    for texts in cases {
+        let mut shelf = MemShelf::of(Vec::new(alloc), Vec::new(alloc));
+        let mut out = MemSink::of(alloc, Vec::new(alloc));
+        let mut err = MemSink::of(alloc, Vec::new(alloc));
+        let words = words(alloc, texts)?;
+        assert_eq!(rt; run(alloc, &words, &mut shelf, &mut out, &mut err), 2);
+        assert_eq!(rt; out.contents(), b"".as_slice());
+        assert_eq!(rt; err.contents(), b"words: refused\n".as_slice());
+    }
+    let words = words(alloc, &["replay", "f", "s", "--run", "layered"])?;
+    let mut shelf = MemShelf::of(Vec::new(alloc), Vec::new(alloc));
+    let mut out = MemSink::of(alloc, Vec::new(alloc));
+    let mut err = MemSink::of(alloc, Vec::new(alloc));
+    assert_eq!(rt; run(alloc, &words, &mut shelf, &mut out, &mut err), 4);
+    assert_eq!(rt; err.contents(), b"read fault\n".as_slice());
+    Ok(())
+}
+
+/// A stream that takes so many bytes and no more, and whose flush may fail.
+#[derive(Drop)]
+struct Narrow {
+    taken: Vec<u8>,
+    most: usize,
+    stuck: bool,
+}
+
+impl Write for Narrow {
+    fn write(&mut self, buf: &[u8]) -> io::Result<usize> {
+        let count = buf.len().min(self.most.saturating_sub(self.taken.len()));
+        self.taken.extend_from_slice(&buf[..count])?;
+        Ok(count)
+    }
+
+    fn flush(&mut self) -> io::Result<()> {
+        if self.stuck {
+            return Err(io::Error::from(ErrorKind::BrokenPipe));
+        }
+        Ok(())
+    }
+}
+
+/// A run of the counter layer, or of another file, over a stream that takes so many bytes.
+fn streamed(alloc: Global, file: &[u8], most: usize, stuck: bool) -> Result<Left, AllocError> {
+    let words = words(alloc, &["replay", "f", "s", "--run", "layered"])?;
+    let script = b"group 1 stamp 7 members 3\n";
+    let files = vec![in alloc; named(alloc, "f", file)?, named(alloc, "s", script)?]?;
+    let mut shelf = MemShelf::of(files, Vec::new(alloc));
+    let output = Narrow {
+        taken: Vec::new(alloc),
+        most,
+        stuck,
+    };
+    let error = Narrow {
+        taken: Vec::new(alloc),
+        most: 100,
+        stuck: false,
+    };
+    let mut out = StdSink::of(alloc, output)?;
+    let mut err = StdSink::of(alloc, error)?;
+    let status = run_through(alloc, &words, &mut shelf, &mut out, &mut err);
+    Ok(Left {
+        status,
+        out: out.stream().taken.clone()?,
+        err: err.stream().taken.clone()?,
+    })
+}
+
+#[test]
+fn hands_on_what_was_put(rt: HostRuntime) -> Result<(), Fail> {
+    let alloc = rt.alloc();
+    let cases: [(&[u8], usize, bool, u8, &[u8], &[u8]); 5] = [
+        (COUNTER, 100, false, 0, b"end 0\n", b""),
+        (COUNTER, 3, false, 5, b"end", b"write fault\n"),
+        (COUNTER, 100, true, 5, b"end 0\n", b"write fault\n"),
+        (QUEUE, 100, false, 1, b"", b"file: later\n"),
+        (QUEUE, 100, true, 1, b"", b"file: later\n"),
+    ];
+    for (file, most, stuck, status, out, err) in cases {
+        let left = streamed(alloc, file, most, stuck)?;
+        assert_eq!(rt; left.status, status);
+        assert_eq!(rt; left.out.as_slice(), out);
+        assert_eq!(rt; left.err.as_slice(), err);
+    }
+    Ok(())
+}
