@@ -63,7 +63,7 @@ either false false false b c false b' c' t t' e = absurd cc
 either false false false b c true b' c' t t' e = covered_first b c b' c' (t'.from_first refl) t.from_second
 either false mc true b c a' b' c' t t' e = rw (← (t.from_first refl)) (covered_same b mc a' b' c' t'.from_second)
 
-same_bytes : (xs ys : List ℕ) → bytes_eq xs ys ≡ true → xs ≡ ys
+pub same_bytes : (xs ys : List ℕ) → bytes_eq xs ys ≡ true → xs ≡ ys
 same_bytes [] [] e = refl
 same_bytes [] (y ∷ ys) e = absurd cc
 same_bytes (x ∷ xs) [] e = absurd cc
@@ -71,10 +71,10 @@ same_bytes (x ∷ xs) (y ∷ ys) e =
     let parts = both (x == y) (bytes_eq xs ys) e in
     λ i. eqb-true x y parts.0 i ∷ same_bytes xs ys parts.1 i
 
-turned : (m n : ℕ) → (m == n) ≡ (n == m)
+pub turned : (m n : ℕ) → (m == n) ≡ (n == m)
 turned m n = grind (arith, nat_tests)
 
-turned_bytes : (xs ys : List ℕ) → bytes_eq xs ys ≡ bytes_eq ys xs
+pub turned_bytes : (xs ys : List ℕ) → bytes_eq xs ys ≡ bytes_eq ys xs
 turned_bytes [] [] = refl
 turned_bytes [] (y ∷ ys) = refl
 turned_bytes (x ∷ xs) [] = refl
@@ -112,7 +112,7 @@ keyed lists a b = named a.entry.segment.name b.entry.segment.name lists
     named (in_view l k) (in_view m n) of_each_peer = refl
     named (in_view l k) (in_view m n) whole = refl
 
-same_views : (a b : Option (ℕ × ℕ)) → option_eq same_view a b ≡ true → a ≡ b
+pub same_views : (a b : Option (ℕ × ℕ)) → option_eq same_view a b ≡ true → a ≡ b
 same_views None None e = refl
 same_views None (Some y) e = absurd cc
 same_views (Some x) None e = absurd cc

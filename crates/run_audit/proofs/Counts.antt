@@ -38,7 +38,7 @@ one_key a b e =
     let r = same_option a.peer b.peer begun.1 in
     λ i. record { member = p i; began = q i; peer = r i }
 
-count_more : (p : Entry → Bool) (xs : List Entry) (x : Entry) → count_by p (xs ++ x ∷ []) ≡ count_by p xs + cond (p x) 1 0
+pub count_more : (p : Entry → Bool) (xs : List Entry) (x : Entry) → count_by p (xs ++ x ∷ []) ≡ count_by p xs + cond (p x) 1 0
 count_more p xs x = fold-append (λ a y. a + cond (p y) 1 0) 0 xs (x ∷ [])
 
 -- with one more delivery its list is longer by one

@@ -23,13 +23,13 @@ led_on old new before line stands next =
     λ member below. next member ∙ rw (stands member below) (sym (fold-append (segment_next member) (Some first_segment) before (line ∷ [])))
 
 -- the deliveries with one more line
-one_more : (before lines : List Numbered) (line : Numbered) → entries_behind before (lines ++ line ∷ []) ≡ entries_behind before lines ++ option_to_list (entry_behind (before ++ lines) line)
+pub one_more : (before lines : List Numbered) (line : Numbered) → entries_behind before (lines ++ line ∷ []) ≡ entries_behind before lines ++ option_to_list (entry_behind (before ++ lines) line)
 one_more before [] line = append-nil (option_to_list (entry_behind before line)) ∙ rw (append-nil before) refl
 one_more before (first ∷ lines) line =
     rw (one_more (before ++ first ∷ []) lines line, append_assoc before (first ∷ []) lines) (sym (append_assoc (option_to_list (entry_behind before first)) (entries_behind (before ++ first ∷ []) lines) (option_to_list (entry_behind (before ++ first ∷ lines) line))))
 
 -- one more of the lines with their numbers
-numbered_more : (lines : List Line) (i : ℕ) (line d : Line) → i < length lines → line ≡ get_or lines i d → take (i + 1) (numbered lines) ≡ take i (numbered lines) ++ (i + 1, shown line) ∷ []
+pub numbered_more : (lines : List Line) (i : ℕ) (line d : Line) → i < length lines → line ≡ get_or lines i d → take (i + 1) (numbered lines) ≡ take i (numbered lines) ++ (i + 1, shown line) ∷ []
 numbered_more lines i line d inside is =
     let all = length-enumerate_from 1 (map shown lines) in
     let mapped = length-map lines shown in

@@ -2,6 +2,10 @@ pub mod Agree
 pub mod Bodies
 pub mod Counts
 pub mod Deliveries
+pub mod Endings
+pub mod Groups
 pub mod Numbers
+pub mod Ranks
 pub mod Reports
 pub mod Rising
+pub mod Surplus

@@ -1,18 +1,9 @@
 -- What the answer of an audit says of what the definitions find.
 use Rattle.std.specs.Prelude.{◌≡◌, Result, Ok, Err}
 use Rattle.audit_mean.specs.Finding.{AuditFault, too_large, bad_line}
-use Rattle.audit_mean.specs.declared.law.Law.{Law}
-use Rattle.audit_mean.specs.declared.law.Law.TheVariants.{Sender, Total}
 use Rattle.audit_mean.specs.declared.law.Finding.{Finding}
 use Rattle.run_audit.specs.declared.error.AuditError.{AuditError}
 use Rattle.run_audit.specs.declared.error.AuditError.TheVariants.{TooLarge, Line, Memory}
-use Rattle.run_audit.specs.declared.places.Lists.{Lists}
-use Rattle.run_audit.specs.declared.places.Lists.TheVariants.{OfEachPeer, Whole}
-
--- the law that these lists are compared for
-abbrev pub law_of : Lists → Law
-law_of OfEachPeer = Sender
-law_of Whole = Total
 
 -- the answer is the finding, or why the text is no report; want of memory says nothing
 abbrev pub Audits : Result Finding AuditFault → Result Finding AuditError → Type 0

@@ -1,5 +1,6 @@
 pub mod Audits
 pub mod Clashes
 pub mod Entries
+pub mod Lacks
 pub mod Places
 pub mod Reading

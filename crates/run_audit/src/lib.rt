@@ -2,9 +2,12 @@
 #![tactic(auto)]
 
 mod clashes;
+mod contents;
+mod ended;
 mod error;
+mod judge;
+mod lacks;
 mod line;
-mod order;
 mod parts;
 mod places;
 mod report;
@@ -14,6 +17,5 @@ mod tests;
 mod values;
 
 pub use crate::error::AuditError;
-pub use crate::order::audit_order;
-pub use crate::places::Lists;
+pub use crate::judge::audit;
 pub use audit_mean::{Finding, Law};

@@ -11,7 +11,7 @@ use std::collections::HashMap;
 
 /// The lists that are compared: a segment's deliveries from each peer by itself, or all of them.
 #[derive(Clone, Copy)]
-pub enum Lists {
+pub(crate) enum Lists {
     OfEachPeer,
     Whole,
 }

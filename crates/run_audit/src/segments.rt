@@ -33,7 +33,7 @@ pub(crate) struct Segments {
 }
 
 impl Segments {
-    fn first() -> Segments
+    pub(crate) fn first() -> Segments
         ensures { Stands result [] }
     {
         let first = Segment {
@@ -45,7 +45,7 @@ impl Segments {
         }
     }
 
-    fn of(&self, member: u8) -> Option<Segment>
+    pub(crate) fn of(&self, member: u8) -> Option<Segment>
         ensures { option_map segment_shown result ≡ standing self.now member }
     {
         self.of_members[member as usize]
@@ -59,7 +59,7 @@ impl Segments {
     }
 
     /// The segments behind a line.
-    fn advance(&mut self, number: u32, line: &Line<'_>)
+    pub(crate) fn advance(&mut self, number: u32, line: &Line<'_>)
         ensures this { (m : ℕ) → standing self.new m ≡ spec.segment_next m (standing self.old m) (number, shown line.now) }
     {
         match line {
@@ -76,7 +76,7 @@ impl Segments {
     }
 
     /// The delivery of a line in a segment, if it is one.
-    fn entry<'a>(&self, number: u32, line: &Line<'a>) -> Option<Entry<'a>>
+    pub(crate) fn entry<'a>(&self, number: u32, line: &Line<'a>) -> Option<Entry<'a>>
         ensures { (before : List spec.Numbered) → Stands self.now before → option_map entry_shown result ≡ spec.entry_behind before (number, shown line.now) }
     {
         match line {

@@ -1,6 +1,6 @@
 //! What no clause says: that an audit succeeds where there is memory, also at the limit, and what an
 //! error prints.
-use crate::{AuditError, Finding, Lists, audit_order};
+use crate::{AuditError, Finding, Law, audit};
 use std::alloc::{AllocError, Global};
 use std::test::Fail;
 
@@ -22,15 +22,23 @@ fn finds_the_least_breach(rt: HostRuntime) -> Result<(), Fail> {
 view 1 1 3\ndeliver 1 cast 0 61\nend 0"
         .as_slice();
     let out = b"out 0\ndeliver 0 cast 0 61\ndeliver 1 cast 0 62\nend 0\nvisits 7".as_slice();
+    let parted = b"deliver 0 cast 0 61\ndeliver 0 cast 0 61\ndeliver 1 cast 0 61\nview 0 1 3\n\
+view 1 1 3\nend 0"
+        .as_slice();
+    let behind = b"view 1 1 3\ndeliver 0 cast 0 61\nview 0 1 3\nend 3\nvisits 0".as_slice();
     let cases = [
-        (crossed, Lists::Whole, Finding::Breach(1, 2)),
-        (crossed, Lists::OfEachPeer, Finding::Holds),
-        (twice, Lists::Whole, Finding::Breach(5, 7)),
-        (twice, Lists::OfEachPeer, Finding::Breach(5, 7)),
-        (out, Lists::Whole, Finding::Holds),
+        (crossed, Law::Total, Finding::Breach(1, 2)),
+        (crossed, Law::Sender, Finding::Holds),
+        (crossed, Law::Same, Finding::Holds),
+        (twice, Law::Total, Finding::Breach(5, 7)),
+        (twice, Law::Sender, Finding::Breach(5, 7)),
+        (twice, Law::Same, Finding::Holds),
+        (out, Law::Total, Finding::Holds),
+        (parted, Law::Same, Finding::Breach(2, 5)),
+        (behind, Law::Same, Finding::Breach(2, 1)),
     ];
-    for (text, lists, expected) in cases {
-        let found = audit_order(rt.alloc(), text, lists)?;
+    for (text, law, expected) in cases {
+        let found = audit(rt.alloc(), text, law)?;
         assert_eq!(rt; found, expected);
     }
     Ok(())
@@ -40,7 +48,7 @@ view 1 1 3\ndeliver 1 cast 0 61\nend 0"
 fn audits_up_to_the_limit(rt: HostRuntime) -> Result<(), Fail> {
     for (bytes, fits) in [(67_108_864, true), (67_108_865, false)] {
         let text = padded(rt.alloc(), bytes)?;
-        let found = audit_order(rt.alloc(), text.as_slice(), Lists::Whole);
+        let found = audit(rt.alloc(), text.as_slice(), Law::Total);
         assert_eq!(rt; found.is_ok(), fits, "{bytes} bytes");
     }
     Ok(())
@@ -56,7 +64,7 @@ fn errors_say_what_is_wrong(rt: HostRuntime) -> Result<(), Fail> {
         (b"state\n".as_slice(), "line 2"),
     ];
     for (text, expected) in cases {
-        match audit_order(rt.alloc(), text, Lists::Whole) {
+        match audit(rt.alloc(), text, Law::Total) {
             Ok(_) => panic!(rt; "a report"),
             Err(error) => {
                 let shown = format!(in rt.alloc(); "{error}")?;

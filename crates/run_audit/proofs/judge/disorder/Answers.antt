@@ -7,7 +7,7 @@ use Rattle.run_audit.specs.Reading.{shown}
 use Rattle.run_audit.specs.Entries.{numbered, entry_shown}
 use Rattle.run_audit.specs.Places.{lists_shown}
 use Rattle.run_audit.proofs.Rising.{few_entries, in_order}
-use Rattle.run_audit.proofs.order.least_breach.Goals as goal
+use Rattle.run_audit.proofs.judge.disorder.Goals as goal
 
 pub place-requires : goal.place-requires
 place-requires c =

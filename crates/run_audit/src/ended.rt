@@ -1,0 +1,150 @@
+//! The segments that members end by going into a view.
+ghost use Rattle.std.specs.Prelude.{◌≡◌, ◌<◌, ◌^◌, ◌++◌, ◌∷◌, if◌then◌else◌, List, length, map, filter, option_map, [], IfOk};
+ghost use Rattle.std.specs.HashMap as hash;
+ghost use Rattle.std.specs.Option.{option_to_list};
+ghost use Rattle.audit_mean.specs.Segment.{Numbered};
+ghost use Rattle.audit_mean.specs.Lack as spec;
+ghost use Rattle.run_audit.specs.Entries.{Stands, entry_shown, numbered};
+ghost use Rattle.run_audit.specs.Reading.{shown};
+ghost use Rattle.run_audit.specs.Lacks.{Holds, ended_shown, known, listed, ranked_behind, ranked_shown, same_segment, segment_key};
+ghost use Rattle.run_audit.specs.declared.ended.SegmentKey.{SegmentKey};
+
+use crate::contents::{Ranked, rank};
+use crate::line::Line;
+use crate::segments::{Entry, Segments};
+use std::alloc::{AllocError, Global};
+use std::collections::HashMap;
+
+/// From which view a member went into which, each with its logical time and its mask; none is before
+/// the first.
+#[derive(Clone, Copy, PartialEq, Eq, Hash)]
+pub(crate) struct Way {
+    from: Option<(u32, u32)>,
+    to: (u32, u32),
+}
+
+/// A segment that a member ended by the `view` line of this number, and the deliveries in it.
+#[derive(Drop)]
+pub(crate) struct Ended<'a> {
+    pub line: u32,
+    pub member: u8,
+    pub way: Way,
+    pub deliveries: Vec<Ranked<'a>>,
+}
+
+/// What tells a segment from the others: its member, and the number of the line that began it.
+#[derive(Clone, Copy, PartialEq, Eq, Hash)]
+struct SegmentKey {
+    member: u8,
+    began: u32,
+}
+
+/// The segments that the members of a report ended by `view` lines, in the order of these.
+pub(crate) fn ended_segments<'a>(
+    alloc: Global,
+    lines: &[Line<'a>],
+) -> Result<Vec<Ended<'a>>, AllocError>
+    requires { length lines.now < 2 ^ 32 }
+    ensures { IfOk result (λ ended. map ended_shown ended.items ≡ map known (spec.ended_behind [] (numbered lines.now))) }
+{
+    let mut segments = Segments::first();
+    let mut held = HashMap::new(alloc);
+    let mut all = Vec::new(alloc);
+    for (index, line) in lines.iter().enumerate() {
+        let number = index as u32 + 1;
+        let ended = ended_by(alloc, &segments, &held, number, line)?;
+        push_some(&mut all, ended)?;
+        add_some(alloc, &mut held, segments.entry(number, line))?;
+        segments.advance(number, line);
+    }
+    Ok(all)
+}
+
+/// The segment that a line ends, if it does by `view`.
+fn ended_by<'a>(
+    alloc: Global,
+    segments: &Segments,
+    held: &HashMap<SegmentKey, Vec<Entry<'a>>>,
+    number: u32,
+    line: &Line<'a>,
+) -> Result<Option<Ended<'a>>, AllocError>
+    ensures { IfOk result (λ ended. (before : List Numbered) → Stands segments.now before → Holds (hash.get same_segment held.now) before → option_map ended_shown ended ≡ option_map known (spec.ended_by before (number, shown line.now))) }
+{
+    let Line::View(member, ltime, mask) = line else {
+        return Ok(None);
+    };
+    let Some(segment) = segments.of(*member) else {
+        return Ok(None);
+    };
+    let key = SegmentKey {
+        member: *member,
+        began: segment.began,
+    };
+    let deliveries = rank_at(alloc, held, key)?;
+    Ok(Some(Ended {
+        line: number,
+        member: *member,
+        way: Way {
+            from: segment.view,
+            to: (*ltime, *mask),
+        },
+        deliveries,
+    }))
+}
+
+/// The deliveries of a segment with their ranks.
+fn rank_at<'a>(
+    alloc: Global,
+    held: &HashMap<SegmentKey, Vec<Entry<'a>>>,
+    key: SegmentKey,
+) -> Result<Vec<Ranked<'a>>, AllocError>
+    ensures { IfOk result (λ ranked. map ranked_shown ranked.items ≡ ranked_behind [] (map entry_shown (listed (hash.get same_segment held.now key)))) }
+{
+    match held.get(&key) {
+        Some(entries) => rank(alloc, entries.as_slice()),
+        None => Ok(Vec::new(alloc)),
+    }
+}
+
+fn push_some<'a>(all: &mut Vec<Ended<'a>>, ended: Option<Ended<'a>>) -> Result<(), AllocError>
+    ensures { IfOk result (λ done. all.new.items ≡ all.old.items ++ option_to_list ended.entry) }
+{
+    if let Some(ended) = ended {
+        all.push(ended)?;
+    }
+    Ok(())
+}
+
+/// One more delivery in its segment, if there is one.
+fn add_some<'a>(
+    alloc: Global,
+    held: &mut HashMap<SegmentKey, Vec<Entry<'a>>>,
+    entry: Option<Entry<'a>>,
+) -> Result<(), AllocError>
+    ensures { IfOk result (λ done. (key : SegmentKey) → listed (hash.get same_segment held.new key) ≡ listed (hash.get same_segment held.old key) ++ filter (λ e. same_segment (segment_key e) key) (option_to_list entry.entry)) }
+{
+    if let Some(entry) = entry {
+        add(alloc, held, entry)?;
+    }
+    Ok(())
+}
+
+fn add<'a>(
+    alloc: Global,
+    held: &mut HashMap<SegmentKey, Vec<Entry<'a>>>,
+    entry: Entry<'a>,
+) -> Result<(), AllocError>
+    ensures { IfOk result (λ done. (key : SegmentKey) → listed (hash.get same_segment held.new key) ≡ (if same_segment (segment_key entry.entry) key then listed (hash.get same_segment held.old (segment_key entry.entry)) ++ entry.entry ∷ [] else listed (hash.get same_segment held.old key))) }
+{
+    let key = SegmentKey {
+        member: entry.member,
+        began: entry.segment.began,
+    };
+    let mut entries = match held.remove(&key) {
+        Some(entries) => entries,
+        None => Vec::new(alloc),
+    };
+    entries.push(entry)?;
+    held.insert(key, entries)?;
+    Ok(())
+}
