@@ -1,0 +1,3 @@
+pub mod Bare
+pub mod Wires
+pub mod Ends
