@@ -8,4 +8,5 @@ pub mod Takes
 pub mod Blocks
 pub mod Handlers
 pub mod Files
+pub mod Texts
 pub mod SmallFiles

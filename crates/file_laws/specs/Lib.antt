@@ -1,3 +1,4 @@
 pub mod Literals
 pub mod Files
+pub mod Texts
 pub mod Samples
