@@ -1,3 +1,4 @@
 pub mod Bare
 pub mod Wires
 pub mod Ends
+pub mod Numbered

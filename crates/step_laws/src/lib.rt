@@ -2,6 +2,7 @@
 //! bytes, and its run ends within the weight of its entry.
 #![tactic(auto)]
 
+ghost use Rattle.step_laws.specs.Plans.{InputsAreInRange, PlansAreNumbered, WorldsAreChained};
 ghost use Rattle.step_laws.specs.Steps.{ChainedLines, ChainedTurns, PacketsFit, StepsEnd, TypedRunsAreBare, WiresAreSpelled};
 
 /// Parts that a run of a typed stack reads have no headers.
@@ -32,4 +33,19 @@ pub fn chained_lines()
 /// The run of a step of an accepted stack ends within the weight of its entry.
 pub fn steps_end()
     ensures { StepsEnd }
+{}
+
+/// The constants of a typed stack's plans are below 2^32.
+pub fn plans_are_numbered()
+    ensures { PlansAreNumbered }
+{}
+
+/// What a member of a typed stack is given enters in range.
+pub fn inputs_are_in_range()
+    ensures { InputsAreInRange }
+{}
+
+/// Along a run of the world of a typed stack each world is chained.
+pub fn worlds_are_chained()
+    ensures { WorldsAreChained }
 {}
