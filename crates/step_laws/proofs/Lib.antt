@@ -2,3 +2,4 @@ pub mod Bare
 pub mod Wires
 pub mod Ends
 pub mod Numbered
+pub mod SmallStacks

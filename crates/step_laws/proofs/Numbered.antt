@@ -1,7 +1,7 @@
 -- What is drawn of a typed stack's runs has constants below 2^32.
-use Rattle.std.proofs.Common.{◌≡◌, ℕ, zero, suc, ◌+◌, ◌-◌, ◌<◌, Bool, true, false, List, [], ◌∷◌, ◌++◌, map, length, Option, Some, None, refl, arith}
-use Rattle.std.specs.Prelude.{◌^◌, ◌==◌, IfSome, nat_lt, if◌then◌else◌, take, slice_set, Result, Ok, Err, option_map, option_to_list}
-use Rattle.std.specs.List.{All, AllByRecursion, enumerate_from, filter, find, flat_map}
+use Rattle.std.proofs.Common.{◌≡◌, ℕ, zero, suc, ◌+◌, ◌-◌, ◌<◌, Bool, true, false, List, [], ◌∷◌, map, length, Option, Some, None}
+use Rattle.std.specs.Prelude.{◌^◌, ◌==◌, IfSome, nat_lt, if◌then◌else◌, Result, Ok, Err, option_map, option_to_list}
+use Rattle.std.specs.List.{All, AllByRecursion, enumerate_from, filter, flat_map}
 use Rattle.std.specs.Option.{option_map_or, option_and_then}
 use Rattle.msg_core.specs.declared.message.Header.{Header}
 use Rattle.layer_ast.specs.declared.syntax.Function.{Function}
@@ -12,23 +12,22 @@ use Rattle.layer_ast.specs.declared.tokens.Dir.TheVariants.{Up, Down}
 use Rattle.layer_mean.specs.declared.run.Case.{Case}
 use Rattle.layer_mean.specs.declared.run.Case.TheVariants.{First, Second}
 use Rattle.layer_mean.specs.Event.{carries}
-use Rattle.layer_mean.specs.Tree.{Carried, part, whole, ExpressionTree, number, me, count, ltime, local, element, square, rows, item, size, binary, apply, pick, MessageTree, message, nothing, held, cut, tail, join, ContentTree, EmissionTree, TakenTree, StatementTree, bind, assign, assign_square, push, take as take_row, branch, each, emit, StatementTrees, none, more, Expected, always, common, rare, HandlerTree, LayerTree, no_layer}
+use Rattle.layer_mean.specs.Tree.{Carried, part, whole, ExpressionTree, number, me, count, ltime, local, element, square, rows, item, size, binary, apply, pick, MessageTree, message, nothing, held, cut, tail, join, ContentTree, EmissionTree, StatementTree, bind, assign, assign_square, push, take as take_row, branch, each, emit, StatementTrees, none, more, Expected, always, common, rare, HandlerTree, LayerTree, no_layer}
 use Rattle.layer_mean.specs.Value.{is_true, applied, function_of}
-use Rattle.layer_mean.specs.Visit.{is_for, handler_for, with_room}
+use Rattle.layer_mean.specs.Visit.{is_for, handler_for}
 use Rattle.layer_mean.specs.Way.{Step, test, fork, set_slot, set_number, set_square, put, get, send, loop, way, ways, expected_way, handler_way, way_length}
 use Rattle.layer_mean.specs.Queue.{Task, Line, Turn, is_place, layer_at, tasks_of, next_of, run_for, taken_turn}
 use Rattle.layer_mean.specs.Marked.{Log, Logged, Marked, marked, marked_sent, marked_start}
 use Rattle.packet_mean.specs.ChainedState.{IsNumber}
 use Rattle.stack_mean.specs.Acceptance.{weight_limit}
-use Rattle.stack_mean.specs.Drawn.{DrawnHeader, DrawnMessage, chained, unknown, DrawnEvent, of_both, constant_of, drawn_row, drawn_message, Drawing, with_header, sent_headers, emission_headers, with_sent, with_taken, draw_step, draw_steps, DrawnVisit, DrawnMet, popped_of, drawn_met, drawn_on, drawn_unhandled, drawn_entered, drawn_way, drawn_handled, drawn_visit}
+use Rattle.stack_mean.specs.Drawn.{DrawnHeader, DrawnMessage, chained, unknown, DrawnEvent, of_both, constant_of, drawn_row, drawn_message, Drawing, with_header, sent_headers, emission_headers, with_sent, with_taken, draw_step, draw_steps, DrawnVisit, DrawnMet, drawn_met, drawn_on, drawn_unhandled, drawn_entered, drawn_way, drawn_handled, drawn_visit}
 use Rattle.stack_mean.specs.NoShape as no_shape
 use Rattle.stack_mean.specs.NoShape.{NoShape, drawn_from}
 use Rattle.stack_mean.specs.Plan.{Plan}
 use Rattle.stack_mean.specs.Plans.{is_packet, plan_of, outs_of, Group, groups, packets_of, plans_of, plans_limit}
-use Rattle.stack_mean.specs.Shape.{Progress, visits_limit, drawn_turn, shaped_visit, shaper, undrawn, app_cast, app_send, Known, entry_task, has_second_case, ShapeOut, Shape, headers_of, shape_out, shape_with, shape_of, drawn_shape, shape}
-use Rattle.packet_laws.specs.Strays.{AreNumbered}
+use Rattle.stack_mean.specs.Shape.{Progress, visits_limit, drawn_turn, shaped_visit, shaper, undrawn, Known, entry_task, has_second_case, ShapeOut, shape_out, shape_with, drawn_shape, shape}
 use Rattle.chain_laws.specs.Typed.{Small, Sends, with_taken_sort, Typed, TypedAll, sorts_of, TypedHandler}
-use Rattle.chain_laws.specs.Runs.{TypedLayers, TypedStack}
+use Rattle.chain_laws.specs.Runs.{TypedLayers}
 use Rattle.chain_laws.proofs.Lists.{Where, each_append, each_map, each_or, each_room, each_set, each_take}
 use Rattle.chain_laws.proofs.Small.{applied_small, function_small, pick_small}
 use Rattle.chain_laws.proofs.Visits.{found}
@@ -302,7 +301,7 @@ module _ (case : Case) (stack : List LayerTree) (typed : AllByRecursion Handles 
     go : (b : Bool) → TasksAre (line b).tasks × OutsAre (line b).world.outs
     go true = (
       each_append _ rest (tasks_of t.at (marked_sent (length log.visits) turn.sent)) h.1
-      (marked_drawn t.at (length log.visits) 0 turn.sent (shaped_drawn t.at t.dir t.event.event log.world h.0)),
+          (marked_drawn t.at (length log.visits) 0 turn.sent (shaped_drawn t.at t.dir t.event.event log.world h.0)),
       outs,
     )
     go false = (h.1, each_append _ log.outs (record { at = 0; dir = t.dir; marked = t.event } ∷ []) outs (h.0, tt))

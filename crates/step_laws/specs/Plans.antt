@@ -1,5 +1,5 @@
 -- The constants of a typed stack's plans are numbers, so what is read by them needs no premise on plans.
-use Rattle.std.specs.Prelude.{◌≡◌, ℕ, List, Ok}
+use Rattle.std.specs.Prelude.{◌≡◌, List, Ok}
 use Rattle.std.specs.List.{AllByRecursion}
 use Rattle.layer_mean.specs.Tree.{LayerTree}
 use Rattle.packet_mean.specs.declared.here.Here.{Here}

@@ -2,6 +2,8 @@
 //! bytes, and its run ends within the weight of its entry.
 #![tactic(auto)]
 
+pub mod samples;
+
 ghost use Rattle.step_laws.specs.Plans.{InputsAreInRange, PlansAreNumbered, WorldsAreChained};
 ghost use Rattle.step_laws.specs.Steps.{ChainedLines, ChainedTurns, PacketsFit, StepsEnd, TypedRunsAreBare, WiresAreSpelled};
 
