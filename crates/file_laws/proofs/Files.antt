@@ -10,6 +10,7 @@ use Rattle.layer_ast.specs.Tree as ast
 use Rattle.layer_mean.specs.Tree.{LayerTree}
 use Rattle.layer_mean.specs.Visit.{none_header}
 use Rattle.file_faults.specs.Faults.{unknown, of_names, of_types, name_key, type_key, name_fault_at, type_fault_at}
+use Rattle.file_faults.specs.FileFault.{file_fault}
 use Rattle.file_faults.specs.NameFaults.{twice_among, too_many_of, layer_name_faults, place_faults, name_faults, name_fault}
 use Rattle.file_faults.specs.Places.{layer_among, layer_at, written, called, called_at, judged_layers, faults_of_judged, faults_of_layers}
 use Rattle.file_faults.specs.TypeFaults.{layer_type_faults, type_fault}
@@ -22,7 +23,9 @@ use Rattle.chain_laws.proofs.Lists.{Where, each_so}
 use Rattle.file_laws.specs.Literals.{LiteralLayer, LiteralPlace, LiteralFile}
 use Rattle.file_laws.specs.Files.{FilesAreTyped}
 use Rattle.file_laws.proofs.Lists.{nils, each_nil, map_nil, each_parts, find_where}
+use Rattle.file_laws.specs.Named.{NamedStack, FilesAreNamed}
 use Rattle.file_laws.proofs.Handlers.{layer_typed}
+use Rattle.file_laws.proofs.NamedLayers.{layer_named}
 
 -- no fault of a file is none of its names and none of its types
 both_none : {A B C : Type 0} (f : A → C) (g : B → C) (o : Option A) (p : Option B) → option_or (option_map f o) (option_map g p) ≡ None →
@@ -63,12 +66,12 @@ judges moved faults file h =
 
 -- a place names a layer without faults
 
-record NamesLayer (file : ast.FileTree) (place : ast.PlaceTree) : Type 0 where
-  layer : ast.LayerTree
-  listed : layer_at file place ≡ Some layer
-  types : layer_type_faults layer ≡ []
-  named : layer_name_faults layer ≡ []
-  literal : LiteralLayer layer
+pub record NamesLayer (file : ast.FileTree) (place : ast.PlaceTree) : Type 0 where
+  pub layer : ast.LayerTree
+  pub listed : layer_at file place ≡ Some layer
+  pub types : layer_type_faults layer ≡ []
+  pub named : layer_name_faults layer ≡ []
+  pub literal : LiteralLayer layer
 
 -- what is known of a place
 record Known (file : ast.FileTree) (place : ast.PlaceTree) : Type 0 where
@@ -164,9 +167,10 @@ knowns file [] a b c d = tt
 knowns file (place ∷ places) a b c d =
     (record { names_one = a.0; types = b.0; named = c.0; given = d.0 }, knowns file places a.1 b.1 c.1 d.1)
 
-pub files_are_typed : FilesAreTyped
-unfolding stack_of
-files_are_typed file literal none =
+-- each place of a file without faults names such a layer
+pub places_name_layers : (file : ast.FileTree) → LiteralFile file → file_fault file ≡ None →
+    AllByRecursion (λ place. NamesLayer file place × LiteralPlace place) file.places
+places_name_layers file literal none =
     let faults = both_none of_names of_types (name_fault file) (type_fault file) none in
     let named_nil = earliest.there name_key (name_faults file) faults.0 in
     let types_nil = earliest.there type_key (faults_of_layers type_fault_at layer_type_faults file) faults.1 in
@@ -180,6 +184,23 @@ files_are_typed file literal none =
     let types = judges type_fault_at layer_type_faults file types_nil in
     let named = judges name_fault_at layer_name_faults file three.1 in
     let known = knowns file file.places (each_nil (place_faults file) file.places one.1) types.places_are named.places_are literal.places_are in
-    stack_typed file 0 file.places (omega arith)
-    (each_so (Known file) (λ place. NamesLayer file place × LiteralPlace place)
-    (λ place k. (names_layer file place literal types named k, k.given)) file.places known)
+    each_so (Known file) (λ place. NamesLayer file place × LiteralPlace place)
+    (λ place k. (names_layer file place literal types named k, k.given)) file.places known
+
+pub files_are_typed : FilesAreTyped
+unfolding stack_of
+files_are_typed file literal none = stack_typed file 0 file.places (omega arith) (places_name_layers file literal none)
+
+-- what the layers of a file without faults name is there
+stack_named : (file : ast.FileTree) (n : ℕ) (places : List ast.PlaceTree) →
+    AllByRecursion (λ place. NamesLayer file place × LiteralPlace place) places →
+    NamedStack (map (λ x. placed_layer file x.0 x.1) (enumerate_from n places))
+stack_named file n [] h = tt
+stack_named file n (place ∷ places) h = (
+  rw h.0.0.listed (layer_named (record { layer = h.0.0.layer; given = place.given; blank = blank_above n (length file.places) }) h.0.0.types h.0.0.named),
+  stack_named file (n + 1) places h.1,
+)
+
+pub files_are_named : FilesAreNamed
+unfolding stack_of
+files_are_named file literal none = stack_named file 0 file.places (places_name_layers file literal none)

@@ -9,4 +9,8 @@ pub mod Blocks
 pub mod Handlers
 pub mod Files
 pub mod Texts
+pub mod Fronts
+pub mod NamedValues
+pub mod NamedBlocks
+pub mod NamedLayers
 pub mod SmallFiles

@@ -30,7 +30,8 @@ use Rattle.file_mean.specs.Library.{SpellsLayer}
 use Rattle.chain_laws.proofs.Lists.{each_append}
 use Rattle.file_laws.specs.Literals.{Literal, LiteralQueue, LiteralMessage, LiteralBuilt, LiteralArgument, LiteralSize, LiteralOption, LiteralPushed, LiteralStatement, LiteralExpected, LiteralHandler, LiteralDeclaration, LiteralLayer, LiteralPlace}
 use Rattle.file_laws.specs.Texts.{TextsAreLiteral, TextsAreTyped}
-use Rattle.file_laws.proofs.Files.{files_are_typed}
+use Rattle.file_laws.specs.Named.{TextsAreNamed}
+use Rattle.file_laws.proofs.Files.{files_are_typed, files_are_named}
 
 -- the tokens of a text
 
@@ -364,3 +365,6 @@ texts_are_literal text file is =
 
 pub texts_are_typed : TextsAreTyped
 texts_are_typed text file is none = files_are_typed file (texts_are_literal text file is) none
+
+pub texts_are_named : TextsAreNamed
+texts_are_named text file is none = files_are_named file (texts_are_literal text file is) none
