@@ -1,9 +1,9 @@
 -- What statements, handlers and layers without faults name is there.
 use Rattle.std.proofs.Common.{◌≡◌, ◌∙◌, ℕ, ◌+◌, ◌<◌, ◌≤◌, Bool, true, false, List, [], ◌∷◌, ◌++◌, length, map, Option, Some, None, refl, sym, ap, subst, inl, inr, arith}
-use Rattle.std.specs.Prelude.{◌==◌, ◌&&◌, drop, is_some, flat_map, if◌then◌else◌}
+use Rattle.std.specs.Prelude.{◌==◌, ◌&&◌, drop, is_some, flat_map, if◌then◌else◌, nat_le, unwrap_or}
 use Rattle.std.specs.List.{AllByRecursion}
 use Rattle.std.specs.Option.{option_map_or}
-use Rattle.std.proofs.lemmas.Bool.{and_parts, eqb-true}
+use Rattle.std.proofs.lemmas.Bool.{and_parts, eqb-true, leb-true}
 use Rattle.std.proofs.lemmas.List.{length-map, length-append}
 use Rattle.layer_ast.specs.declared.names.Name.{Name}
 use Rattle.layer_ast.specs.declared.names.Word.{Word}
@@ -16,23 +16,26 @@ use Rattle.layer_ast.specs.Tree as ast
 use Rattle.layer_mean.specs.Event.{carries}
 use Rattle.layer_mean.specs.Headers.{declared}
 use Rattle.layer_mean.specs.Tree.{CellTree, no_layer}
-use Rattle.file_faults.specs.Declared.{declaration_of, is_header, is_param, names_in}
+use Rattle.file_faults.specs.Declared.{declaration_of, is_header, is_param, names_in, declared_name, is_cell}
 use Rattle.file_faults.specs.Earliest.{unless}
 use Rattle.file_faults.specs.Faults.{kind, arity, direction, initial, twice, too_many}
-use Rattle.file_faults.specs.Forms.{declared_as, is_numbers, is_end, fields_of, queue_name}
+use Rattle.file_faults.specs.Forms.{declared_as, is_numbers, is_end, fields_of, queue_name, items_of, labels_of}
 use Rattle.file_faults.specs.Kinds.{allows, arguments_of}
 use Rattle.file_faults.specs.NameFaults as naming
-use Rattle.file_faults.specs.Scope.{Local, Scope, Standing, layer_scope, locals_as, popped_names, sort_behind, argument_sorts, head_scope, handler_statements, standing_in}
+use Rattle.file_faults.specs.Scope.{Local, Scope, Standing, layer_scope, locals_as, popped_names, sort_behind, argument_sorts, head_scope, handler_statements, standing_in, visible, brought as brought_by, head_names, handler_names as all_names, layer_statements}
 use Rattle.file_faults.specs.Sorts.{is_initial, expression_at, size_at}
-use Rattle.file_faults.specs.Uses.{arguments_in}
+use Rattle.file_faults.specs.Uses.{arguments_in, of_name, statement_uses}
 use Rattle.file_faults.specs.ExpressionFaults.{number_faults, queue_faults, arguments_faults}
 use Rattle.file_faults.specs.TypeFaults.{with_faults, row_type_faults, row_sorts, size_type_faults, statement_type_faults, expected_type_faults, takes_off, handler_type_faults, declaration_type_faults, layer_type_faults}
-use Rattle.file_mean.specs.Names.{Names, Placed, own_names, in_slots, numbers_among, with_numbers}
+use Rattle.file_mean.specs.Names.{Names, Placed, own_names, in_slots, numbers_among, with_numbers, size_value}
 use Rattle.file_mean.specs.Values.{queue_row, queue_carries, number_of}
 use Rattle.file_mean.specs.Statements.{with_taken, after_block, behind, behind_all, statements_of}
 use Rattle.file_mean.specs.Layers.{popped_tag, expected_of, handler_names, handler_of, cell_in, layer_of}
-use Rattle.file_laws.specs.Named.{Named, NamedAll, NamedExpected, brought, slots_of, NamedHandler, NamedForm, NamedLayer}
-use Rattle.file_laws.proofs.Lists.{nils, each_nil, each_parts, unless_nil, filter_map_each}
+use Rattle.layer_ast.specs.declared.names.At.{At}
+use Rattle.file_faults.specs.Limits.{LimitedSize, capacity_in, is_within, maximum_in, number_outside, sizes_in}
+use Rattle.file_faults.specs.Places.{param_value}
+use Rattle.file_laws.specs.Named.{Named, NamedAll, NamedExpected, brought, slots_of, NamedHandler, NamedForm, NamedLayer, IsSize}
+use Rattle.file_laws.proofs.Lists.{nils, each_nil, each_parts, unless_nil, filter_map_each, each_both, map_nil}
 use Rattle.file_laws.proofs.Own.{declares_it, headed}
 use Rattle.file_laws.proofs.Messages.{LastMessages}
 use Rattle.file_laws.proofs.Emissions.{kind_arguments}
@@ -42,8 +45,50 @@ use Rattle.file_laws.proofs.NamedValues.{shape_named, number_named, queue_named}
 use Rattle.file_laws.proofs.NamedBlocks.{last_sort, range_below, row_named, emission_named}
 use Rattle.chain_laws.proofs.Lists.{Where, each_append, each_so, each_map}
 
-abbrev Clean : Standing → Type 0
-Clean s = statement_type_faults s.scope s.statement ≡ []
+-- sizes within their limits, where a place gives params their values
+
+abbrev pub given_within : Placed → ast.SizeTree → ℕ → Bool
+given_within p (ast.fixed at n) most = true
+given_within p (ast.sized name) most = option_map_or (is_within most) (param_value p.layer p.given name.word) true
+
+abbrev pub FitsAt : Placed → LimitedSize → Type 0
+FitsAt p l = (naming.size_faults l ≡ []) × (given_within p l.size l.most ≡ true)
+
+within_is : (most n : ℕ) → is_within most n ≡ true → IsSize most n
+within_is most n h = let parts = and_parts (nat_le 1 n) (nat_le n most) h in (leb-true 1 n parts.0, leb-true n most parts.1)
+
+number_within : (most n : ℕ) (at : At) (b : Bool) → is_within most n ≡ b → (if b then [] else at ∷ []) ≡ [] → is_within most n ≡ true
+number_within most n at true is h = is
+number_within most n at false is h = absurd (cc h)
+
+param_is : (layer : ast.LayerTree) (given : List ast.GivenTree) (word : Word) (d : ast.DeclarationTree) → declaration_of layer word ≡ Some d →
+    is_param d ≡ true → is_some (param_value layer given word) ≡ true
+param_is layer given word (ast.param at own value) found is = rw found refl
+param_is layer given word (ast.int at own written e) found is = absurd (cc is)
+param_is layer given word (ast.rows_cell at own capacity items) found is = absurd (cc is)
+param_is layer given word (ast.rows_array at own capacity items) found is = absurd (cc is)
+param_is layer given word (ast.header at own fields end) found is = absurd (cc is)
+
+size_is : (p : Placed) (size : ast.SizeTree) (most : ℕ) (at : At) → size_type_faults p.layer at size ≡ [] →
+    naming.size_faults (record { size = size; most = most }) ≡ [] → given_within p size most ≡ true → IsSize most (size_value p size)
+size_is p (ast.fixed own n) most at typed h within =
+    within_is most n (number_within most n own (is_within most n) refl (map_nil too_many (number_outside most (ast.fixed own n)) h))
+size_is p (ast.sized name) most at typed h within =
+    let test = declared_as is_param p.layer name.word in
+    let d = declares_it is_param p.layer name.word (unless_nil test (kind at) typed) in
+    go (param_value p.layer p.given name.word) (param_is p.layer p.given name.word d.declaration d.found d.passes) within
+  where
+    go : (o : Option ℕ) → is_some o ≡ true → option_map_or (is_within most) o true ≡ true → IsSize most (unwrap_or o 0)
+    go None there h = absurd (cc there)
+    go (Some n) there h = within_is most n h
+
+each_flat_parts : {A B : Type 0} (P : B → Type 0) (f : A → List B) (xs : List A) → AllByRecursion P (flat_map f xs) →
+    AllByRecursion (λ x. AllByRecursion P (f x)) xs
+each_flat_parts P f [] h = tt
+each_flat_parts P f (x ∷ xs) h = let parts = each_parts P (f x) (flat_map f xs) h in (parts.0, each_flat_parts P f xs parts.1)
+
+abbrev Clean : Placed → Standing → Type 0
+Clean p s = (statement_type_faults s.scope s.statement ≡ []) × AllByRecursion (FitsAt p) (maximum_in s.statement)
 
 -- slots are only ever added
 mutual
@@ -94,19 +139,19 @@ taken_sees names locals q new h same =
     record { below = is.below; seen = is.seen }
 
 block_named : (xs : ast.StatementTrees) (names : Names) (locals : List Local) (slots : ℕ) → Sees names locals → LastMessages names.place.layer →
-    (behind_all xs names).taken.numbers ≤ slots → AllByRecursion Clean (standing_in (record { layer = names.place.layer; locals = locals }) xs) →
+    (behind_all xs names).taken.numbers ≤ slots → AllByRecursion (Clean names.place) (standing_in (record { layer = names.place.layer; locals = locals }) xs) →
     NamedAll (layer_of names.place) slots (statements_of names xs)
 block_named ast.none names locals slots sees last bound h = tt
 block_named (ast.more (ast.bind at name e) rest) names locals slots sees last bound h =
     let end = grows_all rest (with_numbers (name ∷ []) names) in (
-      (omega (arith, end, bound), number_named names locals slots sees (omega (arith, end, bound)) e h.0),
+      (omega (arith, end, bound), number_named names locals slots sees (omega (arith, end, bound)) e h.0.0),
       block_named rest (with_numbers (name ∷ []) names) (locals ++ locals_as [] (name ∷ [])) slots (sees_all names locals [] (name ∷ []) sees) last bound h.1,
     )
 block_named (ast.more (ast.set at name None e) rest) names locals slots sees last bound h =
     let scope = scope_of names locals in
     let test = declared_as (is_numbers One) names.place.layer name.word in
     let end = grows_all rest names in
-    let parts = nils (unless test (kind at)) (number_faults scope e ++ []) h.0 in (
+    let parts = nils (unless test (kind at)) (number_faults scope e ++ []) h.0.0 in (
       (
         inl (shape_named names.place name One (declares_it (is_numbers One) names.place.layer name.word (unless_nil test (kind at) parts.0)), refl),
         tt,
@@ -118,7 +163,7 @@ block_named (ast.more (ast.set at name (Some index) e) rest) names locals slots 
     let scope = scope_of names locals in
     let test = declared_as (is_numbers Array) names.place.layer name.word in
     let end = grows_all rest names in
-    let parts = nils (unless test (kind at)) (number_faults scope index ++ (number_faults scope e ++ [])) h.0 in
+    let parts = nils (unless test (kind at)) (number_faults scope index ++ (number_faults scope e ++ [])) h.0.0 in
     let more = nils (number_faults scope index) (number_faults scope e ++ []) parts.1 in (
       (
         inr (shape_named names.place name Array (declares_it (is_numbers Array) names.place.layer name.word (unless_nil test (kind at) parts.0))),
@@ -131,7 +176,7 @@ block_named (ast.more (ast.set_square at name row column e) rest) names locals s
     let scope = scope_of names locals in
     let test = declared_as (is_numbers Square) names.place.layer name.word in
     let end = grows_all rest names in
-    let parts = nils (unless test (kind at)) (number_faults scope row ++ (number_faults scope column ++ (number_faults scope e ++ []))) h.0 in
+    let parts = nils (unless test (kind at)) (number_faults scope row ++ (number_faults scope column ++ (number_faults scope e ++ []))) h.0.0 in
     let more = nils (number_faults scope row) (number_faults scope column ++ (number_faults scope e ++ [])) parts.1 in
     let last_two = nils (number_faults scope column) (number_faults scope e ++ []) more.1 in (
       (
@@ -149,13 +194,13 @@ block_named (ast.more (ast.push at q items otherwise) rest) names locals slots s
     let later = after_block names inner in
     let one = grows_all otherwise names in
     let end = grows_all rest later in
-    let faults = nils (row_type_faults scope at q (length args)) (arguments_faults scope (row_sorts names.place.layer q) args) h.0 in
+    let faults = nils (row_type_faults scope at q (length args)) (arguments_faults scope (row_sorts names.place.layer q) args) h.0.0 in
     let test = length (queue_row names q) == length args in
     let two = nils (queue_faults scope at q) (unless test (arity at)) faults.0 in
     let count = eqb-true (length (queue_row names q)) (length args) (unless_nil test (arity at) two.1) in
     let queue_is = queue_named names locals slots sees (omega (arith, one, end, bound)) at q two.0 in
     let row_is = row_named names locals slots sees (omega (arith, one, end, bound)) q args (last (queue_name q).word) count faults.1 in
-    let parts = each_parts Clean (standing_in scope otherwise) (standing_in scope rest) h.1 in (
+    let parts = each_parts (Clean names.place) (standing_in scope otherwise) (standing_in scope rest) h.1 in (
       (
         record { items = _; listed = queue_is.0 },
         queue_is.1,
@@ -179,12 +224,12 @@ block_named (ast.more (ast.take at q new block otherwise) rest) names locals slo
     let two = grows_all otherwise between in
     let end = grows_all rest later in
     let test = length (queue_row names q) == length fresh in
-    let faults = nils (queue_faults scope at q) (unless test (arity at)) h.0 in
+    let faults = nils (queue_faults scope at q) (unless test (arity at)) h.0.0 in
     let count = eqb-true (length (queue_row names q)) (length fresh) (unless_nil test (arity at) faults.1) in
     let queue_is = queue_named names locals slots sees (omega (arith, zero_le, one, two, end, bound)) at q faults.0 in
-    let outer = each_parts Clean (standing_in (record { layer = names.place.layer; locals = locals ++ further }) block ++ standing_in scope otherwise)
+    let outer = each_parts (Clean names.place) (standing_in (record { layer = names.place.layer; locals = locals ++ further }) block ++ standing_in scope otherwise)
     (standing_in scope rest) h.1 in
-    let parts = each_parts Clean (standing_in (record { layer = names.place.layer; locals = locals ++ further }) block) (standing_in scope otherwise) outer.0 in (
+    let parts = each_parts (Clean names.place) (standing_in (record { layer = names.place.layer; locals = locals ++ further }) block) (standing_in scope otherwise) outer.0 in (
       (
         record { items = _; listed = queue_is.0 },
         queue_is.1,
@@ -200,9 +245,9 @@ block_named (ast.more (ast.when at likely e block) rest) names locals slots sees
     let later = after_block names inner in
     let one = grows_all block names in
     let end = grows_all rest later in
-    let parts = each_parts Clean (standing_in scope block) (standing_in scope rest) h.1 in (
+    let parts = each_parts (Clean names.place) (standing_in scope block) (standing_in scope rest) h.1 in (
       (
-        number_named names locals slots sees (omega (arith, one, end, bound)) e h.0,
+        number_named names locals slots sees (omega (arith, one, end, bound)) e h.0.0,
         block_named block names locals slots sees last (omega (arith, end, bound)) parts.0,
         tt,
       ),
@@ -217,10 +262,10 @@ block_named (ast.more (ast.choose at likely e block otherwise) rest) names local
     let one = grows_all block names in
     let two = grows_all otherwise between in
     let end = grows_all rest later in
-    let outer = each_parts Clean (standing_in scope block ++ standing_in scope otherwise) (standing_in scope rest) h.1 in
-    let parts = each_parts Clean (standing_in scope block) (standing_in scope otherwise) outer.0 in (
+    let outer = each_parts (Clean names.place) (standing_in scope block ++ standing_in scope otherwise) (standing_in scope rest) h.1 in
+    let parts = each_parts (Clean names.place) (standing_in scope block) (standing_in scope otherwise) outer.0 in (
       (
-        number_named names locals slots sees (omega (arith, one, two, end, bound)) e h.0,
+        number_named names locals slots sees (omega (arith, one, two, end, bound)) e h.0.0,
         block_named block names locals slots sees last (omega (arith, two, end, bound)) parts.0,
         block_named otherwise between locals slots (sees_behind names first locals one sees) last (omega (arith, end, bound)) parts.1,
       ),
@@ -234,18 +279,19 @@ block_named (ast.more (ast.each at name below most block) rest) names locals slo
     let later = after_block names first in
     let one = grows_all block inner in
     let end = grows_all rest later in
-    let faults = nils (number_faults scope below) (size_type_faults names.place.layer (size_at most) most) h.0 in
-    let parts = each_parts Clean (standing_in inside block) (standing_in scope rest) h.1 in (
+    let faults = nils (number_faults scope below) (size_type_faults names.place.layer (size_at most) most) h.0.0 in
+    let parts = each_parts (Clean names.place) (standing_in inside block) (standing_in scope rest) h.1 in (
       (
         omega (arith, one, end, bound),
         number_named names locals slots sees (omega (arith, one, end, bound)) below faults.0,
+        size_is names.place most 32 (size_at most) faults.1 h.0.1.0.0 h.0.1.0.1,
         block_named block inner (locals ++ locals_as [] (name ∷ [])) slots (sees_all names locals [] (name ∷ []) sees) last (omega (arith, end, bound)) parts.0,
       ),
       block_named rest later locals slots (sees_behind names first locals (omega (arith, one)) sees) last bound parts.1,
     )
 block_named (ast.more (ast.emit at dir k arguments pushed) rest) names locals slots sees last bound h =
     let end = grows_all rest names in (
-      emission_named names locals slots sees (omega (arith, end, bound)) at dir k (arguments_in (Some arguments)) pushed h.0,
+      emission_named names locals slots sees (omega (arith, end, bound)) at dir k (arguments_in (Some arguments)) pushed h.0.0,
       block_named rest names locals slots sees last bound h.1,
     )
 
@@ -322,9 +368,10 @@ expected_named names locals slots (ast.common e) sees bound h = number_named nam
 expected_named names locals slots ast.rare sees bound h = tt
 
 handler_named : (p : Placed) (h : ast.HandlerTree) → LastMessages p.layer → handler_type_faults p.layer h ≡ [] →
+    AllByRecursion (λ s. AllByRecursion (FitsAt p) (maximum_in s.statement)) (handler_statements p.layer h) →
     NamedHandler (layer_of p) (handler_of p h)
 unfolding handler_of
-handler_named p h last faults =
+handler_named p h last faults sizes =
     let statements = handler_statements p.layer h in
     let a = unless (length (names_in (Some h.names)) == length (arguments_of h.kind)) (arity h.at) in
     let b = option_map_or (λ x. with_faults p.layer h.at x.name (length (popped_names (Some x))) (takes_off h)) h.popped [] in
@@ -345,7 +392,8 @@ handler_named p h last faults =
     let more : entry.taken.numbers ≤ end.taken.numbers = grows_all h.block entry in (
       expected_named entry (head_scope p.layer h).locals slots h.expected sees (omega (arith, met)) two.1,
       block_named h.block entry (head_scope p.layer h).locals slots sees last (omega (arith, met, more))
-          (each_nil (λ s. statement_type_faults s.scope s.statement) statements one.1),
+          (each_both (λ s. statement_type_faults s.scope s.statement ≡ []) (λ s. AllByRecursion (FitsAt p) (maximum_in s.statement)) statements
+          (each_nil (λ s. statement_type_faults s.scope s.statement) statements one.1) sizes),
     )
 
 -- cells
@@ -373,28 +421,92 @@ initial_named p (ast.pick at condition first second) h =
     (initial_named p condition two.0, initial_named p first two.1, initial_named p second one.1)
 initial_named p _ h = absurd (cc h)
 
-cell_named : (p : Placed) (d : ast.DeclarationTree) → declaration_type_faults p.layer d ≡ [] → Where (λ (cell : CellTree). NamedForm cell.form) (cell_in p d)
+cell_named : (p : Placed) (d : ast.DeclarationTree) → (declaration_type_faults p.layer d ≡ []) × AllByRecursion (FitsAt p) (capacity_in d) → Where (λ (cell : CellTree). NamedForm cell.form) (cell_in p d)
 cell_named p (ast.param at name n) h = tt
 cell_named p (ast.int at name shape None) h = tt
 cell_named p (ast.int at name shape (Some e)) h =
-    let parts = nils (number_faults (layer_scope p.layer) e) (unless (is_initial p.layer e) (initial (expression_at e))) h in
+    let parts = nils (number_faults (layer_scope p.layer) e) (unless (is_initial p.layer e) (initial (expression_at e))) h.0 in
     initial_named p e (unless_nil (is_initial p.layer e) (initial (expression_at e)) parts.1)
-cell_named p (ast.rows_cell at name capacity items) h = tt
-cell_named p (ast.rows_array at name capacity items) h = tt
+cell_named p (ast.rows_cell at name capacity items) h = size_is p capacity 64 at h.0 h.1.0.0 h.1.0.1
+cell_named p (ast.rows_array at name capacity items) h = size_is p capacity 64 at h.0 h.1.0.0 h.1.0.1
 cell_named p (ast.header at name fields end) h = tt
 
-parts_named : (p : Placed) → LastMessages p.layer → AllByRecursion (λ d. declaration_type_faults p.layer d ≡ []) p.layer.declarations →
-    AllByRecursion (λ h. handler_type_faults p.layer h ≡ []) p.layer.handlers → NamedLayer (layer_of p)
+abbrev Declared : Placed → ast.DeclarationTree → Type 0
+Declared p d = (declaration_type_faults p.layer d ≡ []) × AllByRecursion (FitsAt p) (capacity_in d)
+
+abbrev Handled : Placed → ast.HandlerTree → Type 0
+Handled p h = (handler_type_faults p.layer h ≡ [])
+    × AllByRecursion (λ s. AllByRecursion (FitsAt p) (maximum_in s.statement)) (handler_statements p.layer h)
+
+parts_named : (p : Placed) → LastMessages p.layer → AllByRecursion (Declared p) p.layer.declarations → AllByRecursion (Handled p) p.layer.handlers →
+    NamedLayer (layer_of p)
 unfolding layer_of
 parts_named p last cells handlers = record {
-  cells_are = filter_map_each (λ d. declaration_type_faults p.layer d ≡ []) (λ (cell : CellTree). NamedForm cell.form) (cell_in p)
-      (λ d. cell_named p d) p.layer.declarations cells;
-  handlers_are = each_map (λ h. handler_type_faults p.layer h ≡ []) (NamedHandler (layer_of p)) (handler_of p)
-      (λ h is. handler_named p h last is) p.layer.handlers handlers;
+  cells_are = filter_map_each (Declared p) (λ (cell : CellTree). NamedForm cell.form) (cell_in p) (λ d. cell_named p d) p.layer.declarations cells;
+  handlers_are = each_map (Handled p) (NamedHandler (layer_of p)) (handler_of p) (λ h is. handler_named p h last is.0 is.1) p.layer.handlers handlers;
 }
 
-pub layer_named : (p : Placed) → layer_type_faults p.layer ≡ [] → naming.layer_name_faults p.layer ≡ [] → NamedLayer (layer_of p)
-layer_named p types named =
+-- sizes that are numbers fit by the faults of names, and those that are params by what the place gives
+
+capacities_fit : (p : Placed) (d : ast.DeclarationTree) → naming.declaration_name_faults p.layer d ≡ [] →
+    AllByRecursion (λ l. given_within p l.size l.most ≡ true) (capacity_in d) → AllByRecursion (FitsAt p) (capacity_in d)
+capacities_fit p d h within =
+    let a = naming.uses_faults (layer_scope p.layer) (naming.declaration_uses d) in
+    let b = flat_map naming.size_faults (capacity_in d) in
+    let c = naming.row_faults (items_of d) in
+    let e = naming.twice_among [] (labels_of d) in
+    let one = nils (a ++ b ++ c ++ e) (naming.too_many_of 4 (labels_of d)) h in
+    let two = nils (a ++ b ++ c) e one.0 in
+    let three = nils (a ++ b) c two.0 in
+    each_both (λ l. naming.size_faults l ≡ []) (λ l. given_within p l.size l.most ≡ true) (capacity_in d)
+    (each_nil naming.size_faults (capacity_in d) (nils a b three.0).1) within
+
+statement_fits : (p : Placed) (s : Standing) → naming.statement_name_faults s ≡ [] →
+    AllByRecursion (λ l. given_within p l.size l.most ≡ true) (maximum_in s.statement) → AllByRecursion (FitsAt p) (maximum_in s.statement)
+statement_fits p s h within =
+    let a = naming.uses_faults s.scope (statement_uses s.statement) in
+    let b = naming.twice_among (visible s.scope) (brought_by s.statement) in
+    let parts = nils (a ++ b) (flat_map naming.size_faults (maximum_in s.statement)) h in
+    each_both (λ l. naming.size_faults l ≡ []) (λ l. given_within p l.size l.most ≡ true) (maximum_in s.statement)
+    (each_nil naming.size_faults (maximum_in s.statement) parts.1) within
+
+statements_fit : (p : Placed) (xs : List Standing) → AllByRecursion (λ s. naming.statement_name_faults s ≡ []) xs →
+    AllByRecursion (λ s. AllByRecursion (λ l. given_within p l.size l.most ≡ true) (maximum_in s.statement)) xs →
+    AllByRecursion (λ s. AllByRecursion (FitsAt p) (maximum_in s.statement)) xs
+statements_fit p [] h within = tt
+statements_fit p (x ∷ xs) h within = (statement_fits p x h.0 within.0, statements_fit p xs h.1 within.1)
+
+handler_fits : (p : Placed) (h : ast.HandlerTree) → naming.handler_name_faults p.layer h ≡ [] →
+    AllByRecursion (λ s. AllByRecursion (λ l. given_within p l.size l.most ≡ true) (maximum_in s.statement)) (handler_statements p.layer h) →
+    AllByRecursion (λ s. AllByRecursion (FitsAt p) (maximum_in s.statement)) (handler_statements p.layer h)
+handler_fits p h named within =
+    let statements = handler_statements p.layer h in
+    let d = naming.uses_faults (layer_scope p.layer) (option_map_or (λ x. of_name x.name ∷ []) h.popped []) in
+    let e = naming.twice_among (visible (layer_scope p.layer)) (head_names h) in
+    let f = naming.uses_faults (head_scope p.layer h) (naming.expected_uses h.expected) in
+    let last = nils (d ++ e ++ f ++ flat_map naming.statement_name_faults statements) (naming.too_many_of 64 (all_names p.layer h)) named in
+    let four = nils (d ++ e ++ f) (flat_map naming.statement_name_faults statements) last.0 in
+    statements_fit p statements (each_nil naming.statement_name_faults statements four.1) within
+
+abbrev Within : Placed → LimitedSize → Type 0
+Within p l = given_within p l.size l.most ≡ true
+
+all_declared : (p : Placed) (ds : List ast.DeclarationTree) → AllByRecursion (λ d. declaration_type_faults p.layer d ≡ []) ds →
+    AllByRecursion (λ d. naming.declaration_name_faults p.layer d ≡ []) ds → AllByRecursion (λ d. AllByRecursion (Within p) (capacity_in d)) ds →
+    AllByRecursion (Declared p) ds
+all_declared p [] a b c = tt
+all_declared p (d ∷ ds) a b c = ((a.0, capacities_fit p d b.0 c.0), all_declared p ds a.1 b.1 c.1)
+
+all_handled : (p : Placed) (hs : List ast.HandlerTree) → AllByRecursion (λ h. handler_type_faults p.layer h ≡ []) hs →
+    AllByRecursion (λ h. naming.handler_name_faults p.layer h ≡ []) hs →
+    AllByRecursion (λ h. AllByRecursion (λ s. AllByRecursion (Within p) (maximum_in s.statement)) (handler_statements p.layer h)) hs →
+    AllByRecursion (Handled p) hs
+all_handled p [] a b c = tt
+all_handled p (h ∷ hs) a b c = ((a.0, handler_fits p h b.0 c.0), all_handled p hs a.1 b.1 c.1)
+
+pub layer_named : (p : Placed) → layer_type_faults p.layer ≡ [] → naming.layer_name_faults p.layer ≡ [] →
+    AllByRecursion (λ l. given_within p l.size l.most ≡ true) (sizes_in p.layer) → NamedLayer (layer_of p)
+layer_named p types named within =
     let layer = p.layer in
     let parts = nils (flat_map (declaration_type_faults layer) layer.declarations) (flat_map (handler_type_faults layer) layer.handlers) types in
     let a = naming.declared_faults layer in
@@ -402,5 +514,18 @@ layer_named p types named =
     let c = map (λ (h : ast.HandlerTree). too_many h.at) (drop 64 layer.handlers) in
     let one = nils (a ++ b ++ c) (flat_map (naming.handler_name_faults layer) layer.handlers) named in
     let two = nils (a ++ b) c one.0 in
-    parts_named p (last_messages layer (nils a b two.0).0) (each_nil (declaration_type_faults layer) layer.declarations parts.0)
-    (each_nil (handler_type_faults layer) layer.handlers parts.1)
+    let own = (nils a b two.0).0 in
+    let w = naming.twice_among [] (map declared_name layer.declarations) in
+    let x = naming.too_many_of 16 (naming.names_where is_param layer) in
+    let y = naming.too_many_of 16 (naming.names_where is_cell layer) in
+    let z = naming.too_many_of 7 (naming.names_where is_header layer) in
+    let declared_nil = nils (w ++ x ++ y ++ z) (flat_map (naming.declaration_name_faults layer) layer.declarations) own in
+    let sizes = each_parts (Within p) (flat_map capacity_in layer.declarations) (flat_map (λ s. maximum_in s.statement) (layer_statements layer)) within in
+    let loops = each_flat_parts (λ s. AllByRecursion (Within p) (maximum_in s.statement)) (handler_statements layer) layer.handlers
+    (each_flat_parts (Within p) (λ s. maximum_in s.statement) (layer_statements layer) sizes.1) in
+    parts_named p (last_messages layer own)
+    (all_declared p layer.declarations (each_nil (declaration_type_faults layer) layer.declarations parts.0)
+    (each_nil (naming.declaration_name_faults layer) layer.declarations declared_nil.1)
+    (each_flat_parts (Within p) capacity_in layer.declarations sizes.0))
+    (all_handled p layer.handlers (each_nil (handler_type_faults layer) layer.handlers parts.1)
+    (each_nil (naming.handler_name_faults layer) layer.handlers one.1) loops)

@@ -1,6 +1,6 @@
 -- Stacks in which each cell, item of a row and slot of a number that is named is there, in the form in which it is used. (A value that
 -- stands for "not there" names a cell of another form, or none.)
-use Rattle.std.specs.Prelude.{◌≡◌, ℕ, ◌+◌, ◌<◌, ◌⊎◌, List, length, slice_get, Option, Some, None, option_and_then}
+use Rattle.std.specs.Prelude.{◌≡◌, ℕ, ◌+◌, ◌<◌, ◌≤◌, ◌⊎◌, List, length, slice_get, Option, Some, None, option_and_then}
 use Rattle.std.specs.List.{AllByRecursion}
 use Rattle.std.specs.Option.{option_map_or}
 use Rattle.layer_ast.specs.declared.syntax.Shape.{Shape}
@@ -73,6 +73,10 @@ abbrev mutual
   NamedMessage layer slots (join p m) = NamedMessage layer slots p × NamedMessage layer slots m
   NamedMessage layer slots _ = Unit {0}
 
+-- A size is from 1 on, and at most so much.
+abbrev pub IsSize : ℕ → ℕ → Type 0
+IsSize most n = (1 ≤ n) × (n ≤ most)
+
 abbrev pub NamedOption : LayerTree → ℕ → Option MessageTree → Type 0
 NamedOption layer slots None = Unit {0}
 NamedOption layer slots (Some m) = NamedMessage layer slots m
@@ -96,7 +100,7 @@ abbrev mutual
       × NamedAll layer slots otherwise
   NamedStatement layer slots (branch likely e block otherwise) =
       Named layer slots e × NamedAll layer slots block × NamedAll layer slots otherwise
-  NamedStatement layer slots (each k below most block) = (k < slots) × Named layer slots below × NamedAll layer slots block
+  NamedStatement layer slots (each k below most block) = (k < slots) × Named layer slots below × IsSize 32 most × NamedAll layer slots block
   NamedStatement layer slots (emit e) = AllByRecursion (Named layer slots) e.numbers × NamedContent layer slots e.content
 
   pub NamedAll : LayerTree → ℕ → StatementTrees → Type 0
@@ -117,13 +121,15 @@ brought _ = 1
 abbrev pub slots_of : LayerTree → HandlerTree → ℕ
 slots_of layer h = brought h.kind + option_map_or (λ d. d.fields) (declared layer h.tag) 0 + h.numbers
 
--- All that a handler names is there, and all that a layer does; an initial value names no cell.
+-- All that a handler names is there, and all that a layer does; an initial value names no cell, and capacities
+-- are sizes.
 abbrev pub NamedHandler : LayerTree → HandlerTree → Type 0
 NamedHandler layer h = NamedExpected layer (slots_of layer h) h.expected × NamedAll layer (slots_of layer h) h.block
 
 abbrev pub NamedForm : Form → Type 0
 NamedForm (numbers shape initial) = Named no_layer 0 initial
-NamedForm _ = Unit {0}
+NamedForm (queue capacity items) = IsSize 64 capacity
+NamedForm (queues capacity items) = IsSize 64 capacity
 
 pub record NamedLayer (layer : LayerTree) : Type 0 where
   pub cells_are : AllByRecursion (λ cell. NamedForm cell.form) layer.cells
