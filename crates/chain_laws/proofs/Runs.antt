@@ -75,7 +75,7 @@ states_set stack states place s h is = record {
 
 -- a task that comes to a place, and what a place sends
 
-comes : (stack : List LayerTree) (at : ℕ) (dir : Dir) (e : Event) → 1 ≤ at → IsEvent (IsFrom stack (task_place dir at)) e →
+pub comes : (stack : List LayerTree) (at : ℕ) (dir : Dir) (e : Event) → 1 ≤ at → IsEvent (IsFrom stack (task_place dir at)) e →
     IsChainedEvent stack (at - 1) dir e
 comes stack at Up e placed h = h
 comes stack at Down e placed h = let same : at ≡ suc (at - 1) = omega arith in subst (λ p. IsEvent (IsFrom stack p) e) same h

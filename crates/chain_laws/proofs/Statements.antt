@@ -125,7 +125,7 @@ module _ (P Q : List Header → Type 0) (layer : LayerTree) (place : ℕ) (blank
       let is = mval_is P layer blank stands.blank_is sorts s l state scope m (sort_of it.1) h in
       record { headers = kept_of P it.1 (mval m s l).headers is.headers; body = is.body }
 
-  row_is : (sorts : List Sort) (c capacity : ℕ) (row : RowTree) (s : State) (l : Scope) (h : Pushes layer blank sorts c capacity row) →
+  pub row_is : (sorts : List Sort) (c capacity : ℕ) (row : RowTree) (s : State) (l : Scope) (h : Pushes layer blank sorts c capacity row) →
       IsState P layer s → IsScope P sorts l → IsRow P h.rows.items (row_of row s l)
   row_is sorts c capacity row s l h state scope = record {
     count = length-map row.numbers (λ e. val e s l) ∙ h.count;
@@ -135,7 +135,7 @@ module _ (P Q : List Header → Type 0) (layer : LayerTree) (place : ℕ) (blank
 
   -- scopes
 
-  slot_keeps : (sorts : List Sort) (k v : ℕ) (l : Scope) → IsNumber v → IsScope P sorts l → IsScope P sorts (with_slot k v l)
+  pub slot_keeps : (sorts : List Sort) (k v : ℕ) (l : Scope) → IsNumber v → IsScope P sorts l → IsScope P sorts (with_slot k v l)
   slot_keeps sorts k v l small scope =
       record { numbers_are = each_set IsNumber l.numbers k v scope.numbers_are small; messages_are = scope.messages_are }
 
@@ -146,7 +146,7 @@ module _ (P Q : List Header → Type 0) (layer : LayerTree) (place : ℕ) (blank
   slots_keep sorts (k ∷ slots) (v ∷ values) l small scope =
       slots_keep sorts slots values (with_slot k v l) small.1 (slot_keeps sorts k v l small.0 scope)
 
-  taken_keeps : (sorts : List Sort) (c i : ℕ) (slots : List ℕ) (message : Option (ℕ × Carried)) (row : Row) (s : State) (l : Scope) →
+  pub taken_keeps : (sorts : List Sort) (c i : ℕ) (slots : List ℕ) (message : Option (ℕ × Carried)) (row : Row) (s : State) (l : Scope) →
       Takes layer blank sorts c message → IsState P layer s → row_at s c i 0 ≡ Some row → Numbers row.numbers → IsScope P sorts l →
       IsScope P (with_taken_sort sorts message) (with_taken (record { numbers = slots; message = message }) row l)
   taken_keeps sorts c i slots None row s l h state is small scope = slots_keep sorts slots row.numbers l small scope
@@ -161,7 +161,7 @@ module _ (P Q : List Header → Type 0) (layer : LayerTree) (place : ℕ) (blank
         messages_are = zip_set (Is P) sorts m.messages it.0 (sort_of it.1) (message_in it.1 (Some row)) keeps.messages_are it_is;
       }
 
-  taken_back : (sorts : List Sort) (message : Option (ℕ × Carried)) (c : ℕ) (l : Scope) → Takes layer blank sorts c message →
+  pub taken_back : (sorts : List Sort) (message : Option (ℕ × Carried)) (c : ℕ) (l : Scope) → Takes layer blank sorts c message →
       IsScope P (with_taken_sort sorts message) l → IsScope P sorts l
   taken_back sorts None c l h scope = scope
   taken_back sorts (Some it) c l h scope = record {
@@ -215,7 +215,7 @@ module _ (P Q : List Header → Type 0) (layer : LayerTree) (place : ℕ) (blank
       (slot_keeps sorts k n (turns n k act s l).scope (omega (arith, small)) scope))
 
   -- the numbers of a row that is there
-  row_numbers : (s : State) (c i : ℕ) (row : Row) → Kept s (record { numbers = []; messages = [] }) → row_at s c i 0 ≡ Some row → Numbers row.numbers
+  pub row_numbers : (s : State) (c i : ℕ) (row : Row) → Kept s (record { numbers = []; messages = [] }) → row_at s c i 0 ≡ Some row → Numbers row.numbers
   row_numbers s c i row h is = (subst (Where KeptRow) is (row_at_kept s c i 0 h.cells)).numbers_are
 
   mutual

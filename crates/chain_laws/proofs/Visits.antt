@@ -40,7 +40,7 @@ come_headers P Q Up headers = Q headers
 come_headers P Q Down headers = P headers
 
 -- the arguments of an event are numbers
-arguments_small : (C : List Header → Type 0) (kind : Kind) (e : Event) → IsEvent C e → Numbers (arguments_for kind e)
+pub arguments_small : (C : List Header → Type 0) (kind : Kind) (e : Event) → IsEvent C e → Numbers (arguments_for kind e)
 arguments_small C Cast e h = (h.peer, tt)
 arguments_small C Send e h = (h.peer, tt)
 arguments_small C Stable e h = (h.a, (h.b, tt))
@@ -53,7 +53,7 @@ first_found : (P : HandlerTree → Type 0) (p : HandlerTree → Bool) (x : Handl
 first_found P p x others true is h rest = (h, is)
 first_found P p x others false is h rest = rest
 
-found : (P : HandlerTree → Type 0) (p : HandlerTree → Bool) (hs : List HandlerTree) → AllByRecursion P hs →
+pub found : (P : HandlerTree → Type 0) (p : HandlerTree → Bool) (hs : List HandlerTree) → AllByRecursion P hs →
     Where (λ h. P h × (p h ≡ true)) (find p hs)
 found P p [] h = tt
 found P p (x ∷ hs) h = first_found P p x (find p hs) (p x) refl h.0 (found P p hs h.1)
@@ -107,7 +107,7 @@ module _ (P Q : List Header → Type 0) (layer : LayerTree) (place : ℕ) (blank
         );
       }
 
-  met_is : (dir : Dir) (b : Bool) (m : Option Content) → Brings (come_headers P Q dir) b m → IsMet P layer dir b (met dir m)
+  pub met_is : (dir : Dir) (b : Bool) (m : Option Content) → Brings (come_headers P Q dir) b m → IsMet P layer dir b (met dir m)
   met_is dir true None h = absurd h
   met_is Up true (Some m) h = up_met m.headers m.body h.body (stands.pop_is m.headers h.headers)
   met_is Down true (Some m) h = record { fields_are = tt; messages_are = (record { headers = h.headers; body = h.body }, tt); passes = (refl, h) }
@@ -160,7 +160,7 @@ module _ (P Q : List Header → Type 0) (layer : LayerTree) (place : ℕ) (blank
   expecting_keeps sorts (common e) s l o h = decided_keeps sorts (is_true (val e s l)) o h
   expecting_keeps sorts rare s l o h = h
 
-  entered_is : (h : HandlerTree) (e : Event) (m : Met) (dir : Dir) (b : Bool) → h.direction ≡ dir → carries h.kind ≡ b → h.tag ≡ m.tag →
+  pub entered_is : (h : HandlerTree) (e : Event) (m : Met) (dir : Dir) (b : Bool) → h.direction ≡ dir → carries h.kind ≡ b → h.tag ≡ m.tag →
       Numbers (arguments e) → IsMet P layer dir b m → IsScope P (sorts_of layer h) (entered h e m)
   entered_is h e m dir b same_dir same_kind same_tag small is = record {
     numbers_are = each_room IsNumber h.numbers 0 (arguments e ++ m.fields) zero_small (each_append IsNumber (arguments e) m.fields small is.fields_are);
@@ -245,7 +245,7 @@ pub layer_listed : (stack : List LayerTree) (place : ℕ) (layer : LayerTree) �
     slice_index_or stack place no_layer ≡ layer
 layer_listed stack place layer is = get_or_from_slice_get stack place layer no_layer is
 
-come_is : (stack : List LayerTree) (place : ℕ) (dir : Dir) (e : Event) → IsChainedEvent stack place dir e →
+pub come_is : (stack : List LayerTree) (place : ℕ) (dir : Dir) (e : Event) → IsChainedEvent stack place dir e →
     IsEvent (come_headers (IsFrom stack (suc place)) (IsFrom stack place) dir) e
 come_is stack place Up e h = h
 come_is stack place Down e h = h

@@ -106,7 +106,7 @@ finds_one P sort (Some Part) h = subst P (one_allowed sort Part h.0) h.1
 some_same : {A : Type 0} {x y : A} → Some x ≡ Some y → x ≡ y
 some_same e = cc e
 
-unmapped : (scope : Scope) (items : List ast.ItemTree) (args : List ast.ArgumentTree) →
+pub unmapped : (scope : Scope) (items : List ast.ItemTree) (args : List ast.ArgumentTree) →
     AllZip (λ wanted a. argument_faults scope wanted a ≡ []) (map (λ (i : ast.ItemTree). i.sort ∷ []) items) args →
     AllZip (λ (i : ast.ItemTree) a. argument_faults scope (i.sort ∷ []) a ≡ []) items args
 unmapped scope [] [] h = tt

@@ -1,17 +1,18 @@
 -- Files without faults mean typed stacks.
-use Rattle.std.proofs.Common.{◌≡◌, ◌∙◌, ℕ, suc, ◌+◌, ◌-◌, List, [], ◌∷◌, ◌++◌, length, map, Option, Some, None, refl, sym, ap, subst, arith}
+use Rattle.std.proofs.Common.{◌≡◌, ◌∙◌, ℕ, suc, ◌+◌, ◌-◌, List, [], ◌∷◌, ◌++◌, length, map, Option, Some, None, refl, sym, ap, subst, arith, true}
 use Rattle.std.specs.Prelude.{bytes_eq, flat_map, is_some, option_map, if◌then◌else◌}
 use Rattle.std.specs.List.{AllByRecursion, cons_option, enumerate_from, filter_map, range_with_len}
-use Rattle.std.specs.Option.{option_or}
+use Rattle.std.specs.Option.{option_or, option_map_or}
 use Rattle.std.proofs.lemmas.List.{length-map}
 use Rattle.std.proofs.lemmas.List.FromFn.{length-enumerate_from}
 use Rattle.layer_ast.specs.declared.names.At.{At}
 use Rattle.layer_ast.specs.Tree as ast
 use Rattle.layer_mean.specs.Tree.{LayerTree}
 use Rattle.layer_mean.specs.Visit.{none_header}
-use Rattle.file_faults.specs.Faults.{unknown, of_names, of_types, name_key, type_key, name_fault_at, type_fault_at}
-use Rattle.file_faults.specs.NameFaults.{twice_among, too_many_of, layer_name_faults, place_faults, name_faults, name_fault}
-use Rattle.file_faults.specs.Places.{layer_among, layer_at, written, called, called_at, judged_layers, faults_of_judged, faults_of_layers}
+use Rattle.file_faults.specs.Faults.{unknown, of_names, of_types, name_key, type_key, name_fault_at, type_fault_at, too_many}
+use Rattle.file_faults.specs.FileFault.{file_fault}
+use Rattle.file_faults.specs.NameFaults.{twice_among, too_many_of, layer_name_faults, place_faults, name_faults, name_fault, place_faults_in}
+use Rattle.file_faults.specs.Places.{layer_among, layer_at, written, called, called_at, judged_layers, faults_of_judged, faults_of_layers, param_value}
 use Rattle.file_faults.specs.TypeFaults.{layer_type_faults, type_fault}
 use Rattle.file_faults.proofs.Earliest as earliest
 use Rattle.file_mean.specs.Names.{Placed}
@@ -21,8 +22,14 @@ use Rattle.chain_laws.specs.Runs.{blanks, TypedLayers}
 use Rattle.chain_laws.proofs.Lists.{Where, each_so}
 use Rattle.file_laws.specs.Literals.{LiteralLayer, LiteralPlace, LiteralFile}
 use Rattle.file_laws.specs.Files.{FilesAreTyped}
-use Rattle.file_laws.proofs.Lists.{nils, each_nil, map_nil, each_parts, find_where}
+use Rattle.file_laws.proofs.Lists.{nils, each_nil, map_nil, each_parts, find_where, unless_nil}
+use Rattle.file_faults.specs.Limits.{LimitedSize, is_within, is_within_at, sizes_in}
+use Rattle.file_faults.specs.Earliest.{unless}
+use Rattle.file_faults.specs.Declared.{is_param}
+use Rattle.file_faults.specs.Forms.{declared_as}
+use Rattle.file_laws.specs.Named.{NamedStack, FilesAreNamed}
 use Rattle.file_laws.proofs.Handlers.{layer_typed}
+use Rattle.file_laws.proofs.NamedLayers.{layer_named, given_within}
 
 -- no fault of a file is none of its names and none of its types
 both_none : {A B C : Type 0} (f : A → C) (g : B → C) (o : Option A) (p : Option B) → option_or (option_map f o) (option_map g p) ≡ None →
@@ -63,12 +70,13 @@ judges moved faults file h =
 
 -- a place names a layer without faults
 
-record NamesLayer (file : ast.FileTree) (place : ast.PlaceTree) : Type 0 where
-  layer : ast.LayerTree
-  listed : layer_at file place ≡ Some layer
-  types : layer_type_faults layer ≡ []
-  named : layer_name_faults layer ≡ []
-  literal : LiteralLayer layer
+pub record NamesLayer (file : ast.FileTree) (place : ast.PlaceTree) : Type 0 where
+  pub layer : ast.LayerTree
+  pub listed : layer_at file place ≡ Some layer
+  pub types : layer_type_faults layer ≡ []
+  pub named : layer_name_faults layer ≡ []
+  pub faultless : place_faults file place ≡ []
+  pub literal : LiteralLayer layer
 
 -- what is known of a place
 record Known (file : ast.FileTree) (place : ast.PlaceTree) : Type 0 where
@@ -107,6 +115,7 @@ names_layer file place literal types named known =
       go (Some layer) library own_is library_is a b c d = record {
         layer = layer;
         listed = rw own_is refl;
+        faultless = known.names_one;
         types = subst (Where (λ layer. layer_type_faults layer ≡ [])) own_is a;
         named = subst (Where (λ layer. layer_name_faults layer ≡ [])) own_is b;
         literal = subst (Where LiteralLayer) own_is c;
@@ -114,6 +123,7 @@ names_layer file place literal types named known =
       go None (Some layer) own_is library_is a b c d = record {
         layer = layer;
         listed = rw (own_is, library_is) refl;
+        faultless = known.names_one;
         types = called_is type_fault_at layer_type_faults place.name.at (layer_among file.layers place.name.word)
             (layer_among file.library place.name.word) layer own_is library_is known.types;
         named = called_is name_fault_at layer_name_faults place.name.at (layer_among file.layers place.name.word)
@@ -164,9 +174,10 @@ knowns file [] a b c d = tt
 knowns file (place ∷ places) a b c d =
     (record { names_one = a.0; types = b.0; named = c.0; given = d.0 }, knowns file places a.1 b.1 c.1 d.1)
 
-pub files_are_typed : FilesAreTyped
-unfolding stack_of
-files_are_typed file literal none =
+-- each place of a file without faults names such a layer
+pub places_name_layers : (file : ast.FileTree) → LiteralFile file → file_fault file ≡ None →
+    AllByRecursion (λ place. NamesLayer file place × LiteralPlace place) file.places
+places_name_layers file literal none =
     let faults = both_none of_names of_types (name_fault file) (type_fault file) none in
     let named_nil = earliest.there name_key (name_faults file) faults.0 in
     let types_nil = earliest.there type_key (faults_of_layers type_fault_at layer_type_faults file) faults.1 in
@@ -180,6 +191,47 @@ files_are_typed file literal none =
     let types = judges type_fault_at layer_type_faults file types_nil in
     let named = judges name_fault_at layer_name_faults file three.1 in
     let known = knowns file file.places (each_nil (place_faults file) file.places one.1) types.places_are named.places_are literal.places_are in
-    stack_typed file 0 file.places (omega arith)
-    (each_so (Known file) (λ place. NamesLayer file place × LiteralPlace place)
-    (λ place k. (names_layer file place literal types named k, k.given)) file.places known)
+    each_so (Known file) (λ place. NamesLayer file place × LiteralPlace place)
+    (λ place k. (names_layer file place literal types named k, k.given)) file.places known
+
+pub files_are_typed : FilesAreTyped
+unfolding stack_of
+files_are_typed file literal none = stack_typed file 0 file.places (omega arith) (places_name_layers file literal none)
+
+-- what a place gives fits the sizes of its layer
+given_same : (p : Placed) (place : ast.PlaceTree) (size : ast.SizeTree) (most : ℕ) → p.given ≡ place.given →
+    is_within_at p.layer place size most ≡ true → given_within p size most ≡ true
+given_same p place (ast.fixed at n) most same h = refl
+given_same p place (ast.sized name) most same h =
+    subst (λ given. option_map_or (is_within most) (param_value p.layer given name.word) true ≡ true) (sym same) h
+
+sizes_within : (file : ast.FileTree) (place : ast.PlaceTree) (h : NamesLayer file place) (n : ℕ) →
+    AllByRecursion (λ l. given_within (record { layer = h.layer; given = place.given; blank = blank_above n (length file.places) }) l.size l.most ≡ true)
+    (sizes_in h.layer)
+sizes_within file place h n =
+    let p : Placed = record { layer = h.layer; given = place.given; blank = blank_above n (length file.places) } in
+    let a = twice_among [] (map (λ (g : ast.GivenTree). g.name) place.given) in
+    let b = flat_map (λ (g : ast.GivenTree). unless (declared_as is_param h.layer g.name.word) (unknown g.name.at)) place.given in
+    let f = λ (l : LimitedSize). unless (is_within_at h.layer place l.size l.most) (too_many place.name.at) in
+    let none = nils (a ++ b) (flat_map f (sizes_in h.layer)) (place_faultless file place h) in
+    each_so (λ l. f l ≡ []) (λ l. given_within p l.size l.most ≡ true)
+    (λ l is. given_same p place l.size l.most refl (unless_nil (is_within_at h.layer place l.size l.most) (too_many place.name.at) is))
+    (sizes_in h.layer) (each_nil f (sizes_in h.layer) none.1)
+  where
+    place_faultless : (file : ast.FileTree) (place : ast.PlaceTree) (h : NamesLayer file place) → place_faults_in place h.layer ≡ []
+    place_faultless file place h =
+        subst (λ o. option_map_or (place_faults_in place) o (unknown place.name.at ∷ []) ≡ []) h.listed h.faultless
+
+-- what the layers of a file without faults name is there
+stack_named : (file : ast.FileTree) (n : ℕ) (places : List ast.PlaceTree) →
+    AllByRecursion (λ place. NamesLayer file place × LiteralPlace place) places →
+    NamedStack (map (λ x. placed_layer file x.0 x.1) (enumerate_from n places))
+stack_named file n [] h = tt
+stack_named file n (place ∷ places) h = (
+  rw h.0.0.listed (layer_named (record { layer = h.0.0.layer; given = place.given; blank = blank_above n (length file.places) }) h.0.0.types h.0.0.named (sizes_within file place h.0.0 n)),
+  stack_named file (n + 1) places h.1,
+)
+
+pub files_are_named : FilesAreNamed
+unfolding stack_of
+files_are_named file literal none = stack_named file 0 file.places (places_name_layers file literal none)

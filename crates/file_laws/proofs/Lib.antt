@@ -8,4 +8,9 @@ pub mod Takes
 pub mod Blocks
 pub mod Handlers
 pub mod Files
+pub mod Texts
+pub mod Fronts
+pub mod NamedValues
+pub mod NamedBlocks
+pub mod NamedLayers
 pub mod SmallFiles

@@ -61,7 +61,7 @@ number_no_message Int h = refl
 number_no_message Msg h = absurd (cc h)
 number_no_message Part h = absurd (cc h)
 
-inner_number : (i : ast.ItemTree) (b : Bool) → allows a_number i.sort ≡ b → (if b then [] else i ∷ []) ≡ [] → allows a_number i.sort ≡ true
+pub inner_number : (i : ast.ItemTree) (b : Bool) → allows a_number i.sort ≡ b → (if b then [] else i ∷ []) ≡ [] → allows a_number i.sort ≡ true
 inner_number i true is h = is
 inner_number i false is h = absurd (cc h)
 

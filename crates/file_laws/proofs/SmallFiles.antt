@@ -14,8 +14,9 @@ use Rattle.chain_laws.proofs.Runs.{run_from_a_task, stands_typed}
 use Rattle.chain_laws.proofs.Statements.{event_is}
 use Rattle.chain_laws.proofs.Visits.{fresh_is_chained}
 use Rattle.file_laws.specs.Literals.{LiteralFile}
-use Rattle.file_laws.specs.Samples.{CounterIsTyped, QueuesAreTyped, first_cast, CounterRuns}
-use Rattle.file_laws.proofs.Files.{files_are_typed}
+use Rattle.file_laws.specs.Named.{NamedStack}
+use Rattle.file_laws.specs.Samples.{CounterIsTyped, QueuesAreTyped, SmallFilesAreNamed, first_cast, CounterRuns}
+use Rattle.file_laws.proofs.Files.{files_are_named, files_are_typed}
 
 counter_literal : LiteralFile counter.file
 counter_literal = record {
@@ -83,6 +84,12 @@ queues_mean = refl
 
 pub queues_are_typed : QueuesAreTyped
 queues_are_typed = (queues_literal, refl, subst TypedStack queues_mean (files_are_typed queues.file queues_literal refl))
+
+pub small_files_are_named : SmallFilesAreNamed
+small_files_are_named = (
+  subst NamedStack counter_means (files_are_named counter.file counter_literal refl),
+  subst NamedStack queues_mean (files_are_named queues.file queues_literal refl),
+)
 
 counter_at : (place : ℕ) → place < 1 → IsChainedState counter.stack place (slice_index_or (map (λ layer. fresh layer 0 3 0) counter.stack) place no_state)
 counter_at zero below = fresh_is_chained counter.stack 0 _ _ 0 3 0 (stands_typed counter.stack 0 _ counter_is_typed.2 refl) (omega arith)

@@ -1,3 +1,5 @@
 pub mod Literals
 pub mod Files
+pub mod Texts
+pub mod Named
 pub mod Samples

@@ -12,6 +12,7 @@ use Rattle.file_mean.specs.CounterFile as counter
 use Rattle.file_mean.specs.QueuesFile as queues
 use Rattle.chain_laws.specs.Runs.{TypedStack, IsChainedTask, IsChainedLine}
 use Rattle.file_laws.specs.Literals.{LiteralFile}
+use Rattle.file_laws.specs.Named.{NamedStack}
 
 -- Their numbers are in range and they have no faults, so their stacks are typed.
 abbrev pub CounterIsTyped : Type 0
@@ -19,6 +20,10 @@ CounterIsTyped = LiteralFile counter.file × (file_fault counter.file ≡ None) 
 
 abbrev pub QueuesAreTyped : Type 0
 QueuesAreTyped = LiteralFile queues.file × (file_fault queues.file ≡ None) × TypedStack queues.stack
+
+-- And all that their layers name is there.
+abbrev pub SmallFilesAreNamed : Type 0
+SmallFilesAreNamed = NamedStack counter.stack × NamedStack queues.stack
 
 -- A cast that comes from above the counter is chained, and so is all that its run leaves at the first of three members.
 abbrev pub first_cast : Task Event

@@ -4,8 +4,30 @@
 pub mod samples;
 
 ghost use Rattle.file_laws.specs.Files.{FilesAreTyped};
+ghost use Rattle.file_laws.specs.Named.{FilesAreNamed, TextsAreNamed};
+ghost use Rattle.file_laws.specs.Texts.{TextsAreLiteral, TextsAreTyped};
 
 /// A file with no fault of names or types means a typed stack.
 pub fn files_are_typed()
     ensures { FilesAreTyped }
+{}
+
+/// The numbers of a file that a text is are below 2^32.
+pub fn texts_are_literal()
+    ensures { TextsAreLiteral }
+{}
+
+/// A text that is a file with no fault of names or types means a typed stack.
+pub fn texts_are_typed()
+    ensures { TextsAreTyped }
+{}
+
+/// What the layers of a file with no fault of names or types name is there, in the form in which it is used.
+pub fn files_are_named()
+    ensures { FilesAreNamed }
+{}
+
+/// So it is with the layers of a text that is such a file.
+pub fn texts_are_named()
+    ensures { TextsAreNamed }
 {}

@@ -1,5 +1,5 @@
 //! The laws on small files, worked out by evaluation. Nothing runs here.
-ghost use Rattle.file_laws.specs.Samples.{CounterIsTyped, CounterRuns, QueuesAreTyped};
+ghost use Rattle.file_laws.specs.Samples.{CounterIsTyped, CounterRuns, QueuesAreTyped, SmallFilesAreNamed};
 
 /// The counter's file has no fault, and means a typed stack.
 pub fn counter_is_typed()
@@ -14,4 +14,9 @@ pub fn queues_are_typed()
 /// A cast from above the counter leaves chained states and outputs.
 pub fn counter_runs()
     ensures { CounterRuns }
+{}
+
+/// All that the layers of both name is there.
+pub fn small_files_are_named()
+    ensures { SmallFilesAreNamed }
 {}

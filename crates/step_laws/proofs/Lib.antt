@@ -1,0 +1,5 @@
+pub mod Bare
+pub mod Wires
+pub mod Ends
+pub mod Numbered
+pub mod SmallStacks

@@ -1,0 +1,53 @@
+//! Laws of a member's steps, each the contract of a function that does nothing: what a step sends fits its plans and is spelled by its
+//! bytes, and its run ends within the weight of its entry.
+#![tactic(auto)]
+
+pub mod samples;
+
+ghost use Rattle.step_laws.specs.Plans.{InputsAreInRange, PlansAreNumbered, WorldsAreChained};
+ghost use Rattle.step_laws.specs.Steps.{ChainedLines, ChainedTurns, PacketsFit, StepsEnd, TypedRunsAreBare, WiresAreSpelled};
+
+/// Parts that a run of a typed stack reads have no headers.
+pub fn typed_runs_are_bare()
+    ensures { TypedRunsAreBare }
+{}
+
+/// Each packet of a step that is sent short fits the plan under which it is.
+pub fn packets_fit()
+    ensures { PacketsFit }
+{}
+
+/// The bytes of every packet that a step sends spell it.
+pub fn wires_are_spelled()
+    ensures { WiresAreSpelled }
+{}
+
+/// A turn of a chained line of a stack without cycles is one of which all is known.
+pub fn chained_turns()
+    ensures { ChainedTurns }
+{}
+
+/// So is a chained line.
+pub fn chained_lines()
+    ensures { ChainedLines }
+{}
+
+/// The run of a step of an accepted stack ends within the weight of its entry.
+pub fn steps_end()
+    ensures { StepsEnd }
+{}
+
+/// The constants of a typed stack's plans are below 2^32.
+pub fn plans_are_numbered()
+    ensures { PlansAreNumbered }
+{}
+
+/// What a member of a typed stack is given enters in range.
+pub fn inputs_are_in_range()
+    ensures { InputsAreInRange }
+{}
+
+/// Along a run of the world of a typed stack each world is chained.
+pub fn worlds_are_chained()
+    ensures { WorldsAreChained }
+{}
