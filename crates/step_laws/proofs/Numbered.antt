@@ -345,7 +345,7 @@ shape_drawn stack k Second typed h = go (has_second_case stack k) where
   go true = first_drawn stack k Second typed h
   go false = tt
 
-each_filter : {A : Type 0} (P : A → Type 0) (p : A → Bool) (xs : List A) → AllByRecursion P xs → AllByRecursion P (filter p xs)
+pub each_filter : {A : Type 0} (P : A → Type 0) (p : A → Bool) (xs : List A) → AllByRecursion P xs → AllByRecursion P (filter p xs)
 each_filter P p [] h = tt
 each_filter P p (x ∷ xs) h = go (p x) (each_filter P p xs h.1) where
   go : (b : Bool) → AllByRecursion P (filter p xs) → AllByRecursion P (if b then x ∷ filter p xs else filter p xs)

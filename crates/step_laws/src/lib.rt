@@ -4,6 +4,7 @@
 
 pub mod samples;
 
+ghost use Rattle.step_laws.specs.Nodes.{NodesAreChained};
 ghost use Rattle.step_laws.specs.Plans.{InputsAreInRange, PlansAreNumbered, WorldsAreChained};
 ghost use Rattle.step_laws.specs.Steps.{ChainedLines, ChainedTurns, PacketsFit, StepsEnd, TypedRunsAreBare, WiresAreSpelled};
 
@@ -50,4 +51,9 @@ pub fn inputs_are_in_range()
 /// Along a run of the world of a typed stack each world is chained.
 pub fn worlds_are_chained()
     ensures { WorldsAreChained }
+{}
+
+/// The world of a node is chained at each event of its journal.
+pub fn nodes_are_chained()
+    ensures { NodesAreChained }
 {}
