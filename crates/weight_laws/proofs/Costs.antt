@@ -18,7 +18,7 @@ use Rattle.weight_laws.proofs.Reach.{unknown_by, reached_by, behind, rank, rank_
 use Rattle.weight_laws.proofs.Nodes.{listed, next_node}
 
 -- the test of nodes tells equal ones
-node_is : (a b : Node) → a.at ≡ b.at → a.tag ≡ b.tag → a.dir ≡ b.dir → a.kind ≡ b.kind → a ≡ b
+pub node_is : (a b : Node) → a.at ≡ b.at → a.tag ≡ b.tag → a.dir ≡ b.dir → a.kind ≡ b.kind → a ≡ b
 node_is a b at tag dir kind = λ i. record { at = at i; dir = dir i; kind = kind i; tag = tag i }
 
 pub sound : (a b : Node) → same_node a b ≡ true → a ≡ b
@@ -71,12 +71,16 @@ same_behind f g (a ∷ arrs) h =
     + same_behind f g arrs (λ t m. h t (in_right t a.targets _ m)) i)
     ∙ sym (sum_by-cons (λ arrow. arrow.times * largest (map g arrow.targets)) a arrs)
 
+-- a node is on a cycle where it is behind itself
+pub cycle_is : (stack : List LayerTree) (n : Node) →
+    is_on_cycle stack n ≡ list_any (same_node n) (behind same_node (following stack) (nodes stack) n)
+cycle_is stack n = ap (list_any (same_node n))
+    (ap (reached (length (nodes stack)) stack []) (unknown_is [] (following stack n))
+    ∙ reached_is stack (length (nodes stack)) [] (unknown_by same_node [] (following stack n)))
+
 module _ (stack : List LayerTree) (orderly : IsOrderly stack) (off : first_on_cycle stack ≡ None) where
   cycle_free : (n : Node) → IsNode stack n → list_any (same_node n) (behind same_node (following stack) (nodes stack) n) ≡ false
-  cycle_free n is =
-      ap (list_any (same_node n))
-      (sym (ap (reached (length (nodes stack)) stack []) (unknown_is [] (following stack n)) ∙ reached_is stack (length (nodes stack)) [] (unknown_by same_node [] (following stack n))))
-      ∙ none_found (is_on_cycle stack) (nodes stack) n off (listed stack n is)
+  cycle_free n is = sym (cycle_is stack n) ∙ none_found (is_on_cycle stack) (nodes stack) n off (listed stack n is)
 
   -- the number of steps changes nothing once it is above the rank
   steady : (own : Node → ℕ) (k : ℕ) (n : Node) → IsNode stack n → rank same_node (following stack) (nodes stack) n < k →

@@ -10,3 +10,8 @@ pub mod Queue
 pub mod Runs
 pub mod Chains
 pub mod Turns
+pub mod Tables
+pub mod Held
+pub mod Rounds
+pub mod Search
+pub mod Built

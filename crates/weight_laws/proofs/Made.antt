@@ -33,16 +33,25 @@ mutual
   made_le place (assign c i e) s l = omega arith
   made_le place (assign_square c row column e) s l = omega arith
   made_le place (push c i capacity row otherwise) s l =
-      omega (arith, one_of (has_room s c (val i s l) capacity) (joins_in_row row) (joins_of otherwise) (joins_in_row row)
-      (made_in place otherwise s l) (omega arith) (made_in_le place otherwise s l))
+      omega (
+        arith,
+        one_of (has_room s c (val i s l) capacity) (joins_in_row row) (joins_of otherwise) (joins_in_row row)
+            (made_in place otherwise s l) (omega arith) (made_in_le place otherwise s l),
+      )
   made_le place (take c i taken block otherwise) s l =
-      omega (arith, row_or (row_at s c (val i s l) 0) (joins_of block) (joins_of otherwise)
-      (λ row. made_in place block (without_front s c (val i s l)) (with_taken taken row l)) (made_in place otherwise s l)
-      (λ row. made_in_le place block (without_front s c (val i s l)) (with_taken taken row l))
-      (made_in_le place otherwise s l))
+      omega (
+        arith,
+        row_or (row_at s c (val i s l) 0) (joins_of block) (joins_of otherwise)
+            (λ row. made_in place block (without_front s c (val i s l)) (with_taken taken row l)) (made_in place otherwise s l)
+            (λ row. made_in_le place block (without_front s c (val i s l)) (with_taken taken row l))
+            (made_in_le place otherwise s l),
+      )
   made_le place (branch likely e block otherwise) s l =
-      omega (arith, one_of (is_true (val e s l)) (joins_of block) (joins_of otherwise) (made_in place block s l) (made_in place otherwise s l)
-      (made_in_le place block s l) (made_in_le place otherwise s l))
+      omega (
+        arith,
+        one_of (is_true (val e s l)) (joins_of block) (joins_of otherwise) (made_in place block s l) (made_in place otherwise s l)
+            (made_in_le place block s l) (made_in_le place otherwise s l),
+      )
   made_le place (each k below most block) s l =
       let turned = turns_make (joins_of block) (min (val below s l) most) k (in_order (acts place block)) (made_in place block) s l
       (λ t m. made_in_le place block t m) in

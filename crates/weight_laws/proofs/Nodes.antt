@@ -30,13 +30,13 @@ in_range : (a n x : ℕ) → a ≤ x → x < a + n → In x (range_with_len a n)
 in_range a zero x low high = absurd (omega arith)
 in_range a (suc n) x low high = ⊎_elim (λ e. inl e) (λ more. inr (in_range (a + 1) n x more (omega arith))) (here_or_more a x low)
 
-range_in : (a n x : ℕ) → In x (range_with_len a n) → x < a + n
+pub range_in : (a n x : ℕ) → In x (range_with_len a n) → x < a + n
 range_in a zero x h = absurd h
 range_in a (suc n) x (inl e) = omega arith
 range_in a (suc n) x (inr h) = omega (arith, range_in (a + 1) n x h)
 
 -- a tag is declared where it is one of the layer's
-there_below : {A : Type 0} (xs : List A) (i : ℕ) → is_some (slice_get xs i) ≡ true → i < length xs
+pub there_below : {A : Type 0} (xs : List A) (i : ℕ) → is_some (slice_get xs i) ≡ true → i < length xs
 there_below [] i h = absurd (cc h)
 there_below (x ∷ xs) zero h = omega arith
 there_below (x ∷ xs) (suc i) h = omega (arith, there_below xs i h)
@@ -95,10 +95,10 @@ kind_in kinds_of.View = (_, inr (inr (inr (inr (inr (inr (inr (inr (inr (inr (in
 kind_in kinds_of.Leave = (_, inr (inr (inr (inr (inr (inr (inr (inr (inr (inr (inr (inl refl))))))))))))
 
 -- each node is listed
-abbrev at_kind : List LayerTree → ℕ → (List ℕ × Kind) → List Node
+abbrev pub at_kind : List LayerTree → ℕ → (List ℕ × Kind) → List Node
 at_kind stack at kind = nodes_of stack at Up kind.1 ++ nodes_of stack at Down kind.1
 
-abbrev at_place : List LayerTree → ℕ → List Node
+abbrev pub at_place : List LayerTree → ℕ → List Node
 at_place stack at = flat_map (at_kind stack at) kinds
 
 one_way : (stack : List LayerTree) (at : ℕ) (dir : Dir) (name : List ℕ) (kind : Kind) (tag : ℕ) →

@@ -25,8 +25,11 @@ module _ {W E : Type 0} (places : ℕ) (play : Player W E) where
     run_spends (suc n) [] w good = omega arith
     run_spends (suc n) (t ∷ rest) w good =
         let r : Line W E = next_of places play (t ∷ rest) w in
-        omega (arith, falls t rest w (good zero) (good (suc zero)),
-        run_spends n r.tasks r.world (λ k. subst (λ q. Good q.tasks) (first_turn k (t ∷ rest) w) (good (suc k))))
+        omega (
+          arith,
+          falls t rest w (good zero) (good (suc zero)),
+          run_spends n r.tasks r.world (λ k. subst (λ q. Good q.tasks) (first_turn k (t ∷ rest) w) (good (suc k))),
+        )
 
     pub run_ends : ((w : W) (t : Task E) → 1 ≤ price w t) → (n : ℕ) (tasks : List (Task E)) (w : W) →
         ((k : ℕ) → Good (run_for places play k (record { world = w; tasks = tasks })).tasks) → sum_by weigh tasks ≤ n →

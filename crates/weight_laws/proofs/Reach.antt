@@ -38,7 +38,7 @@ module _ {A : Type 0} (same : A → A → Bool) (sound : (a b : A) → same a b 
     go true k = refl
     go false k = k
 
-  unknown_sub : (y : A) (known xs : List A) → In y (unknown_by same known xs) → In y xs
+  pub unknown_sub : (y : A) (known xs : List A) → In y (unknown_by same known xs) → In y xs
   unknown_sub y known [] h = h
   unknown_sub y known (x ∷ xs) h =
       go (list_any (same x) known) (unknown_sub y known xs) (unknown_sub y (x ∷ known) xs) h where

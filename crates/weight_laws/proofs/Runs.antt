@@ -53,8 +53,14 @@ module _ (stack : List LayerTree) (orderly : IsOrderly stack) (off : first_on_cy
           known = before.0;
           sent = all_right (IsKnown stack) rest (sent_tasks stack s t) known;
         } in
-        omega (arith, follows stack orderly off own (task_node t) before.0, sends_follow_arrows stack s t (cost stack own) visit, fits w t,
-        sum_by-cons (λ x. cost stack own (task_node x)) t rest, sum_by-append (λ x. cost stack own (task_node x)) rest (sent_tasks stack s t))
+        omega (
+          arith,
+          follows stack orderly off own (task_node t) before.0,
+          sends_follow_arrows stack s t (cost stack own) visit,
+          fits w t,
+          sum_by-cons (λ x. cost stack own (task_node x)) t rest,
+          sum_by-append (λ x. cost stack own (task_node x)) rest (sent_tasks stack s t),
+        )
     go false placed known =
         omega (arith, follows stack orderly off own (task_node t) before.0, fits w t, sum_by-cons (λ x. cost stack own (task_node x)) t rest)
 
@@ -112,9 +118,12 @@ turns_fit stack w t rest left free turn enough room =
     let pending = tasks_weigh stack turn.orderly turn.no_cycle _ turn.behind in record {
       sent = λ placed.
           let visit = visit_of stack w t rest turn placed in
-          omega (arith, weighs_what_it_sends stack (state_at w t.at) t turn.no_cycle visit,
-          tasks_weigh stack turn.orderly turn.no_cycle (sent_tasks stack (state_at w t.at) t) visit.sent,
-          sum_by-cons (task_weight stack) t rest);
+          omega (
+            arith,
+            weighs_what_it_sends stack (state_at w t.at) t turn.no_cycle visit,
+            tasks_weigh stack turn.orderly turn.no_cycle (sent_tasks stack (state_at w t.at) t) visit.sent,
+            sum_by-cons (task_weight stack) t rest,
+          );
       tasks = omega (arith, light, pending);
       turn = one_turn stack t rest w;
       weight = omega (arith, light);
@@ -176,16 +185,16 @@ accepts_parts stack h = go (first_on_cycle stack) refl h where
       (is, ltb-false weight_limit (largest_weight stack) within.0, ltb-false joins_limit (largest_joins stack) within.1)
 
 -- the entries in order, as far as a kind
-abbrev messages_below : List LayerTree → List Node
+abbrev pub messages_below : List LayerTree → List Node
 messages_below stack = nodes_of stack 1 Up Cast ++ nodes_of stack 1 Up Send
 
-abbrev from_below : List LayerTree → List Node
+abbrev pub from_below : List LayerTree → List Node
 from_below stack = messages_below stack ++ nodes_of stack 1 Up Timer
 
-abbrev through_casts : List LayerTree → List Node
+abbrev pub through_casts : List LayerTree → List Node
 through_casts stack = from_below stack ++ nodes_of stack (length stack) Down Cast
 
-abbrev through_sends : List LayerTree → List Node
+abbrev pub through_sends : List LayerTree → List Node
 through_sends stack = through_casts stack ++ nodes_of stack (length stack) Down Send
 
 -- where a run begins is one of the entries

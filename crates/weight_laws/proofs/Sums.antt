@@ -29,5 +29,9 @@ joins_own stack s t place =
 
 pub counts_what_it_joins : CountsWhatItJoins
 counts_what_it_joins stack s t off visit =
-    omega (arith, follows stack visit.orderly off (own_joins stack) (task_node t) visit.known,
-    sends_follow_arrows stack s t (most_joins stack) visit, joins_own stack s t visit.place)
+    omega (
+      arith,
+      follows stack visit.orderly off (own_joins stack) (task_node t) visit.known,
+      sends_follow_arrows stack s t (most_joins stack) visit,
+      joins_own stack s t visit.place,
+    )

@@ -34,7 +34,7 @@ use Rattle.weight_laws.proofs.Nodes.{tag_in, had_in, is_zero, orderly_at, found,
 use Rattle.weight_laws.proofs.Sends.{total_in_is, block_sends}
 
 -- the largest of some numbers is at least each
-largest_from : (a : ℕ) (ns : List ℕ) → fold max a ns ≡ max a (fold max 0 ns)
+pub largest_from : (a : ℕ) (ns : List ℕ) → fold max a ns ≡ max a (fold max 0 ns)
 largest_from a [] = omega arith
 largest_from a (n ∷ ns) = let one = largest_from (max a n) ns in let other = largest_from (max 0 n) ns in omega arith
 

@@ -7,3 +7,6 @@ pub mod Runs
 pub mod Chains
 pub mod Turns
 pub mod Samples
+pub mod Tables
+pub mod Rounds
+pub mod Search

@@ -1,13 +1,14 @@
 -- The laws at small stacks: their premises hold, and these are the numbers.
-use Rattle.std.specs.Prelude.{◌≡◌, ℕ, true, List, [], ◌∷◌, map, length, Some, codes}
+use Rattle.std.specs.Prelude.{◌≡◌, ℕ, Bool, true, false, List, [], ◌∷◌, map, length, slice_index, Some, codes}
 use Rattle.layer_ast.specs.declared.tokens.Dir.TheVariants.{Up, Down}
-use Rattle.layer_ast.specs.declared.tokens.Kind.TheVariants.{Cast}
+use Rattle.layer_ast.specs.declared.tokens.Kind.{Kind}
+use Rattle.layer_ast.specs.declared.tokens.Kind.TheVariants.{Cast, Send}
 use Rattle.layer_mean.specs.declared.run.Event.{Event}
 use Rattle.layer_mean.specs.Tree.{LayerTree}
 use Rattle.layer_mean.specs.State.{State}
 use Rattle.layer_mean.specs.Visit.{fresh}
 use Rattle.layer_mean.specs.Queue.{Task, run}
-use Rattle.stack_mean.specs.Graph.{arrows}
+use Rattle.stack_mean.specs.Graph.{arrows, nodes}
 use Rattle.stack_mean.specs.Acceptance.{weight, weight_limit}
 use Rattle.stack_mean.specs.SampleLayers.{counter, joiner, fan, mnak, total, local_copy, bottom, echo, memory, mirror, late}
 use Rattle.stack_mean.specs.Samples.{ordered}
@@ -18,6 +19,9 @@ use Rattle.weight_laws.specs.Visits.{sent_tasks, task_weight, task_joins, IsVisi
 use Rattle.weight_laws.specs.Made.{visit_joins}
 use Rattle.weight_laws.specs.Runs.{turns_of, IsRun}
 use Rattle.weight_laws.specs.Chains.{first_place, HasChain}
+use Rattle.weight_laws.specs.Tables.{HasFewHeaders, node_number, table_of}
+use Rattle.weight_laws.specs.Rounds.{rounds, one_task}
+use Rattle.weight_laws.specs.Search.{is_seen, searched, search_from}
 
 -- The layers of the samples send what their graphs tell.
 abbrev pub SamplesAreOrderly : Type 0
@@ -70,3 +74,25 @@ ChainedPacket = HasChain ordered (first_place Up 1) true (Some (record {
       record { layer = 2; tag = 1; fields = 0 ∷ 0 ∷ [] } ∷ [];
   body = codes "x";
 }))
+
+-- A table of two layers that send each cast back to each other: a cast that comes down to the lower one is seen again, and a send isn't.
+abbrev pub seen_again : Kind → Bool
+seen_again kind =
+    let stack = echo ∷ echo ∷ [] in
+    let number = node_number (record { at = 1; dir = Down; kind = kind; tag = 0 }) in
+    is_seen (searched (table_of stack) (length (nodes stack)) (search_from (table_of stack) number)) number
+
+abbrev pub EchoesAreSeen : Type 0
+EchoesAreSeen = (seen_again Cast ≡ true) × (seen_again Send ≡ false)
+
+-- The weights of a cast over a counter, above it, at its place and below it, in two rounds over the table.
+abbrev pub CounterRounds : Type 0
+CounterRounds =
+    let stack = counter ∷ [] in
+    map (λ n. slice_index (rounds one_task (table_of stack) 2) (node_number n))
+    (record { at = 2; dir = Up; kind = Cast; tag = 0 } ∷ record { at = 1; dir = Down; kind = Cast; tag = 0 } ∷
+    record { at = 0; dir = Down; kind = Cast; tag = 1 } ∷ []) ≡ 1 ∷ 2 ∷ 1 ∷ []
+
+-- The layers of the samples have few headers.
+abbrev pub SamplesHaveFewHeaders : Type 0
+SamplesHaveFewHeaders = HasFewHeaders (counter ∷ mnak ∷ total ∷ bottom ∷ [])

@@ -5,7 +5,10 @@ pub mod samples;
 
 ghost use Rattle.weight_laws.specs.Chains.{ChainedTasksAreKnown};
 ghost use Rattle.weight_laws.specs.Costs.{CostsFollowArrows};
+ghost use Rattle.weight_laws.specs.Rounds.{HeldIsJudged, LargestInRounds, RoundsAreCosts, RoundsSettle};
 ghost use Rattle.weight_laws.specs.Runs.{JoinsAndPending, LinesEnd, RunsEnd, TurnsAndWeight, TurnsFit, TurnsJoinLess, TurnsLighten};
+ghost use Rattle.weight_laws.specs.Search.{SearchSettles, SearchTellsCycles};
+ghost use Rattle.weight_laws.specs.Tables.{NumbersDiffer, NumbersFit, TablesTell};
 ghost use Rattle.weight_laws.specs.Turns.{KnownToTheEnd};
 ghost use Rattle.weight_laws.specs.Visits.{CountsWhatItJoins, SendsFollowArrows, WeighsWhatItSends};
 
@@ -73,4 +76,49 @@ pub fn chained_tasks_are_known()
 /// A line that is known turn by turn until no task is left is known throughout.
 pub fn known_to_the_end()
     ensures { KnownToTheEnd }
+{}
+
+/// Nodes of a stack whose layers have at most seven headers have numbers below 192 for each place and edge.
+pub fn numbers_fit()
+    ensures { NumbersFit }
+{}
+
+/// Different nodes of such a stack have different numbers.
+pub fn numbers_differ()
+    ensures { NumbersDiffer }
+{}
+
+/// Costs in rounds over a table are those of the definition in as many steps, held within 32 bits.
+pub fn rounds_are_costs()
+    ensures { RoundsAreCosts }
+{}
+
+/// A stack's weight and its joins stand in the tables behind as many rounds as it has nodes.
+pub fn largest_in_rounds()
+    ensures { LargestInRounds }
+{}
+
+/// A limit below 2^32 - 1 is passed by a number where the held number passes it.
+pub fn held_is_judged()
+    ensures { HeldIsJudged }
+{}
+
+/// Once a round changes nothing, no further one does.
+pub fn rounds_settle()
+    ensures { RoundsSettle }
+{}
+
+/// A table that is made node by node has the vertex of each node at its number.
+pub fn tables_tell()
+    ensures { TablesTell }
+{}
+
+/// A search from a node, in as many rounds as there are nodes, sees the node itself exactly where it lies on a cycle.
+pub fn search_tells_cycles()
+    ensures { SearchTellsCycles }
+{}
+
+/// Once a round of a search saw nothing, no further one does.
+pub fn search_settles()
+    ensures { SearchSettles }
 {}

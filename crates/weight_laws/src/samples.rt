@@ -1,7 +1,7 @@
 //! The laws at small stacks, by evaluation: the functions here are empty.
 #![tactic(auto, unfolding(layer_ast::specs::Spelling::kinds, layer_mean::specs::Queue::run, layer_mean::specs::Visit::step))]
 
-ghost use Rattle.weight_laws.specs.Samples.{ChainedPacket, CounterRun, JoinerVisit, OrderedRun, SamplesAreOrderly};
+ghost use Rattle.weight_laws.specs.Samples.{ChainedPacket, CounterRounds, CounterRun, EchoesAreSeen, JoinerVisit, OrderedRun, SamplesAreOrderly, SamplesHaveFewHeaders};
 
 /// The layers of the samples are orderly.
 pub fn samples_are_orderly()
@@ -26,4 +26,19 @@ pub fn joiner_visit()
 /// A packet is chained.
 pub fn chained_packet()
     ensures { ChainedPacket }
+{}
+
+/// A cast that goes round between two layers.
+pub fn echoes_are_seen()
+    ensures { EchoesAreSeen }
+{}
+
+/// Weights in rounds.
+pub fn counter_rounds()
+    ensures { CounterRounds }
+{}
+
+/// The layers of the samples have few headers.
+pub fn samples_have_few_headers()
+    ensures { SamplesHaveFewHeaders }
 {}

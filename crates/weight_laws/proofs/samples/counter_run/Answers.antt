@@ -9,9 +9,13 @@ use Rattle.weight_laws.proofs.samples.counter_run.Goals as goal
 
 pub returns : goal.returns
 unfolding kinds step run
-returns c = (record {
-  orderly = search rules;
-  accepts = refl;
-  enters = refl;
-  known = known_to_the_end (counter ∷ []) 3 (starting (unstarted (fresh_states (counter ∷ []))) (cast_at 1)) (search rules);
-}, refl, refl)
+returns c = (
+  record {
+    orderly = search rules;
+    accepts = refl;
+    enters = refl;
+    known = known_to_the_end (counter ∷ []) 3 (starting (unstarted (fresh_states (counter ∷ []))) (cast_at 1)) (search rules);
+  },
+  refl,
+  refl,
+)

@@ -9,9 +9,14 @@ use Rattle.weight_laws.proofs.samples.ordered_run.Goals as goal
 
 pub returns : goal.returns
 unfolding kinds step run
-returns c = (record {
-  orderly = search rules;
-  accepts = refl;
-  enters = refl;
-  known = known_to_the_end ordered 7 (starting (unstarted (fresh_states (ordered))) (cast_at 3)) (search rules);
-}, refl, refl, refl)
+returns c = (
+  record {
+    orderly = search rules;
+    accepts = refl;
+    enters = refl;
+    known = known_to_the_end ordered 7 (starting (unstarted (fresh_states (ordered))) (cast_at 3)) (search rules);
+  },
+  refl,
+  refl,
+  refl,
+)
