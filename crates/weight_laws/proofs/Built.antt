@@ -15,7 +15,7 @@ use Rattle.weight_laws.proofs.Tables.{numbers_fit, numbers_differ}
 use Rattle.weight_laws.proofs.Rounds.{one_kind}
 
 -- what is listed is a node of the stack
-nodes_are : (stack : List LayerTree) (n : Node) → In n (nodes stack) → IsNode stack n
+pub nodes_are : (stack : List LayerTree) (n : Node) → In n (nodes stack) → IsNode stack n
 nodes_are stack n m = from_flat_map (at_place stack) n (range_with_len 0 (length stack + 2))
     (λ at placed here.
     let low : at ≤ length stack + 1 = omega (arith, range_in 0 (length stack + 2) at placed) in

@@ -79,7 +79,7 @@ cycle_is stack n = ap (list_any (same_node n))
     ∙ reached_is stack (length (nodes stack)) [] (unknown_by same_node [] (following stack n)))
 
 module _ (stack : List LayerTree) (orderly : IsOrderly stack) (off : first_on_cycle stack ≡ None) where
-  cycle_free : (n : Node) → IsNode stack n → list_any (same_node n) (behind same_node (following stack) (nodes stack) n) ≡ false
+  pub cycle_free : (n : Node) → IsNode stack n → list_any (same_node n) (behind same_node (following stack) (nodes stack) n) ≡ false
   cycle_free n is = sym (cycle_is stack n) ∙ none_found (is_on_cycle stack) (nodes stack) n off (listed stack n is)
 
   -- the number of steps changes nothing once it is above the rank

@@ -83,7 +83,7 @@ module _ {A : Type 0} (same : A → A → Bool) (sound : (a b : A) → same a b 
       reached_keeps steps (known ++ y ∷ ys) (unknown_by same (known ++ y ∷ ys) (flat_map follow (y ∷ ys))) x (in_left x (known ++ y ∷ ys) _ h)
 
   -- and nothing more than what follows from it
-  reached_has : (P : A → Type 0) → ((x y : A) → P x → In y (follow x) → P y) → (steps : ℕ) (known new : List A) →
+  pub reached_has : (P : A → Type 0) → ((x y : A) → P x → In y (follow x) → P y) → (steps : ℕ) (known new : List A) →
       ((x : A) → In x known → P x) → ((x : A) → In x new → P x) → (x : A) → In x (reached_by same follow steps known new) → P x
   reached_has P along steps known [] old fresh x h = old x h
   reached_has P along zero known (y ∷ ys) old fresh x h = ⊎_elim (old x) (fresh x) (in_either x known (y ∷ ys) h)

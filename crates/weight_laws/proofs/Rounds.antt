@@ -26,7 +26,7 @@ same_costs : (costs : List ℕ) (f : Node → ℕ) (ts : List Node) →
 same_costs costs f [] h = refl
 same_costs costs f (t ∷ ts) h = λ i. h t (inl refl) i ∷ same_costs costs f ts (λ x m. h x (inr m)) i
 
-edges_cost : (costs : List ℕ) (f : Node → ℕ) (x : ℕ) (arrs : List Arrow) →
+pub edges_cost : (costs : List ℕ) (f : Node → ℕ) (x : ℕ) (arrs : List Arrow) →
     ((t : Node) → In t (flat_map (λ arrow. arrow.targets) arrs) → slice_index costs (node_number t) ≡ held_at_most (f t)) →
     fold (with_edge costs) (held_at_most x) (map edge_of arrs) ≡ held_at_most (x + behind_arrows f arrs)
 edges_cost costs f x [] h = ap held_at_most (omega arith)
@@ -81,7 +81,7 @@ entry_is_node stack n m =
       high : length stack ≤ length stack + 1
       high = omega arith
 
-same_entries : (costs : List ℕ) (f : Node → ℕ) (ns : List Node) →
+pub same_entries : (costs : List ℕ) (f : Node → ℕ) (ns : List Node) →
     ((n : Node) → In n ns → slice_index costs (node_number n) ≡ held_at_most (f n)) →
     map (λ n. slice_index costs (node_number n)) ns ≡ map (λ n. held_at_most (f n)) ns
 same_entries costs f [] h = refl

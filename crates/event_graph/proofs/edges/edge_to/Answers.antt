@@ -1,0 +1,9 @@
+use Rattle.std.proofs.Common.{arith}
+use Rattle.event_graph.specs.Edges.{node_tree}
+use Rattle.event_graph.proofs.Numbered.{edge_is}
+use Rattle.event_graph.proofs.edges.edge_to.Goals as goal
+
+pub returns : goal.returns
+returns c =
+    edge_is c.args.times c.number_at.result c.args.tags.count (node_tree c.args.node) c.args.dir c.args.kind c.args.tags.first
+    (omega (arith, c.ranges.times.fits)) (rw (← c.neighbour.ensures) c.number_at.ensures)

@@ -1,0 +1,18 @@
+use Rattle.std.proofs.Common.{◌≡◌, ◌∙◌, ap, sym, subst, IfOk, Option, option_map, length}
+use Rattle.std.specs.List.{find}
+use Rattle.std.proofs.lemmas.List.{length-map}
+use Rattle.stack_mean.specs.Graph as graph
+use Rattle.event_graph.specs.Edges.{node_tree}
+use Rattle.event_graph.specs.View.{typed_tree}
+use Rattle.event_graph.specs.Searches.{meets_itself}
+use Rattle.event_graph.proofs.Judged.{cycles_tell, few_headers}
+use Rattle.event_graph.proofs.judge.first_on_cycle.Goals as goal
+
+pub returns : goal.returns
+returns c =
+    let stack = typed_tree c.args.stack.now in
+    let count = sym (length-map c.args.nodes.now node_tree) ∙ ap length c.requires.nodes in
+    let few = few_headers c.args.stack.now.layers.items c.args.stack.now.few_headers in
+    subst (λ (o : Option graph.Node). IfOk c.first_met.result (λ found. option_map node_tree found ≡ o))
+    ((λ i. find (meets_itself (c.requires.table i) (count i)) (c.requires.nodes i)) ∙ cycles_tell stack c.requires.orderly few)
+    c.first_met.ensures

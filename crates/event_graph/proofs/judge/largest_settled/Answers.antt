@@ -1,0 +1,15 @@
+use Rattle.std.proofs.Common.{◌∙◌, sym}
+use Rattle.std.specs.List.{list_all}
+use Rattle.event_graph.specs.Measures.{own_of}
+use Rattle.event_graph.specs.Steady.{is_steady_at}
+use Rattle.event_graph.specs.View.{typed_tree}
+use Rattle.event_graph.proofs.Judged.{few_headers}
+use Rattle.event_graph.proofs.Settled.{settled_told}
+use Rattle.event_graph.proofs.judge.largest_settled.Goals as goal
+
+pub returns : goal.returns
+returns c =
+    let few = few_headers c.args.stack.now.layers.items c.args.stack.now.few_headers in
+    c.largest_of_entries.ensures
+    ∙ settled_told (typed_tree c.args.stack.now) c.requires.orderly few c.args.costs.now c.args._measure (sym c.requires.free)
+    ((λ i. list_all (is_steady_at (own_of c.args._measure) (sym c.requires.table i) c.args.costs.now) (sym c.requires.nodes i)) ∙ c.requires.steady)

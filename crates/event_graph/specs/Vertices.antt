@@ -1,0 +1,27 @@
+-- Vertices as the code keeps them, and the nodes of a place.
+use Rattle.std.specs.Prelude.{ℕ, List, ◌++◌, map}
+use Rattle.std.specs.List.{flat_map}
+use Rattle.layer_ast.specs.declared.tokens.Dir.{Dir}
+use Rattle.layer_ast.specs.declared.tokens.Kind.{Kind}
+use Rattle.layer_ast.specs.declared.tokens.Dir.TheVariants.{Up, Down}
+use Rattle.layer_ast.specs.Spelling.{kinds}
+use Rattle.layer_mean.specs.Tree.{LayerTree}
+use Rattle.stack_mean.specs.Graph as graph
+use Rattle.stack_mean.specs.Graph.{nodes_of}
+use Rattle.weight_laws.specs.Tables as table
+use Rattle.event_graph.specs.declared.table.Vertex.{Vertex}
+use Rattle.event_graph.specs.Edges.{edge_tree}
+
+abbrev pub vertex_tree : Vertex → table.Vertex
+vertex_tree v = record { joins = v.joins; edges = map edge_tree v.edges.items }
+
+-- The node of an event of a direction and a kind at a place, by its tag.
+abbrev pub node_at : ℕ → Dir → Kind → ℕ → graph.Node
+node_at at dir kind tag = record { at = at; dir = dir; kind = kind; tag = tag }
+
+-- The nodes of a place and a kind, and of a place.
+abbrev pub nodes_of_kind : List LayerTree → ℕ → Kind → List graph.Node
+nodes_of_kind stack at kind = nodes_of stack at Up kind ++ nodes_of stack at Down kind
+
+abbrev pub nodes_at : List LayerTree → ℕ → List graph.Node
+nodes_at stack at = flat_map (λ kind. nodes_of stack at Up kind.1 ++ nodes_of stack at Down kind.1) kinds

@@ -1,0 +1,22 @@
+//! Which stacks are accepted: those of which it is known beforehand that each run ends, and how much it may take.
+#![tactic(auto)]
+
+mod acceptance;
+mod edges;
+mod error;
+mod joins;
+mod judge;
+mod rounds;
+mod rows;
+mod search;
+mod stack;
+mod steady;
+mod table;
+#[cfg(test)]
+mod tests;
+mod typed;
+
+pub use acceptance::accept;
+pub use error::StackError;
+pub use stack::Stack;
+pub use typed::{MOST_PLACES, Typed};

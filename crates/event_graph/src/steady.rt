@@ -1,0 +1,114 @@
+//! Costs that a further round doesn't change, found in sweeps over the nodes.
+
+ghost use Rattle.std.specs.Prelude.{◌≡◌, true, IfOk, IfSome, map, vec_len};
+ghost use Rattle.std.specs.List.{list_all};
+ghost use Rattle.event_graph.specs.Edges.{edge_tree, node_tree};
+ghost use Rattle.event_graph.specs.Vertices.{vertex_tree};
+ghost use Rattle.event_graph.specs.Measures.{own_of};
+ghost use Rattle.event_graph.specs.Steady.{is_steady_at, falls_at, is_often};
+
+use crate::edges::{Edge, Node, number_at};
+use crate::rounds::{Measure, cost_at, own_costs, vertex_cost};
+use crate::table::Vertex;
+use std::alloc::{AllocError, Global};
+
+/// How many sweeps there and back are made at most; more are of no use for most stacks.
+const MOST_SWEEPS: u8 = 32;
+
+/// Sets the cost of a node to that of one more round. (Whatever is set, only costs that are steady are used.)
+fn improve(measure: Measure, vertices: &[Vertex], node: Node, costs: &mut Vec<u32>) {
+    let number = number_at(u16::from(node.at), node.dir, node.kind, node.tag) as usize;
+    if number < vertices.len() && number < costs.len() {
+        let cost = vertex_cost(measure, costs.as_slice(), &vertices[number]);
+        costs[number] = cost;
+    }
+}
+
+/// Improves the costs of all nodes, from the lowest place to the highest and back.
+fn sweep(measure: Measure, nodes: &[Node], vertices: &[Vertex], costs: &mut Vec<u32>) {
+    for node in nodes {
+        improve(measure, vertices, *node, costs);
+    }
+    for node in nodes.iter().rev() {
+        improve(measure, vertices, *node, costs);
+    }
+}
+
+/// Whether a round wouldn't change the cost of a node.
+fn keeps(measure: Measure, vertices: &[Vertex], costs: &[u32], node: Node) -> bool
+    ensures { result ≡ true → is_steady_at (own_of measure) (map vertex_tree vertices.now) costs.now (node_tree node) ≡ true }
+{
+    let number = number_at(u16::from(node.at), node.dir, node.kind, node.tag) as usize;
+    if number < vertices.len() {
+        cost_at(costs, number) == vertex_cost(measure, costs, &vertices[number])
+    } else {
+        false
+    }
+}
+
+/// Whether a round wouldn't change the cost of any node.
+fn are_steady(measure: Measure, nodes: &[Node], vertices: &[Vertex], costs: &[u32]) -> bool
+    ensures { result ≡ true → list_all (is_steady_at (own_of measure) (map vertex_tree vertices.now) costs.now) (map node_tree nodes.now) ≡ true }
+{
+    for node in nodes {
+        if !keeps(measure, vertices, costs, *node) {
+            return false;
+        }
+    }
+    true
+}
+
+/// Costs that a round wouldn't change, if some are found soon.
+pub fn steady_costs(
+    alloc: Global,
+    measure: Measure,
+    nodes: &[Node],
+    vertices: &[Vertex],
+) -> Result<Option<Vec<u32>>, AllocError>
+    ensures { IfOk result (λ found. IfSome found (λ costs. list_all (is_steady_at (own_of measure) (map vertex_tree vertices.now) costs.items) (map node_tree nodes.now) ≡ true)) }
+{
+    let mut costs = own_costs(alloc, measure, vertices)?;
+    for _sweep in 0..MOST_SWEEPS {
+        sweep(measure, nodes, vertices, &mut costs);
+        if are_steady(measure, nodes, vertices, costs.as_slice()) {
+            return Ok(Some(costs));
+        }
+    }
+    Ok(None)
+}
+
+/// Whether each edge stands for one time at least.
+fn are_often(edges: &[Edge]) -> bool
+    ensures { result ≡ true → list_all is_often (map edge_tree edges.now) ≡ true }
+{
+    for edge in edges {
+        if edge.times == 0 {
+            return false;
+        }
+    }
+    true
+}
+
+/// Whether the cost of a node is below what is held, and each of its edges stands for one time at least.
+fn falls(vertices: &[Vertex], costs: &[u32], node: Node) -> bool
+    ensures { result ≡ true → falls_at (map vertex_tree vertices.now) costs.now (node_tree node) ≡ true }
+{
+    let number = number_at(u16::from(node.at), node.dir, node.kind, node.tag) as usize;
+    if number < vertices.len() && cost_at(costs, number) < u32::MAX {
+        are_often(vertices[number].edges.as_slice())
+    } else {
+        false
+    }
+}
+
+/// Whether it is so for all nodes.
+pub fn all_fall(nodes: &[Node], vertices: &[Vertex], costs: &[u32]) -> bool
+    ensures { result ≡ true → list_all (falls_at (map vertex_tree vertices.now) costs.now) (map node_tree nodes.now) ≡ true }
+{
+    for node in nodes {
+        if !falls(vertices, costs, *node) {
+            return false;
+        }
+    }
+    true
+}
