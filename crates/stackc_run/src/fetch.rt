@@ -53,7 +53,8 @@ fn judge_stack(alloc: Global, text: &[u8]) -> Result<Layer, Fault>
             Err(ResolveError::Memory) => Err(Fault::Memory),
         },
         Err(ParseError::TooLarge) => Err(Fault::FileTooLarge),
-        Err(ParseError::BadToken(_)) | Err(ParseError::Unexpected(_)) => Err(Fault::FileLater),
+        Err(ParseError::BadToken(_)) => Err(Fault::FileLater),
+        Err(ParseError::Unexpected(_)) => Err(Fault::FileLater),
         Err(ParseError::Memory) => Err(Fault::Memory),
     }
 }
