@@ -10,7 +10,7 @@ ghost use Rattle.stackc_run.specs.File.{ReadsStack, JudgesStack, shown_layer, mo
 
 use crate::fault::Fault;
 use first_mean::Layer;
-use first_parse::{ParseError, parse};
+use layer_parse::{ParseError, parse};
 use layer_resolve::{ResolveError, resolve};
 use outside::{Got, Shelf, ShelfError};
 use script_mean::{Script, ScriptEvent};
@@ -53,7 +53,8 @@ fn judge_stack(alloc: Global, text: &[u8]) -> Result<Layer, Fault>
             Err(ResolveError::Memory) => Err(Fault::Memory),
         },
         Err(ParseError::TooLarge) => Err(Fault::FileTooLarge),
-        Err(ParseError::Later) => Err(Fault::FileLater),
+        Err(ParseError::BadToken(_)) => Err(Fault::FileLater),
+        Err(ParseError::Unexpected(_)) => Err(Fault::FileLater),
         Err(ParseError::Memory) => Err(Fault::Memory),
     }
 }

@@ -11,6 +11,8 @@ mod job;
 mod over_sinks;
 mod over_streams;
 mod over_system;
+#[cfg(test)]
+mod parse_tests;
 mod play;
 mod replay;
 mod sample;

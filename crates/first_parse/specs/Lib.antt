@@ -1,4 +1,0 @@
-pub mod Answers
-pub mod FirstForm
-pub mod Machine
-pub mod Reading
