@@ -14,7 +14,8 @@ use Rattle.layer_machine.specs.Verdict.{Verdict, a_file, bad, inside, at_end, Ho
 use Rattle.layer_machine.proofs.Texts.{each_decided}
 use Rattle.file_mean.specs.Library.{SpellsLayer, called_for, IsFile}
 use Rattle.job_mean.specs.Status.{FileFault, too_large, bad_token, unexpected, unknown, twice, over_limit, wrong_kind, arity, direction, header, initial, cycle, too_many, too_many_joins}
-use Rattle.program_mean.specs.Judged.{longest_file, judged, Means, Condemns, Refuses}
+use Rattle.layer_ast.specs.Spells.{longest_file}
+use Rattle.program_mean.specs.Judged.{judged, Means, Condemns, Refuses}
 use Rattle.program_laws.specs.OneEnd.{OneFile, OneMeaning, OneRefusal, GoodOrRefused}
 
 layers_are_one : (text : List ℕ) (a b : LayerTree) → SpellsLayer text a → SpellsLayer text b → a ≡ b
