@@ -5,5 +5,4 @@ mod Rows
 mod Scopes
 mod Sorted
 mod Tables
-mod Trees
 mod Twice

@@ -6,5 +6,4 @@ pub mod Gathered
 pub mod LibraryTexts
 pub mod Signs
 pub mod Under
-pub mod Views
 pub mod Whole

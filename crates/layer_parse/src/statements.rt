@@ -82,7 +82,7 @@ fn statement(alloc: Global, room: u32, tokens: &[Lexed]) -> Result<(Statement, &
 }
 
 /// Reads a name for a number, from behind its first word.
-#[tactic(auto, using(crate::proofs::Fit::fits_first, crate::proofs::Views::bind_tree))]
+#[tactic(auto, using(crate::proofs::Fit::fits_first, layer_ast::proofs::StatementViews::bind_tree))]
 fn bind(
     alloc: Global,
     room: u32,
@@ -122,7 +122,7 @@ fn set(
 }
 
 /// The assignment of a value to a cell, or to the element of an array that has these indices.
-#[tactic(auto, using(crate::proofs::Views::set_tree, crate::proofs::Views::set_square_tree))]
+#[tactic(auto, using(layer_ast::proofs::StatementViews::set_tree, layer_ast::proofs::StatementViews::set_square_tree))]
 fn assignment(at: At, name: Name, indices: Option<Element>, value: Expression) -> Statement
     ensures { AssignmentPrints at name indices value result }
 {
@@ -152,7 +152,7 @@ fn assignment(at: At, name: Name, indices: Option<Element>, value: Expression) -
 }
 
 /// Reads a push of a row, from behind its first word.
-#[tactic(auto, using(crate::proofs::Fit::fits_first, crate::proofs::Views::push_tree))]
+#[tactic(auto, using(crate::proofs::Fit::fits_first, layer_ast::proofs::StatementViews::push_tree))]
 #[cycle(statement)]
 fn push(
     alloc: Global,
@@ -180,7 +180,7 @@ fn push(
 }
 
 /// Reads a take of a row, from behind its first word.
-#[tactic(auto, using(crate::proofs::Fit::fits_first, crate::proofs::Views::take_tree))]
+#[tactic(auto, using(crate::proofs::Fit::fits_first, layer_ast::proofs::StatementViews::take_tree))]
 #[cycle(statement)]
 fn take(
     alloc: Global,
@@ -269,7 +269,7 @@ fn otherwise(alloc: Global, room: u32, tokens: &[Lexed]) -> Result<(Option<Block
 }
 
 /// A condition without or with another way.
-#[tactic(auto, using(crate::proofs::Views::when_tree, crate::proofs::Views::choose_tree))]
+#[tactic(auto, using(layer_ast::proofs::StatementViews::when_tree, layer_ast::proofs::StatementViews::choose_tree))]
 fn decision(
     at: At,
     likely: Likely,
@@ -297,7 +297,7 @@ fn decision(
 }
 
 /// Reads a loop from behind its first word.
-#[tactic(auto, using(crate::proofs::Fit::fits_first, crate::proofs::Views::each_tree))]
+#[tactic(auto, using(crate::proofs::Fit::fits_first, layer_ast::proofs::StatementViews::each_tree))]
 #[cycle(statement)]
 fn each(
     alloc: Global,
@@ -329,7 +329,7 @@ fn each(
 }
 
 /// Reads an emission from behind its first word.
-#[tactic(auto, using(crate::proofs::Fit::fits_first, crate::proofs::Views::emit_tree))]
+#[tactic(auto, using(crate::proofs::Fit::fits_first, layer_ast::proofs::StatementViews::emit_tree))]
 fn emission(
     alloc: Global,
     room: u32,

@@ -9,7 +9,7 @@ use Rattle.layer_names.specs.Scope.{Declares, locals_of, scope_of}
 use Rattle.layer_names.specs.declared.scope.Local.{Local}
 use Rattle.layer_names.proofs.Blocks.{block_left, block_more, choose_inner, each_inner, statement_parts, take_inner, with_inner}
 use Rattle.layer_names.proofs.Finds.{finds_none}
-use Rattle.layer_names.proofs.Trees.{choose_tree, each_tree, emit_tree, set_square_tree, set_tree, take_tree}
+use Rattle.layer_ast.proofs.StatementViews.{choose_tree, each_tree, emit_tree, set_square_tree, set_tree, take_tree}
 use Rattle.layer_names.proofs.block.+blocks.Goals as goal
 
 pub block-returns : goal.block-returns

@@ -7,7 +7,7 @@ use Rattle.file_faults.specs.Uses.{arguments_uses, of_name, pushed_uses, queue_u
 use Rattle.layer_names.specs.Found.{Finds}
 use Rattle.layer_names.specs.Scope.{scope_of}
 use Rattle.layer_names.proofs.Finds.{finds_both, finds_row, finds_three}
-use Rattle.layer_names.proofs.Trees.{each_tree, emit_tree, push_tree, set_square_tree, set_tree}
+use Rattle.layer_ast.proofs.StatementViews.{each_tree, emit_tree, push_tree, set_square_tree, set_tree}
 use Rattle.layer_names.proofs.uses.statement.Goals as goal
 
 pub returns-in-Set : goal.returns-in-Set

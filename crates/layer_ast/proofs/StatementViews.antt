@@ -1,4 +1,4 @@
--- The trees of statements.
+-- The trees that the statements of a program are, form by form.
 use Rattle.std.proofs.Common.{◌≡◌, Option, option_map, sym, ap, ap₂, ◌∙◌}
 use Rattle.layer_ast.specs.declared.names.At.{At}
 use Rattle.layer_ast.specs.declared.names.Name.{Name}
