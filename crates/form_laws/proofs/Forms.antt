@@ -3,7 +3,7 @@ use Rattle.std.proofs.Common.{ℕ, List, [], refl, ap}
 use Rattle.layer_ast.specs.Spells.{Spells}
 use Rattle.layer_ast.specs.Tree.{FileTree}
 use Rattle.layer_laws.proofs.Once.{spelled_once}
-use Rattle.layer_resolve.specs.Stack.{stack_of}
+use Rattle.first_resolve.specs.Stack.{stack_of}
 use Rattle.form_laws.specs.Forms.{SpelledMeansOne}
 
 -- a file as it is spelled, to which the library brings no layer

@@ -2,7 +2,7 @@
 use Rattle.std.specs.Prelude.{◌≡◌, ℕ, List}
 use Rattle.layer_ast.specs.Spells.{Spells}
 use Rattle.layer_ast.specs.Tree.{FileTree}
-use Rattle.layer_resolve.specs.Stack.{stack_of}
+use Rattle.first_resolve.specs.Stack.{stack_of}
 
 -- files that one text spells mean the same stack, or none of them means one
 abbrev pub SpelledMeansOne : Type 0

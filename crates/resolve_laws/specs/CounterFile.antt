@@ -9,7 +9,7 @@ use Rattle.layer_ast.specs.declared.tokens.Kind.TheVariants.{Cast}
 use Rattle.layer_ast.specs.declared.syntax.Ending.TheVariants.{Passes}
 use Rattle.layer_ast.specs.declared.syntax.Operator.TheVariants.{Add, Equal}
 use Rattle.layer_ast.specs.declared.syntax.Shape.TheVariants.{One, Array}
-use Rattle.layer_resolve.specs.Stack.{stack_of}
+use Rattle.first_resolve.specs.Stack.{stack_of}
 use Rattle.first_laws.specs.Counter.{counter}
 
 -- A place in the text; where things stand changes no meaning.

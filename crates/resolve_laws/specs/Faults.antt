@@ -2,7 +2,7 @@
 use Rattle.std.specs.Prelude.{◌≡◌, [], ◌∷◌, codes, Some, None}
 use Rattle.layer_ast.specs.Tree.{number, FileTree, StatementTree, set, none, more}
 use Rattle.layer_ast.specs.declared.tokens.Dir.TheVariants.{Up, Down}
-use Rattle.layer_resolve.specs.Stack.{stack_of}
+use Rattle.first_resolve.specs.Stack.{stack_of}
 use Rattle.resolve_laws.specs.CounterFile.{here, name, one, sum, at_name, cast, with_num, state_k, down_cast, up_cast, file_with, declarations, casting, receiving}
 
 -- A file that means no stack.

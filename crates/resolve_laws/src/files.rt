@@ -1,5 +1,5 @@
 //! Files, worked out.
-#![tactic(auto, unfolding(layer_resolve::specs::Stack::stack_of, layer_resolve::specs::Stack::layer_of, layer_resolve::specs::Stack::handler_of, layer_resolve::specs::Stack::scope_of, layer_resolve::specs::Names::declared))]
+#![tactic(auto, unfolding(first_resolve::specs::Stack::stack_of, first_resolve::specs::Stack::layer_of, first_resolve::specs::Stack::handler_of, first_resolve::specs::Stack::scope_of, first_resolve::specs::Names::declared))]
 
 ghost use Rattle.resolve_laws.specs.CounterFile.{IsCounter};
 ghost use Rattle.resolve_laws.specs.Faults.{UnknownName, NameTwice, TooFewFields, MessageAsNumber, HeaderGoingUp, ArrayAsNumber, NumberAsArray, HandlersAlike, UnknownLayer};

@@ -1,0 +1,3 @@
+pub mod LayerAt
+pub mod Codes
+pub mod Did
