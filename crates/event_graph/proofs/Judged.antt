@@ -25,7 +25,7 @@ use Rattle.std.specs.Rc.{rc_value}
 use Rattle.weight_laws.proofs.Held.{largest_cons}
 use Rattle.typed_layer.specs.declared.tree.TypedLayer.{TypedLayer}
 use Rattle.typed_layer.specs.View.{layer_tree, header_tree}
-use Rattle.event_graph.specs.Headers.{HasFewHeaders as HasFew}
+use Rattle.typed_layer.specs.Headers.{HasFewHeaders as HasFew}
 use Rattle.event_graph.specs.Vertices.{node_at}
 use Rattle.event_graph.proofs.Numbered.{numbered}
 use Rattle.event_graph.specs.Measures.{own_of}

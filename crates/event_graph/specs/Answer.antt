@@ -2,7 +2,7 @@
 use Rattle.std.specs.Prelude.{◌≡◌, List, Result, Ok, Err}
 use Rattle.layer_mean.specs.Tree.{LayerTree}
 use Rattle.stack_mean.specs.Acceptance.{accepted, cycle, too_many, too_many_joins}
-use Rattle.event_graph.specs.View.{typed_tree}
+use Rattle.typed_layer.specs.Places.{typed_tree}
 use Rattle.event_graph.specs.declared.error.StackError.{StackError}
 use Rattle.event_graph.specs.declared.error.StackError.TheVariants.{Cycle, TooMany, TooManyJoins, Memory}
 use Rattle.event_graph.specs.declared.stack.Stack.{Stack}

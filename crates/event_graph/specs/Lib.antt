@@ -1,5 +1,3 @@
-pub mod Headers
-pub mod View
 pub mod Edges
 pub mod Vertices
 pub mod Measures

@@ -2,13 +2,13 @@
 
 ghost use Rattle.weight_laws.specs.Orderly.{IsOrderly};
 ghost use Rattle.event_graph.specs.Answer.{IsAnswer};
-ghost use Rattle.event_graph.specs.View.{typed_tree};
+ghost use Rattle.typed_layer.specs.Places.{typed_tree};
 
 use crate::error::StackError;
 use crate::judge::judge;
 use crate::stack::Stack;
-use crate::typed::Typed;
 use std::alloc::Global;
+use typed_layer::Typed;
 
 /// The stack of these layers, if no event can follow from itself, and the tasks and the joins that can follow from an entry are within
 /// their limits; else the first reason for which it isn't accepted.

@@ -9,12 +9,11 @@ ghost use Rattle.stack_mean.specs.Graph as graph;
 ghost use Rattle.weight_laws.specs.Tables.{node_number, edge_of};
 ghost use Rattle.typed_layer.specs.View.{message_tree, emission_tree, content_tree, statement_tree, block_tree};
 ghost use Rattle.event_graph.specs.Edges.{node_tree, edge_tree, emission_edge};
-ghost use Rattle.event_graph.specs.View.{typed_tree};
+ghost use Rattle.typed_layer.specs.Places.{typed_tree};
 
-use crate::typed::Typed;
 use layer_ast::{Dir, Kind};
 use std::alloc::AllocError;
-use typed_layer::{Block, Content, Emission, MessageExpression, Statement};
+use typed_layer::{Block, Content, Emission, MessageExpression, Statement, Typed};
 
 /// How many kinds of events there are.
 const KINDS: u32 = 12;

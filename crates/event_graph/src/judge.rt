@@ -13,7 +13,7 @@ ghost use Rattle.std.specs.List.{list_all};
 ghost use Rattle.weight_laws.specs.Rounds.{one_task};
 ghost use Rattle.event_graph.specs.Measures.{own_of};
 ghost use Rattle.event_graph.specs.Steady.{is_steady_at, falls_at};
-ghost use Rattle.event_graph.specs.View.{typed_tree};
+ghost use Rattle.typed_layer.specs.Places.{typed_tree};
 
 use crate::edges::{Node, number_at};
 use crate::error::StackError;
@@ -21,9 +21,9 @@ use crate::rounds::{Measure, costs_in, largest_cost};
 use crate::search::first_met;
 use crate::steady::{all_fall, steady_costs};
 use crate::table::{Vertex, nodes, table, tags_to};
-use crate::typed::Typed;
 use layer_ast::{Dir, Kind};
 use std::alloc::{AllocError, Global};
+use typed_layer::Typed;
 
 /// The largest weight that an entry may have.
 pub const WEIGHT_LIMIT: u32 = 65_536;

@@ -14,9 +14,7 @@ mod steady;
 mod table;
 #[cfg(test)]
 mod tests;
-mod typed;
 
 pub use acceptance::accept;
 pub use error::StackError;
 pub use stack::Stack;
-pub use typed::{MOST_PLACES, Typed};

@@ -5,11 +5,10 @@ ghost use Rattle.std.specs.List.{sum_by};
 ghost use Rattle.stack_mean.specs.Acceptance as limits;
 ghost use Rattle.stack_mean.specs.Acceptance.{held_at_most};
 ghost use Rattle.typed_layer.specs.View.{layer_tree, cell_tree, form_tree, items_tree};
-ghost use Rattle.event_graph.specs.View.{typed_tree};
+ghost use Rattle.typed_layer.specs.Places.{typed_tree};
 ghost use Rattle.event_graph.specs.Rows.{rows_of_cell, rows_of_layer};
 
-use crate::typed::Typed;
-use typed_layer::{Cell, Form, Items, TypedLayer};
+use typed_layer::{Cell, Form, Items, Typed, TypedLayer};
 
 /// How many rows with messages a queue of a capacity keeps at most.
 fn rows_for(items: &Items, capacity: u8) -> u32

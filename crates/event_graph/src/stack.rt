@@ -2,12 +2,11 @@
 
 ghost use Rattle.std.specs.Prelude.{◌≡◌, true, is_ok};
 ghost use Rattle.stack_mean.specs.Acceptance.{accepted, largest_weight};
-ghost use Rattle.event_graph.specs.View.{typed_tree};
+ghost use Rattle.typed_layer.specs.Places.{typed_tree};
 
 use crate::rows::rows_of;
-use crate::typed::Typed;
 use std::rc::Rc;
-use typed_layer::TypedLayer;
+use typed_layer::{Typed, TypedLayer};
 
 /// A stack that is accepted, and its weight: how many tasks can follow from one of its entries.
 #[derive(Drop)]

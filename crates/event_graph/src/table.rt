@@ -9,13 +9,13 @@ ghost use Rattle.stack_mean.specs.Graph as graph;
 ghost use Rattle.weight_laws.specs.Tables.{edge_of, no_vertex, table_of, vertex_of, with_node, empty_table};
 ghost use Rattle.event_graph.specs.Edges.{node_tree, edge_tree};
 ghost use Rattle.event_graph.specs.Vertices.{vertex_tree, nodes_at, nodes_of_kind};
-ghost use Rattle.event_graph.specs.View.{typed_tree};
+ghost use Rattle.typed_layer.specs.Places.{typed_tree};
 
 use crate::edges::{Edge, Node, Tags, add_block, carries, edge_to, number_at};
 use crate::joins::of_handler;
-use crate::typed::Typed;
 use layer_ast::{Dir, Kind};
 use std::alloc::{AllocError, Global};
+use typed_layer::Typed;
 
 /// The kinds of events, in the order in which nodes are listed.
 const KINDS: [Kind; 12] = [

@@ -3,12 +3,12 @@
 ghost use Rattle.std.specs.Prelude.{◌≡◌, [], IfOk, length};
 ghost use Rattle.typed_layer.specs.View.{layer_tree};
 
-use crate::{Typed, accept};
+use crate::accept;
 use layer_ast::Word;
 use std::alloc::{AllocError, Global};
 use std::rc::Rc;
 use std::test::Fail;
-use typed_layer::{Handlers, TypedLayer};
+use typed_layer::{Handlers, Typed, TypedLayer};
 
 /// A layer without handlers.
 fn silent(alloc: Global) -> Result<TypedLayer, AllocError>

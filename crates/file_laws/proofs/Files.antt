@@ -19,7 +19,7 @@ use Rattle.file_mean.specs.Names.{Placed}
 use Rattle.file_mean.specs.Stack.{blank_above, placed_layer, stack_of}
 use Rattle.chain_laws.specs.Typed.{TypedLayer}
 use Rattle.chain_laws.specs.Runs.{blanks, TypedLayers}
-use Rattle.chain_laws.proofs.Lists.{Where, each_so}
+use Rattle.chain_laws.proofs.Lists.{Where, each_so, where_is}
 use Rattle.file_laws.specs.Literals.{LiteralLayer, LiteralPlace, LiteralFile}
 use Rattle.file_laws.specs.Files.{FilesAreTyped}
 use Rattle.file_laws.proofs.Lists.{nils, each_nil, map_nil, each_parts, find_where, unless_nil}
@@ -76,14 +76,12 @@ pub record NamesLayer (file : ast.FileTree) (place : ast.PlaceTree) : Type 0 whe
   pub types : layer_type_faults layer ≡ []
   pub named : layer_name_faults layer ≡ []
   pub faultless : place_faults file place ≡ []
-  pub literal : LiteralLayer layer
 
 -- what is known of a place
 record Known (file : ast.FileTree) (place : ast.PlaceTree) : Type 0 where
   names_one : place_faults file place ≡ []
   types : Where (λ j. faults_of_judged type_fault_at layer_type_faults j ≡ []) (called_at file place)
   named : Where (λ j. faults_of_judged name_fault_at layer_name_faults j ≡ []) (called_at file place)
-  given : LiteralPlace place
 
 called_is : {F : Type 0} (moved : At → F → F) (faults : ast.LayerTree → List F) (at : At) (own library : Option ast.LayerTree) (layer : ast.LayerTree) →
     own ≡ None → library ≡ Some layer →
@@ -99,28 +97,23 @@ nothing : (file : ast.FileTree) (place : ast.PlaceTree) → layer_among file.lay
     layer_among file.library place.name.word ≡ None → place_faults file place ≡ unknown place.name.at ∷ []
 nothing file place own_is library_is = rw (own_is, library_is) refl
 
-names_layer : (file : ast.FileTree) (place : ast.PlaceTree) → LiteralFile file → Judges type_fault_at layer_type_faults file →
+names_layer : (file : ast.FileTree) (place : ast.PlaceTree) → Judges type_fault_at layer_type_faults file →
     Judges name_fault_at layer_name_faults file → Known file place → NamesLayer file place
-names_layer file place literal types named known =
+names_layer file place types named known =
     go (layer_among file.layers place.name.word) (layer_among file.library place.name.word) refl refl
     (find_where (λ layer. layer_type_faults layer ≡ []) (λ layer. bytes_eq layer.name.word place.name.word) file.layers types.layers_are)
-    (find_where (λ layer. layer_name_faults layer ≡ []) (λ layer. bytes_eq layer.name.word place.name.word) file.layers named.layers_are)
-    (find_where LiteralLayer (λ layer. bytes_eq layer.name.word place.name.word) file.layers literal.layers_are)
-    (find_where LiteralLayer (λ layer. bytes_eq layer.name.word place.name.word) file.library literal.library_is) where
+    (find_where (λ layer. layer_name_faults layer ≡ []) (λ layer. bytes_eq layer.name.word place.name.word) file.layers named.layers_are) where
       go : (own library : Option ast.LayerTree) → layer_among file.layers place.name.word ≡ own → layer_among file.library place.name.word ≡ library →
           Where (λ layer. layer_type_faults layer ≡ []) (layer_among file.layers place.name.word) →
-          Where (λ layer. layer_name_faults layer ≡ []) (layer_among file.layers place.name.word) →
-          Where LiteralLayer (layer_among file.layers place.name.word) → Where LiteralLayer (layer_among file.library place.name.word) →
-          NamesLayer file place
-      go (Some layer) library own_is library_is a b c d = record {
+          Where (λ layer. layer_name_faults layer ≡ []) (layer_among file.layers place.name.word) → NamesLayer file place
+      go (Some layer) library own_is library_is a b = record {
         layer = layer;
         listed = rw own_is refl;
         faultless = known.names_one;
         types = subst (Where (λ layer. layer_type_faults layer ≡ [])) own_is a;
         named = subst (Where (λ layer. layer_name_faults layer ≡ [])) own_is b;
-        literal = subst (Where LiteralLayer) own_is c;
       }
-      go None (Some layer) own_is library_is a b c d = record {
+      go None (Some layer) own_is library_is a b = record {
         layer = layer;
         listed = rw (own_is, library_is) refl;
         faultless = known.names_one;
@@ -128,9 +121,21 @@ names_layer file place literal types named known =
             (layer_among file.library place.name.word) layer own_is library_is known.types;
         named = called_is name_fault_at layer_name_faults place.name.at (layer_among file.layers place.name.word)
             (layer_among file.library place.name.word) layer own_is library_is known.named;
-        literal = subst (Where LiteralLayer) library_is d;
       }
-      go None None own_is library_is a b c d = absurd (cc (nothing file place own_is library_is, known.names_one))
+      go None None own_is library_is a b = absurd (cc (nothing file place own_is library_is, known.names_one))
+
+-- the numbers of the layer that a place names are below 2^32
+
+or_where : {A : Type 0} (P : A → Type 0) (o p : Option A) → Where P o → Where P p → Where P (option_or o p)
+or_where P None p h i = i
+or_where P (Some x) p h i = h
+
+literal_at : (file : ast.FileTree) (place : ast.PlaceTree) (layer : ast.LayerTree) → LiteralFile file → layer_at file place ≡ Some layer → LiteralLayer layer
+literal_at file place layer literal is =
+    let named = λ (l : ast.LayerTree). bytes_eq l.name.word place.name.word in
+    where_is (layer_at file place) LiteralLayer layer is
+    (or_where LiteralLayer (layer_among file.layers place.name.word) (layer_among file.library place.name.word)
+    (find_where LiteralLayer named file.layers literal.layers_are) (find_where LiteralLayer named file.library literal.library_is))
 
 -- blank headers
 
@@ -141,20 +146,21 @@ blanks_range (layer ∷ above) place =
     ap (λ hs. none_header place ∷ hs)
     (blanks_range above (suc place) ∙ ap (λ k. map none_header (range_with_len k (length above))) e)
 
-placed_typed : (file : ast.FileTree) (n : ℕ) (place : ast.PlaceTree) (above : List LayerTree) → NamesLayer file place → LiteralPlace place →
+placed_typed : (file : ast.FileTree) (n : ℕ) (place : ast.PlaceTree) (above : List LayerTree) → LiteralFile file → NamesLayer file place → LiteralPlace place →
     blanks (suc n) above ≡ blank_above n (length file.places) → TypedLayer (blanks (suc n) above) (placed_layer file n place)
-placed_typed file n place above h given same =
+placed_typed file n place above literal h given same =
+    let own = literal_at file place h.layer literal h.listed in
     let p : Placed = record { layer = h.layer; given = place.given; blank = blank_above n (length file.places) } in
-    rw (h.listed, same) (layer_typed p (record { declarations_are = h.literal.declarations_are; given_are = given }) h.literal h.types h.named)
+    rw (h.listed, same) (layer_typed p (record { declarations_are = own.declarations_are; given_are = given }) own h.types h.named)
 
 range_same : {a b m n : ℕ} → a ≡ b → m ≡ n → map none_header (range_with_len a m) ≡ map none_header (range_with_len b n)
 range_same e f = λ i. map none_header (range_with_len (e i) (f i))
 
-stack_typed : (file : ast.FileTree) (n : ℕ) (places : List ast.PlaceTree) → n + length places ≡ length file.places →
-    AllByRecursion (λ place. NamesLayer file place × LiteralPlace place) places →
+stack_typed : (file : ast.FileTree) (n : ℕ) (places : List ast.PlaceTree) → LiteralFile file → n + length places ≡ length file.places →
+    AllByRecursion (NamesLayer file) places → AllByRecursion LiteralPlace places →
     TypedLayers n (map (λ x. placed_layer file x.0 x.1) (enumerate_from n places))
-stack_typed file n [] count h = tt
-stack_typed file n (place ∷ places) count h =
+stack_typed file n [] literal count h given = tt
+stack_typed file n (place ∷ places) literal count h given =
     let above : List LayerTree = map (λ (x : ℕ × ast.PlaceTree). placed_layer file x.0 x.1) (enumerate_from (n + 1) places) in
     let long : length above ≡ length places =
     length-map (enumerate_from (n + 1) places) (λ (x : ℕ × ast.PlaceTree). placed_layer file x.0 x.1) ∙ length-enumerate_from (n + 1) places in
@@ -162,22 +168,24 @@ stack_typed file n (place ∷ places) count h =
     let left : length above ≡ length file.places - (n + 1) = omega (arith, long, count) in
     let same : blanks (suc n) above ≡ blank_above n (length file.places) =
     blanks_range above (suc n) ∙ range_same (sym next) left in (
-      placed_typed file n place above h.0.0 h.0.1 same,
-      subst (λ k. TypedLayers k above) next (stack_typed file (n + 1) places (omega (arith, count)) h.1),
+      placed_typed file n place above literal h.0 given.0 same,
+      subst (λ k. TypedLayers k above) next (stack_typed file (n + 1) places literal (omega (arith, count)) h.1 given.1),
     )
 
 knowns : (file : ast.FileTree) (places : List ast.PlaceTree) → AllByRecursion (λ place. place_faults file place ≡ []) places →
     AllByRecursion (λ place. Where (λ j. faults_of_judged type_fault_at layer_type_faults j ≡ []) (called_at file place)) places →
     AllByRecursion (λ place. Where (λ j. faults_of_judged name_fault_at layer_name_faults j ≡ []) (called_at file place)) places →
-    AllByRecursion LiteralPlace places → AllByRecursion (Known file) places
-knowns file [] a b c d = tt
-knowns file (place ∷ places) a b c d =
-    (record { names_one = a.0; types = b.0; named = c.0; given = d.0 }, knowns file places a.1 b.1 c.1 d.1)
+    AllByRecursion (Known file) places
+knowns file [] a b c = tt
+knowns file (place ∷ places) a b c = (record { names_one = a.0; types = b.0; named = c.0 }, knowns file places a.1 b.1 c.1)
 
--- each place of a file without faults names such a layer
-pub places_name_layers : (file : ast.FileTree) → LiteralFile file → file_fault file ≡ None →
-    AllByRecursion (λ place. NamesLayer file place × LiteralPlace place) file.places
-places_name_layers file literal none =
+-- what a file without faults is made of: at most 24 places, each of which names a layer without faults
+pub record Parts (file : ast.FileTree) : Type 0 where
+  pub few : too_many_of 24 (map (λ place. place.name) file.places) ≡ []
+  pub places_are : AllByRecursion (NamesLayer file) file.places
+
+pub file_parts : (file : ast.FileTree) → file_fault file ≡ None → Parts file
+file_parts file none =
     let faults = both_none of_names of_types (name_fault file) (type_fault file) none in
     let named_nil = earliest.there name_key (name_faults file) faults.0 in
     let types_nil = earliest.there type_key (faults_of_layers type_fault_at layer_type_faults file) faults.1 in
@@ -190,13 +198,15 @@ places_name_layers file literal none =
     let three = nils (a ++ b) c two.0 in
     let types = judges type_fault_at layer_type_faults file types_nil in
     let named = judges name_fault_at layer_name_faults file three.1 in
-    let known = knowns file file.places (each_nil (place_faults file) file.places one.1) types.places_are named.places_are literal.places_are in
-    each_so (Known file) (λ place. NamesLayer file place × LiteralPlace place)
-    (λ place k. (names_layer file place literal types named k, k.given)) file.places known
+    let known = knowns file file.places (each_nil (place_faults file) file.places one.1) types.places_are named.places_are in
+    record {
+      few = two.1;
+      places_are = each_so (Known file) (NamesLayer file) (λ place. names_layer file place types named) file.places known;
+    }
 
 pub files_are_typed : FilesAreTyped
 unfolding stack_of
-files_are_typed file literal none = stack_typed file 0 file.places (omega arith) (places_name_layers file literal none)
+files_are_typed file literal none = stack_typed file 0 file.places literal (omega arith) (file_parts file none).places_are literal.places_are
 
 -- what a place gives fits the sizes of its layer
 given_same : (p : Placed) (place : ast.PlaceTree) (size : ast.SizeTree) (most : ℕ) → p.given ≡ place.given →
@@ -205,7 +215,7 @@ given_same p place (ast.fixed at n) most same h = refl
 given_same p place (ast.sized name) most same h =
     subst (λ given. option_map_or (is_within most) (param_value p.layer given name.word) true ≡ true) (sym same) h
 
-sizes_within : (file : ast.FileTree) (place : ast.PlaceTree) (h : NamesLayer file place) (n : ℕ) →
+pub sizes_within : (file : ast.FileTree) (place : ast.PlaceTree) (h : NamesLayer file place) (n : ℕ) →
     AllByRecursion (λ l. given_within (record { layer = h.layer; given = place.given; blank = blank_above n (length file.places) }) l.size l.most ≡ true)
     (sizes_in h.layer)
 sizes_within file place h n =
@@ -224,14 +234,14 @@ sizes_within file place h n =
 
 -- what the layers of a file without faults name is there
 stack_named : (file : ast.FileTree) (n : ℕ) (places : List ast.PlaceTree) →
-    AllByRecursion (λ place. NamesLayer file place × LiteralPlace place) places →
+    AllByRecursion (NamesLayer file) places →
     NamedStack (map (λ x. placed_layer file x.0 x.1) (enumerate_from n places))
 stack_named file n [] h = tt
 stack_named file n (place ∷ places) h = (
-  rw h.0.0.listed (layer_named (record { layer = h.0.0.layer; given = place.given; blank = blank_above n (length file.places) }) h.0.0.types h.0.0.named (sizes_within file place h.0.0 n)),
+  rw h.0.listed (layer_named (record { layer = h.0.layer; given = place.given; blank = blank_above n (length file.places) }) h.0.types h.0.named (sizes_within file place h.0 n)),
   stack_named file (n + 1) places h.1,
 )
 
 pub files_are_named : FilesAreNamed
 unfolding stack_of
-files_are_named file literal none = stack_named file 0 file.places (places_name_layers file literal none)
+files_are_named file none = stack_named file 0 file.places (file_parts file none).places_are

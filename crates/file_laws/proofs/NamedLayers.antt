@@ -69,7 +69,7 @@ param_is layer given word (ast.rows_cell at own capacity items) found is = absur
 param_is layer given word (ast.rows_array at own capacity items) found is = absurd (cc is)
 param_is layer given word (ast.header at own fields end) found is = absurd (cc is)
 
-size_is : (p : Placed) (size : ast.SizeTree) (most : ℕ) (at : At) → size_type_faults p.layer at size ≡ [] →
+pub size_is : (p : Placed) (size : ast.SizeTree) (most : ℕ) (at : At) → size_type_faults p.layer at size ≡ [] →
     naming.size_faults (record { size = size; most = most }) ≡ [] → given_within p size most ≡ true → IsSize most (size_value p size)
 size_is p (ast.fixed own n) most at typed h within =
     within_is most n (number_within most n own (is_within most n) refl (map_nil too_many (number_outside most (ast.fixed own n)) h))
@@ -87,7 +87,7 @@ each_flat_parts : {A B : Type 0} (P : B → Type 0) (f : A → List B) (xs : Lis
 each_flat_parts P f [] h = tt
 each_flat_parts P f (x ∷ xs) h = let parts = each_parts P (f x) (flat_map f xs) h in (parts.0, each_flat_parts P f xs parts.1)
 
-abbrev Clean : Placed → Standing → Type 0
+abbrev pub Clean : Placed → Standing → Type 0
 Clean p s = (statement_type_faults s.scope s.statement ≡ []) × AllByRecursion (FitsAt p) (maximum_in s.statement)
 
 -- slots are only ever added
@@ -367,33 +367,53 @@ expected_named names locals slots ast.always sees bound h = tt
 expected_named names locals slots (ast.common e) sees bound h = number_named names locals slots sees bound e h
 expected_named names locals slots ast.rare sees bound h = tt
 
-handler_named : (p : Placed) (h : ast.HandlerTree) → LastMessages p.layer → handler_type_faults p.layer h ≡ [] →
-    AllByRecursion (λ s. AllByRecursion (FitsAt p) (maximum_in s.statement)) (handler_statements p.layer h) →
-    NamedHandler (layer_of p) (handler_of p h)
-unfolding handler_of
-handler_named p h last faults sizes =
+abbrev pub Handled : Placed → ast.HandlerTree → Type 0
+Handled p h = (handler_type_faults p.layer h ≡ [])
+    × AllByRecursion (λ s. AllByRecursion (FitsAt p) (maximum_in s.statement)) (handler_statements p.layer h)
+
+-- what a handler without faults is made of: its head, its condition and its statements have none
+record Head (p : Placed) (h : ast.HandlerTree) : Type 0 where
+  names_are : length (names_in (Some h.names)) ≡ length (arguments_of h.kind)
+  popped_is : option_map_or (λ x. with_faults p.layer h.at x.name (length (popped_names (Some x))) (takes_off h)) h.popped [] ≡ []
+  expected_is : expected_type_faults (head_scope p.layer h) h.expected ≡ []
+  statements_are : AllByRecursion (Clean p) (handler_statements p.layer h)
+
+handler_head : (p : Placed) (h : ast.HandlerTree) → Handled p h → Head p h
+handler_head p h is =
     let statements = handler_statements p.layer h in
     let a = unless (length (names_in (Some h.names)) == length (arguments_of h.kind)) (arity h.at) in
     let b = option_map_or (λ x. with_faults p.layer h.at x.name (length (popped_names (Some x))) (takes_off h)) h.popped [] in
     let c = expected_type_faults (head_scope p.layer h) h.expected in
-    let one = nils (a ++ b ++ c) (flat_map (λ s. statement_type_faults s.scope s.statement) statements) faults in
+    let one = nils (a ++ b ++ c) (flat_map (λ s. statement_type_faults s.scope s.statement) statements) is.0 in
     let two = nils (a ++ b) c one.0 in
     let three = nils a b two.0 in
-    let count = eqb-true (length (names_in (Some h.names))) (length (arguments_of h.kind))
-    (unless_nil (length (names_in (Some h.names)) == length (arguments_of h.kind)) (arity h.at) three.0) in
+    record {
+      names_are = eqb-true (length (names_in (Some h.names))) (length (arguments_of h.kind))
+          (unless_nil (length (names_in (Some h.names)) == length (arguments_of h.kind)) (arity h.at) three.0);
+      popped_is = three.1;
+      expected_is = two.1;
+      statements_are = each_both (λ s. statement_type_faults s.scope s.statement ≡ []) (λ s. AllByRecursion (FitsAt p) (maximum_in s.statement)) statements
+          (each_nil (λ s. statement_type_faults s.scope s.statement) statements one.1) is.1;
+    }
+
+pub handler_clean : (p : Placed) (h : ast.HandlerTree) → Handled p h → AllByRecursion (Clean p) (handler_statements p.layer h)
+handler_clean p h is = (handler_head p h is).statements_are
+
+handler_named : (p : Placed) (h : ast.HandlerTree) → LastMessages p.layer → Handled p h → NamedHandler (layer_of p) (handler_of p h)
+unfolding handler_of
+handler_named p h last is =
+    let head = handler_head p h is in
     let entry = handler_names p h in
     let end = behind_all h.block entry in
-    let sees = head_sees p h count in
+    let sees = head_sees p h head.names_are in
     let kept = numbers_among (carries h.kind) (names_in (Some h.names)) in
     let fields = popped_names h.popped in
     let slots : ℕ = slots_of (layer_of p) (handler_of p h) in
     let met : entry.taken.numbers ≡ brought h.kind + option_map_or (λ d. d.fields) (declared (layer_of p) (popped_tag p h.popped)) 0 =
-    omega (arith, length-append kept fields, brought_is h.kind (names_in (Some h.names)) count, popped_count p h h.popped three.1) in
+    omega (arith, length-append kept fields, brought_is h.kind (names_in (Some h.names)) head.names_are, popped_count p h h.popped head.popped_is) in
     let more : entry.taken.numbers ≤ end.taken.numbers = grows_all h.block entry in (
-      expected_named entry (head_scope p.layer h).locals slots h.expected sees (omega (arith, met)) two.1,
-      block_named h.block entry (head_scope p.layer h).locals slots sees last (omega (arith, met, more))
-          (each_both (λ s. statement_type_faults s.scope s.statement ≡ []) (λ s. AllByRecursion (FitsAt p) (maximum_in s.statement)) statements
-          (each_nil (λ s. statement_type_faults s.scope s.statement) statements one.1) sizes),
+      expected_named entry (head_scope p.layer h).locals slots h.expected sees (omega (arith, met)) head.expected_is,
+      block_named h.block entry (head_scope p.layer h).locals slots sees last (omega (arith, met, more)) head.statements_are,
     )
 
 -- cells
@@ -431,19 +451,20 @@ cell_named p (ast.rows_cell at name capacity items) h = size_is p capacity 64 at
 cell_named p (ast.rows_array at name capacity items) h = size_is p capacity 64 at h.0 h.1.0.0 h.1.0.1
 cell_named p (ast.header at name fields end) h = tt
 
-abbrev Declared : Placed → ast.DeclarationTree → Type 0
+abbrev pub Declared : Placed → ast.DeclarationTree → Type 0
 Declared p d = (declaration_type_faults p.layer d ≡ []) × AllByRecursion (FitsAt p) (capacity_in d)
 
-abbrev Handled : Placed → ast.HandlerTree → Type 0
-Handled p h = (handler_type_faults p.layer h ≡ [])
-    × AllByRecursion (λ s. AllByRecursion (FitsAt p) (maximum_in s.statement)) (handler_statements p.layer h)
+-- what a layer without faults is made of
+pub record Parts (p : Placed) : Type 0 where
+  pub last : LastMessages p.layer
+  pub declarations_are : AllByRecursion (Declared p) p.layer.declarations
+  pub handlers_are : AllByRecursion (Handled p) p.layer.handlers
 
-parts_named : (p : Placed) → LastMessages p.layer → AllByRecursion (Declared p) p.layer.declarations → AllByRecursion (Handled p) p.layer.handlers →
-    NamedLayer (layer_of p)
+parts_named : (p : Placed) → Parts p → NamedLayer (layer_of p)
 unfolding layer_of
-parts_named p last cells handlers = record {
-  cells_are = filter_map_each (Declared p) (λ (cell : CellTree). NamedForm cell.form) (cell_in p) (λ d. cell_named p d) p.layer.declarations cells;
-  handlers_are = each_map (Handled p) (NamedHandler (layer_of p)) (handler_of p) (λ h is. handler_named p h last is.0 is.1) p.layer.handlers handlers;
+parts_named p parts = record {
+  cells_are = filter_map_each (Declared p) (λ (cell : CellTree). NamedForm cell.form) (cell_in p) (λ d. cell_named p d) p.layer.declarations parts.declarations_are;
+  handlers_are = each_map (Handled p) (NamedHandler (layer_of p)) (handler_of p) (λ h. handler_named p h parts.last) p.layer.handlers parts.handlers_are;
 }
 
 -- sizes that are numbers fit by the faults of names, and those that are params by what the place gives
@@ -504,9 +525,9 @@ all_handled : (p : Placed) (hs : List ast.HandlerTree) → AllByRecursion (λ h.
 all_handled p [] a b c = tt
 all_handled p (h ∷ hs) a b c = ((a.0, handler_fits p h b.0 c.0), all_handled p hs a.1 b.1 c.1)
 
-pub layer_named : (p : Placed) → layer_type_faults p.layer ≡ [] → naming.layer_name_faults p.layer ≡ [] →
-    AllByRecursion (λ l. given_within p l.size l.most ≡ true) (sizes_in p.layer) → NamedLayer (layer_of p)
-layer_named p types named within =
+pub layer_parts : (p : Placed) → layer_type_faults p.layer ≡ [] → naming.layer_name_faults p.layer ≡ [] →
+    AllByRecursion (λ l. given_within p l.size l.most ≡ true) (sizes_in p.layer) → Parts p
+layer_parts p types named within =
     let layer = p.layer in
     let parts = nils (flat_map (declaration_type_faults layer) layer.declarations) (flat_map (handler_type_faults layer) layer.handlers) types in
     let a = naming.declared_faults layer in
@@ -523,9 +544,15 @@ layer_named p types named within =
     let sizes = each_parts (Within p) (flat_map capacity_in layer.declarations) (flat_map (λ s. maximum_in s.statement) (layer_statements layer)) within in
     let loops = each_flat_parts (λ s. AllByRecursion (Within p) (maximum_in s.statement)) (handler_statements layer) layer.handlers
     (each_flat_parts (Within p) (λ s. maximum_in s.statement) (layer_statements layer) sizes.1) in
-    parts_named p (last_messages layer own)
-    (all_declared p layer.declarations (each_nil (declaration_type_faults layer) layer.declarations parts.0)
-    (each_nil (naming.declaration_name_faults layer) layer.declarations declared_nil.1)
-    (each_flat_parts (Within p) capacity_in layer.declarations sizes.0))
-    (all_handled p layer.handlers (each_nil (handler_type_faults layer) layer.handlers parts.1)
-    (each_nil (naming.handler_name_faults layer) layer.handlers one.1) loops)
+    record {
+      last = last_messages layer own;
+      declarations_are = all_declared p layer.declarations (each_nil (declaration_type_faults layer) layer.declarations parts.0)
+          (each_nil (naming.declaration_name_faults layer) layer.declarations declared_nil.1)
+          (each_flat_parts (Within p) capacity_in layer.declarations sizes.0);
+      handlers_are = all_handled p layer.handlers (each_nil (handler_type_faults layer) layer.handlers parts.1)
+          (each_nil (naming.handler_name_faults layer) layer.handlers one.1) loops;
+    }
+
+pub layer_named : (p : Placed) → layer_type_faults p.layer ≡ [] → naming.layer_name_faults p.layer ≡ [] →
+    AllByRecursion (λ l. given_within p l.size l.most ≡ true) (sizes_in p.layer) → NamedLayer (layer_of p)
+layer_named p types named within = parts_named p (layer_parts p types named within)

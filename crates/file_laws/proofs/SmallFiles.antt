@@ -87,8 +87,8 @@ queues_are_typed = (queues_literal, refl, subst TypedStack queues_mean (files_ar
 
 pub small_files_are_named : SmallFilesAreNamed
 small_files_are_named = (
-  subst NamedStack counter_means (files_are_named counter.file counter_literal refl),
-  subst NamedStack queues_mean (files_are_named queues.file queues_literal refl),
+  subst NamedStack counter_means (files_are_named counter.file refl),
+  subst NamedStack queues_mean (files_are_named queues.file refl),
 )
 
 counter_at : (place : ℕ) → place < 1 → IsChainedState counter.stack place (slice_index_or (map (λ layer. fresh layer 0 3 0) counter.stack) place no_state)

@@ -367,4 +367,4 @@ pub texts_are_typed : TextsAreTyped
 texts_are_typed text file is none = files_are_typed file (texts_are_literal text file is) none
 
 pub texts_are_named : TextsAreNamed
-texts_are_named text file is none = files_are_named file (texts_are_literal text file is) none
+texts_are_named text file is none = files_are_named file none

@@ -13,7 +13,6 @@ use Rattle.layer_mean.specs.Tree.{ExpressionTree, number, local, element, square
 use Rattle.file_faults.specs.FileFault.{file_fault}
 use Rattle.file_mean.specs.Library.{IsFile}
 use Rattle.file_mean.specs.Stack.{stack_of}
-use Rattle.file_laws.specs.Literals.{LiteralFile}
 
 -- What a cell is of a form: numbers of a shape, a queue that is alone, queues of an array.
 abbrev pub shape_in : Form → Option Shape
@@ -138,9 +137,9 @@ pub record NamedLayer (layer : LayerTree) : Type 0 where
 abbrev pub NamedStack : List LayerTree → Type 0
 NamedStack stack = AllByRecursion NamedLayer stack
 
--- A file with no fault of names or types, whose numbers are below 2^32, means such a stack; so does a text that is one.
+-- A file with no fault of names or types means such a stack; so does a text that is one.
 abbrev pub FilesAreNamed : Type 0
-FilesAreNamed = (file : FileTree) → LiteralFile file → file_fault file ≡ None → NamedStack (stack_of file)
+FilesAreNamed = (file : FileTree) → file_fault file ≡ None → NamedStack (stack_of file)
 
 abbrev pub TextsAreNamed : Type 0
 TextsAreNamed = (text : List ℕ) (file : FileTree) → IsFile text file → file_fault file ≡ None → NamedStack (stack_of file)

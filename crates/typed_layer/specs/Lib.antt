@@ -1,2 +1,4 @@
 pub mod View
 pub mod Table
+pub mod Places
+pub mod Headers

@@ -7,6 +7,7 @@ mod handlers;
 #[cfg(test)]
 mod tests;
 mod tree;
+mod typed;
 
 pub use handlers::{Handlers, MOST_HANDLERS};
 pub use tree::{
@@ -14,3 +15,4 @@ pub use tree::{
     HeaderForm, ItemMessage, Items, MOST_NUMBERS, MessageExpression, Numbers, Row, Statement,
     Taken, TakenMessage, TypedLayer,
 };
+pub use typed::{MOST_PLACES, Typed};

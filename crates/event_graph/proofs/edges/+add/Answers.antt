@@ -2,7 +2,7 @@ use Rattle.std.proofs.Common.{◌≡◌, ◌++◌, ◌*◌, ap, subst, OnOk, Lis
 use Rattle.weight_laws.specs.Tables as table
 use Rattle.typed_layer.specs.View.{block_tree}
 use Rattle.event_graph.specs.Edges.{node_tree, edge_tree}
-use Rattle.event_graph.specs.View.{typed_tree}
+use Rattle.typed_layer.specs.Places.{typed_tree}
 use Rattle.event_graph.proofs.Blocks.{block_held, edges_step}
 use Rattle.event_graph.proofs.edges.+add.Goals as goal
 

@@ -2,7 +2,7 @@ use Rattle.std.proofs.Common.{◌≡◌, ◌++◌, map, take}
 use Rattle.stack_mean.specs.Emissions.{emissions_in}
 use Rattle.typed_layer.specs.View.{trees, statement_tree}
 use Rattle.event_graph.specs.Edges.{node_tree, edge_tree, emission_edge}
-use Rattle.event_graph.specs.View.{typed_tree}
+use Rattle.typed_layer.specs.Places.{typed_tree}
 use Rattle.event_graph.proofs.edges.+add.Given as goal
 
 abbrev pub invariant-add_block-loop-statement : goal.invariant-add_block-loop-statement

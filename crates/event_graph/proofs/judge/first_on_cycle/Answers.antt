@@ -3,7 +3,7 @@ use Rattle.std.specs.List.{find}
 use Rattle.std.proofs.lemmas.List.{length-map}
 use Rattle.stack_mean.specs.Graph as graph
 use Rattle.event_graph.specs.Edges.{node_tree}
-use Rattle.event_graph.specs.View.{typed_tree}
+use Rattle.typed_layer.specs.Places.{typed_tree}
 use Rattle.event_graph.specs.Searches.{meets_itself}
 use Rattle.event_graph.proofs.Judged.{cycles_tell, few_headers}
 use Rattle.event_graph.proofs.judge.first_on_cycle.Goals as goal

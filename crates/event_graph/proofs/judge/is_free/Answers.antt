@@ -2,7 +2,7 @@ use Rattle.std.proofs.Common.{◌∙◌, sym}
 use Rattle.std.specs.List.{list_all}
 use Rattle.weight_laws.specs.Rounds.{one_task}
 use Rattle.event_graph.specs.Steady.{is_steady_at, falls_at}
-use Rattle.event_graph.specs.View.{typed_tree}
+use Rattle.typed_layer.specs.Places.{typed_tree}
 use Rattle.event_graph.proofs.Judged.{few_headers}
 use Rattle.event_graph.proofs.Settled.{free_told}
 use Rattle.event_graph.proofs.judge.is_free.Goals as goal

@@ -2,7 +2,7 @@ use Rattle.std.proofs.Common.{◌∙◌, ap, sym, length}
 use Rattle.std.proofs.lemmas.List.{length-map}
 use Rattle.weight_laws.specs.Rounds.{largest_entry, rounds}
 use Rattle.event_graph.specs.Edges.{node_tree}
-use Rattle.event_graph.specs.View.{typed_tree}
+use Rattle.typed_layer.specs.Places.{typed_tree}
 use Rattle.event_graph.specs.Measures.{own_of}
 use Rattle.event_graph.proofs.Judged.{costs_tell, few_headers}
 use Rattle.event_graph.proofs.judge.largest_in_rounds.Goals as goal

@@ -1,4 +1,4 @@
-use Rattle.event_graph.specs.View.{typed_tree}
+use Rattle.typed_layer.specs.Places.{typed_tree}
 use Rattle.event_graph.proofs.Judged.{entries_largest}
 use Rattle.event_graph.proofs.judge.largest_of_entries.Goals as goal
 

@@ -3,7 +3,7 @@ use Rattle.std.specs.List.{range_with_len}
 use Rattle.stack_mean.specs.Acceptance.{largest}
 use Rattle.stack_mean.specs.Graph as graph
 use Rattle.weight_laws.specs.Tables.{node_number}
-use Rattle.event_graph.specs.View.{typed_tree}
+use Rattle.typed_layer.specs.Places.{typed_tree}
 use Rattle.event_graph.specs.Vertices.{node_at}
 use Rattle.event_graph.proofs.Judged.{largest_numbered}
 use Rattle.event_graph.proofs.judge.largest_of_kind.Goals as goal

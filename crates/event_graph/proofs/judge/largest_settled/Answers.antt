@@ -2,7 +2,7 @@ use Rattle.std.proofs.Common.{◌∙◌, sym}
 use Rattle.std.specs.List.{list_all}
 use Rattle.event_graph.specs.Measures.{own_of}
 use Rattle.event_graph.specs.Steady.{is_steady_at}
-use Rattle.event_graph.specs.View.{typed_tree}
+use Rattle.typed_layer.specs.Places.{typed_tree}
 use Rattle.event_graph.proofs.Judged.{few_headers}
 use Rattle.event_graph.proofs.Settled.{settled_told}
 use Rattle.event_graph.proofs.judge.largest_settled.Goals as goal

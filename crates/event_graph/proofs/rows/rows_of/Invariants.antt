@@ -1,7 +1,7 @@
 use Rattle.std.proofs.Common.{◌≡◌, map, take}
 use Rattle.std.specs.List.{sum_by}
 use Rattle.stack_mean.specs.Acceptance.{held_at_most}
-use Rattle.event_graph.specs.View.{rc_tree}
+use Rattle.typed_layer.specs.Places.{rc_tree}
 use Rattle.event_graph.specs.Rows.{rows_of_layer}
 use Rattle.event_graph.proofs.rows.rows_of.Given as goal
 

@@ -4,7 +4,7 @@ use Rattle.layer_mean.specs.Visit.{is_for}
 use Rattle.stack_mean.specs.Emissions.{emissions_in}
 use Rattle.typed_layer.specs.View.{handler_tree, layer_tree, block_tree}
 use Rattle.event_graph.specs.Edges.{node_tree, edge_tree, emission_edge}
-use Rattle.event_graph.specs.View.{typed_tree}
+use Rattle.typed_layer.specs.Places.{typed_tree}
 use Rattle.event_graph.proofs.Entered.{entered}
 use Rattle.event_graph.proofs.table.make_vertex.Goals as goal
 

@@ -1,6 +1,6 @@
 use Rattle.std.proofs.Common.{map}
 use Rattle.event_graph.specs.Edges.{node_tree}
-use Rattle.event_graph.specs.View.{typed_tree}
+use Rattle.typed_layer.specs.Places.{typed_tree}
 use Rattle.event_graph.specs.Vertices.{nodes_at}
 use Rattle.event_graph.proofs.Steps.{numbers_step}
 use Rattle.event_graph.proofs.table.nodes.Goals as goal

@@ -1,7 +1,7 @@
 use Rattle.std.proofs.Common.{◌≡◌, map, flat_map}
 use Rattle.std.specs.List.{range_with_len}
 use Rattle.event_graph.specs.Edges.{node_tree}
-use Rattle.event_graph.specs.View.{typed_tree}
+use Rattle.typed_layer.specs.Places.{typed_tree}
 use Rattle.event_graph.specs.Vertices.{nodes_at}
 use Rattle.event_graph.proofs.table.nodes.Given as goal
 

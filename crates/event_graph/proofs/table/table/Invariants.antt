@@ -1,7 +1,7 @@
 use Rattle.std.proofs.Common.{◌≡◌, map, fold, length, take}
 use Rattle.weight_laws.specs.Tables.{with_node, empty_table}
 use Rattle.event_graph.specs.Edges.{node_tree}
-use Rattle.event_graph.specs.View.{typed_tree}
+use Rattle.typed_layer.specs.Places.{typed_tree}
 use Rattle.event_graph.specs.Vertices.{vertex_tree}
 use Rattle.event_graph.proofs.table.table.Given as goal
 

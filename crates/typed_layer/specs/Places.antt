@@ -1,4 +1,4 @@
--- The plain stack that typed layers are.
+-- The plain stack that the layers at their places are.
 use Rattle.std.specs.Prelude.{◌≡◌, ℕ, true, false, List, map, length, Option, Some, None}
 use Rattle.std.specs.declared.alloc.Global.{Global}
 use Rattle.std.specs.declared.rc.Rc.{Rc}
@@ -7,7 +7,7 @@ use Rattle.typed_layer.specs.declared.tree.TypedLayer.{TypedLayer}
 use Rattle.layer_mean.specs.Tree.{LayerTree}
 use Rattle.layer_mean.specs.Queue.{is_place, layer_at}
 use Rattle.typed_layer.specs.View.{layer_tree}
-use Rattle.event_graph.specs.declared.typed.Typed.{Typed}
+use Rattle.typed_layer.specs.declared.typed.Typed.{Typed}
 
 -- A layer that is shared.
 abbrev pub rc_tree : Rc TypedLayer Global → LayerTree

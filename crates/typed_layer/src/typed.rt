@@ -2,10 +2,10 @@
 
 ghost use Rattle.std.specs.Prelude.{◌≡◌, ◌≤◌, ◌+◌, All, vec_len, length, option_map};
 ghost use Rattle.std.specs.Rc.{rc_value};
-ghost use Rattle.event_graph.specs.Headers.{HasFewHeaders};
+ghost use Rattle.typed_layer.specs.Headers.{HasFewHeaders};
 
+use crate::tree::TypedLayer;
 use std::rc::Rc;
-use typed_layer::TypedLayer;
 
 /// The most layers of a stack.
 pub const MOST_PLACES: usize = 24;
@@ -23,7 +23,7 @@ impl Typed {
     ghost use Rattle.std.specs.Prelude.{◌<◌, slice_index_or};
     ghost use Rattle.layer_mean.specs.Queue.{layer_at};
     ghost use Rattle.layer_mean.specs.Tree.{no_layer};
-    ghost use Rattle.event_graph.specs.View.{typed_tree, IsVisited};
+    ghost use Rattle.typed_layer.specs.Places.{typed_tree, IsVisited};
     ghost use Rattle.typed_layer.specs.View.{layer_tree};
 
     /// These layers, lowest first.

@@ -1,0 +1,4 @@
+pub mod Counts
+pub mod Blocks
+pub mod Layers
+pub mod Headers
