@@ -1,5 +1,5 @@
 -- The statements of a block, one statement further.
-use Rattle.std.proofs.Common.{◌≡◌, ℕ, ◌+◌, ◌<◌, List, [], ◌∷◌, ◌++◌, map, flat_map, take, length, get_or, refl, sym, ap, ◌∙◌, subst, append_assoc, append-nil, Some}
+use Rattle.std.proofs.Common.{◌≡◌, ℕ, ◌+◌, ◌<◌, List, [], ◌∷◌, ◌++◌, map, flat_map, take, length, get_or, sym, ap, ◌∙◌, subst, append_assoc, append-nil, Some}
 use Rattle.std.proofs.lemmas.Grind.{flat_map-append}
 use Rattle.std.proofs.lemmas.List.Sums.{fold-append}
 use Rattle.layer_ast.specs.Tree as ast
@@ -8,7 +8,6 @@ use Rattle.layer_ast.specs.View.{statement_tree, trees}
 use Rattle.layer_ast.specs.declared.names.At.{At}
 use Rattle.layer_ast.specs.declared.names.Name.{Name}
 use Rattle.layer_ast.specs.declared.syntax.Likely.{Likely}
-use Rattle.layer_ast.specs.declared.syntax.Sort.{Sort}
 use Rattle.layer_ast.specs.declared.syntax.Sort.TheVariants.{Int}
 use Rattle.layer_ast.specs.declared.syntax.Statement.{Statement}
 use Rattle.file_faults.specs.Declared.{names_in}
@@ -18,22 +17,14 @@ use Rattle.file_faults.specs.Limits.{maximum_in}
 use Rattle.file_faults.specs.NameFaults.{size_faults, statement_name_faults, twice_among, uses_faults}
 use Rattle.file_faults.specs.Scope.{Scope, Local, brought, locals_as, scope_behind, standing_in, standing_inside, visible, with_locals}
 use Rattle.file_faults.specs.Uses.{statement_uses}
-use Rattle.layer_names.specs.Blocks.{block_faults, inner_faults, scope_behind_all, statement_faults}
-use Rattle.layer_names.specs.Found.{Finds}
+use Rattle.layer_names.specs.Blocks.{block_faults, inner_faults, statement_faults}
+use Rattle.name_scope.specs.Scope.{scope_behind_all}
+use Rattle.layer_names.specs.Found.{Finds, name_shown}
 use Rattle.layer_names.specs.Scope.{Declares}
-use Rattle.layer_names.specs.declared.found.Found.{Found}
-use Rattle.layer_names.proofs.Finds.{finds_both, finds_row}
-use Rattle.layer_names.proofs.Lists.{trees_more}
-
-standing_more : (scope : Scope) (xs : List StatementTree) (x : StatementTree) →
-    standing_in scope (trees (xs ++ x ∷ [])) ≡
-    standing_in scope (trees xs)
-    ++ record { scope = scope_behind_all scope xs; statement = x } ∷ (standing_inside (scope_behind_all scope xs) x ++ [])
-standing_more scope [] x = refl
-standing_more scope (y ∷ xs) x =
-    ap (λ l. record { scope = scope; statement = y } ∷ (standing_inside scope y ++ l)) (standing_more (scope_behind scope y) xs x)
-    ∙ ap (λ l. record { scope = scope; statement = y } ∷ l)
-    (sym (append_assoc (standing_inside scope y) (standing_in (scope_behind scope y) (trees xs)) _))
+use Rattle.first_fault.specs.declared.found.Found.{Found}
+use Rattle.first_fault.proofs.Finds.{finds_both, finds_row}
+use Rattle.name_scope.proofs.Lists.{trees_more}
+use Rattle.name_scope.proofs.Standing.{left_is, names_of_locals, standing_more}
 
 pub block_more : (outer scope inner : Scope) (a b c : Found) (xs : List Statement) (i : ℕ) (x : Statement) →
     i < length xs → x ≡ get_or xs i x →
@@ -54,7 +45,7 @@ block_more outer scope inner a b c xs i x within is so_far scope_is now then_ =
           ∙ (flat_map-append statement_name_faults (standing_in outer (trees before)) _
           ∙ ap (λ l. block_faults outer (trees before) ++ (statement_name_faults (record { scope = behind; statement = s }) ++ flat_map statement_name_faults l))
           (append-nil (standing_inside behind s)))))
-          (finds_both a b c (block_faults outer (trees before)) this so_far
+          (finds_both name_shown a b c (block_faults outer (trees before)) this so_far
           (subst (λ z. Finds b (statement_faults z s) c) scope_is now))),
       then_ ∙ (ap (λ z. scope_behind z s) scope_is
           ∙ (sym (fold-append scope_behind outer before (s ∷ [])) ∙ ap (scope_behind_all outer) (sym more))),
@@ -70,50 +61,7 @@ statement_parts scope x a b c uses inner =
     let rest = flat_map statement_name_faults (standing_inside scope x) in
     subst (λ l. Finds a l c)
     (sym (ap (λ l. l ++ rest) (append_assoc u t m) ∙ append_assoc u (t ++ m) rest))
-    (finds_both a b c u ((t ++ m) ++ rest) uses inner)
-
-unchanged : (scope : Scope) → scope ≡ with_locals scope []
-unchanged scope = ap (λ (m : List Local). record { layer = scope.layer; locals = m }) (sym (append-nil scope.locals))
-
--- what a block leaves is what was there before, and its locals
-behind-more : (scope : Scope) (x : StatementTree) → (more : List Local) × (scope_behind scope x ≡ with_locals scope more)
-behind-more scope (ast.bind at name value) = (locals_as [] (name ∷ []), refl)
-behind-more scope (ast.set at name index value) = ([], unchanged scope)
-behind-more scope (ast.set_square at name row column value) = ([], unchanged scope)
-behind-more scope (ast.push at q items otherwise) = ([], unchanged scope)
-behind-more scope (ast.take at q names block otherwise) = ([], unchanged scope)
-behind-more scope (ast.when at likely condition block) = ([], unchanged scope)
-behind-more scope (ast.choose at likely condition block otherwise) = ([], unchanged scope)
-behind-more scope (ast.each at name below most block) = ([], unchanged scope)
-behind-more scope (ast.emit at direction kind arguments pushed) = ([], unchanged scope)
-
-all-more : (scope : Scope) (xs : List StatementTree) → (more : List Local) × (scope_behind_all scope xs ≡ with_locals scope more)
-all-more scope [] = ([], unchanged scope)
-all-more scope (x ∷ xs) =
-    let one = behind-more scope x in
-    let rest = all-more (scope_behind scope x) xs in (
-      one.0 ++ rest.0,
-      rest.1 ∙ (ap (λ s. with_locals s rest.0) one.1
-          ∙ ap (λ (m : List Local). record { layer = scope.layer; locals = m }) (append_assoc scope.locals one.0 rest.0)),
-    )
-
-take-first : {A : Type 0} (xs ys : List A) → take (length xs) (xs ++ ys) ≡ xs
-take-first [] ys = refl
-take-first (x ∷ xs) ys = ap (λ l. x ∷ l) (take-first xs ys)
-
--- a scope that is left again
-pub left_is : (outer scope left : Scope) (more : List Local) (n : ℕ) → n ≡ length outer.locals →
-    scope ≡ with_locals outer more → left ≡ record scope { locals = take n scope.locals } → left ≡ outer
-left_is outer scope left more n count is leaves =
-    leaves
-    ∙ (ap (λ (s : Scope). record { layer = s.layer; locals = take n s.locals }) is
-    ∙ (ap (λ k. record { layer = outer.layer; locals = take k (outer.locals ++ more) }) count
-    ∙ ap (λ (m : List Local). record { layer = outer.layer; locals = m }) (take-first outer.locals more)))
-
-pub block_left : (outer scope left : Scope) (xs : List StatementTree) (n : ℕ) → n ≡ length outer.locals →
-    scope ≡ scope_behind_all outer xs → left ≡ record scope { locals = take n scope.locals } → left ≡ outer
-block_left outer scope left xs n count is leaves =
-    let more = all-more outer xs in left_is outer scope left more.0 n count (is ∙ more.1) leaves
+    (finds_both name_shown a b c u ((t ++ m) ++ rest) uses inner)
 
 -- a block in which further locals are visible
 pub with_inner : (outer scope scope' left : Scope) (ls : List Local) (n : ℕ) (blk : StatementTrees) (a b c : Found) →
@@ -121,7 +69,7 @@ pub with_inner : (outer scope scope' left : Scope) (ls : List Local) (n : ℕ) (
     left ≡ record scope' { locals = take n scope'.locals } →
     Finds a (twice_among (visible outer) (map (λ (l : Local). l.name) ls) ++ block_faults (with_locals outer ls) blk) c × (left ≡ outer)
 with_inner outer scope scope' left ls n blk a b c count declares inner kept leaves = (
-  finds_both a b c _ _ declares.0 (subst (λ s. Finds b (block_faults s blk) c) declares.1 inner),
+  finds_both name_shown a b c _ _ declares.0 (subst (λ s. Finds b (block_faults s blk) c) declares.1 inner),
   left_is outer scope' left ls n count (kept ∙ declares.1) leaves,
 )
 
@@ -133,16 +81,11 @@ pub each_inner : (outer scope scope' left : Scope) (at : At) (name : Name) (belo
     Finds a (inner_faults outer (ast.each at name below most blk)) d × (left ≡ outer)
 each_inner outer scope scope' left at name below most blk n a b c d count declares limit inner kept leaves =
     let ls : List Local = record { name = name; sort = Int } ∷ [] in (
-      finds_both a c d _ _
-          (finds_both a b c _ _ declares.0 (subst (λ l. Finds b l c) (sym (append-nil (size_faults (record { size = most; most = 32 })))) limit))
+      finds_both name_shown a c d _ _
+          (finds_both name_shown a b c _ _ declares.0 (subst (λ l. Finds b l c) (sym (append-nil (size_faults (record { size = most; most = 32 })))) limit))
           (subst (λ s. Finds c (block_faults s blk) d) declares.1 inner),
       left_is outer scope' left ls n count (kept ∙ declares.1) leaves,
     )
-
-names_of_locals : (sorts : List Sort) (xs : List Name) → map (λ (l : Local). l.name) (locals_as sorts xs) ≡ xs
-names_of_locals sorts [] = refl
-names_of_locals [] (x ∷ xs) = ap (λ l. x ∷ l) (names_of_locals [] xs)
-names_of_locals (s ∷ sorts) (x ∷ xs) = ap (λ l. x ∷ l) (names_of_locals sorts xs)
 
 -- a take, with the names of a row
 pub take_inner : (outer scope scope' : Scope) (at : At) (q : ast.QueueTree) (ns : ast.NamesTree) (blk other : StatementTrees) (ls : List Local) (a b c : Found) →
@@ -164,7 +107,7 @@ take_inner outer scope scope' at q ns blk other ls a b c is first kept second ke
           (append_assoc t one two
           ∙ (ap (λ l. l ++ (one ++ two)) (sym (append-nil t))
           ∙ ap (λ l. (t ++ []) ++ l) (sym (flat_map-append statement_name_faults (standing_in (with_locals outer (locals_as sorts (names_in (Some ns)))) blk) (standing_in outer other)))))
-          (finds_both a b c (t ++ one) two first' (subst (λ s. Finds b (block_faults s other) c) kept second)),
+          (finds_both name_shown a b c (t ++ one) two first' (subst (λ s. Finds b (block_faults s other) c) kept second)),
       kept' ∙ kept,
     )
 
@@ -172,7 +115,7 @@ pub choose_inner : (outer scope scope' : Scope) (at : At) (likely : Likely) (con
     Finds a (block_faults outer blk) b → scope ≡ outer → Finds b (block_faults scope other) c → scope' ≡ scope →
     Finds a (inner_faults outer (ast.choose at likely condition blk other)) c × (scope' ≡ outer)
 choose_inner outer scope scope' at likely condition blk other a b c first kept second kept' = (
-  finds_row statement_name_faults a b c (standing_in outer blk) (standing_in outer other) first
+  finds_row name_shown statement_name_faults a b c (standing_in outer blk) (standing_in outer other) first
       (subst (λ s. Finds b (block_faults s other) c) kept second),
   kept' ∙ kept,
 )

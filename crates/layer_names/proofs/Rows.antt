@@ -9,11 +9,11 @@ use Rattle.file_faults.specs.Earliest.{unless}
 use Rattle.file_faults.specs.Faults.{too_many}
 use Rattle.file_faults.specs.Kinds.{a_number, allows}
 use Rattle.file_faults.specs.Limits.{messages_inside, numbers_beyond}
-use Rattle.layer_names.specs.Found.{Finds}
+use Rattle.layer_names.specs.Found.{Finds, name_shown}
 use Rattle.layer_names.specs.Rows.{followed_faults}
-use Rattle.layer_names.specs.declared.found.Found.{Found}
-use Rattle.layer_names.proofs.Finds.{finds_both, finds_none}
-use Rattle.layer_names.proofs.Lists.{trees_more}
+use Rattle.first_fault.specs.declared.found.Found.{Found}
+use Rattle.first_fault.proofs.Finds.{finds_both, finds_none}
+use Rattle.name_scope.proofs.Lists.{trees_more}
 
 filter-append : {A : Type 0} (p : A → Bool) (xs ys : List A) → filter p (xs ++ ys) ≡ filter p xs ++ filter p ys
 filter-append p [] ys = refl
@@ -83,7 +83,7 @@ front_is a b xs n is finds =
     ∙ (inside_is (map item_tree s.0) (item_tree s.1) ∙ ap (λ l. flat_map followed_faults (map item_tree l)) (sym s.3)))))
     finds
 
-map_drop : {X A : Type 0} (f : X → A) (n : ℕ) (xs : List X) → map f (drop n xs) ≡ drop n (map f xs)
+pub map_drop : {X A : Type 0} (f : X → A) (n : ℕ) (xs : List X) → map f (drop n xs) ≡ drop n (map f xs)
 map_drop f zero xs = refl
 map_drop f (suc n) [] = refl
 map_drop f (suc n) (x ∷ xs) = map_drop f n xs
@@ -100,7 +100,7 @@ pub row_parts : (a b c : Found) (items : List ItemTree) →
     Finds a (map (λ (i : ItemTree). too_many i.name.at) (numbers_beyond items ++ messages_inside items)) c
 row_parts a b c items beyond inside =
     subst (λ l. Finds a l c) (sym (map-append (λ (i : ItemTree). too_many i.name.at) (numbers_beyond items) (messages_inside items)))
-    (finds_both a b c (map (λ (i : ItemTree). too_many i.name.at) (numbers_beyond items)) _
+    (finds_both name_shown a b c (map (λ (i : ItemTree). too_many i.name.at) (numbers_beyond items)) _
     (subst (λ l. Finds a l b)
     (ap (map (λ (n : Name). too_many n.at)) (sym (map_drop (λ (i : ItemTree). i.name) 4 (filter (λ i. allows a_number i.sort) items)))
     ∙ names_too_many (numbers_beyond items))
@@ -109,5 +109,5 @@ row_parts a b c items beyond inside =
 
 pub none_inside : (xs : List Item) (a : Found) → length xs ≤ 0 →
     Finds a (map (λ (i : ItemTree). too_many i.name.at) (messages_inside (map item_tree xs))) a
-none_inside [] a few = finds_none a
+none_inside [] a few = finds_none name_shown a
 none_inside (x ∷ xs) a few = absurd (omega (arith, few))

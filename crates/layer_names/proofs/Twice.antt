@@ -14,21 +14,22 @@ use Rattle.file_faults.specs.Earliest.{unless}
 use Rattle.file_faults.specs.Faults.{NameFault, twice}
 use Rattle.file_faults.specs.NameFaults.{repeated, same_events, same_word, twice_among}
 use Rattle.file_faults.specs.Scope as names
-use Rattle.layer_names.specs.Found.{Finds}
-use Rattle.layer_names.specs.Scope.{Declares, local_of, locals_of}
-use Rattle.layer_names.specs.Words.{place_of}
-use Rattle.layer_names.specs.declared.found.Found.{Found}
-use Rattle.layer_names.specs.declared.scope.Local.{Local}
-use Rattle.layer_names.proofs.Finds.{finds_both, finds_none}
-use Rattle.layer_names.proofs.Lists.{any_map, trees_more}
-use Rattle.layer_names.proofs.Scopes.{any_place}
+use Rattle.layer_names.specs.Found.{Finds, name_shown}
+use Rattle.layer_names.specs.Scope.{Declares}
+use Rattle.name_scope.specs.Scope.{local_of, locals_of}
+use Rattle.name_scope.specs.Words.{place_of}
+use Rattle.first_fault.specs.declared.found.Found.{Found}
+use Rattle.name_scope.specs.declared.scope.Local.{Local}
+use Rattle.first_fault.proofs.Finds.{finds_both, finds_none}
+use Rattle.name_scope.proofs.Lists.{any_map, trees_more}
+use Rattle.name_scope.proofs.Scopes.{any_place}
 
 true-is : (a b : Bool) → (a ≡ true → b ≡ true) → (b ≡ true → a ≡ true) → a ≡ b
 true-is true b there back = sym (there refl)
 true-is false true there back = back refl
 true-is false false there back = refl
 
-bytes_eq-sym : (v w : List ℕ) → bytes_eq v w ≡ bytes_eq w v
+pub bytes_eq-sym : (v w : List ℕ) → bytes_eq v w ≡ bytes_eq w v
 bytes_eq-sym v w = true-is (bytes_eq v w) (bytes_eq w v)
     (λ e. (bytes_eq-Decides w v).1 (sym ((bytes_eq-Decides v w).0 e)))
     (λ e. (bytes_eq-Decides v w).1 (sym ((bytes_eq-Decides w v).0 e)))
@@ -76,6 +77,12 @@ once_more earlier xs x known is =
 take_next : {X : Type 0} (xs : List X) (i : ℕ) (x : X) → i < length xs → x ≡ get_or xs i x → take (i + 1) xs ≡ take i xs ++ x ∷ []
 take_next xs i x within is = take_more xs i x within ∙ ap (λ y. take i xs ++ y ∷ []) (sym is)
 
+-- one name alone is there once
+pub alone : (a : Found) (names : List Name) → length names < 2 → Finds a (twice_among [] names) a
+alone a [] few = finds_none name_shown a
+alone a (x ∷ []) few = finds_none name_shown a
+alone a (x ∷ y ∷ names) few = absurd (omega (arith, few))
+
 -- one of some names more
 pub twice_next : (a b c : Found) (xs : List Name) (i : ℕ) (x : Name) (seen : List (List ℕ)) (known : Bool) →
     i < length xs → x ≡ get_or xs i x → seen ≡ map (λ n. n.word) (take i xs) → known ≡ is_some (place_of x.word seen) →
@@ -86,7 +93,7 @@ twice_next a b c xs i x seen known within is sees knows so_far now =
     subst (λ l. Finds a l c)
     (sym (ap (twice_among []) more ∙ once_more [] (take i xs) x known
     (knows ∙ (ap (λ w. is_some (place_of x.word w)) sees ∙ any_place (λ (n : Name). n) x.word (take i xs)))))
-    (finds_both a b c (twice_among [] (take i xs)) (unless (not known) (twice x.at)) so_far now)
+    (finds_both name_shown a b c (twice_among [] (take i xs)) (unless (not known) (twice x.at)) so_far now)
 
 pub seen_next : (xs : List Name) (i : ℕ) (x : Name) (seen new : List (List ℕ)) → i < length xs → x ≡ get_or xs i x →
     seen ≡ map (λ n. n.word) (take i xs) → new ≡ seen ++ x.word ∷ [] → new ≡ map (λ n. n.word) (take (i + 1) xs)
@@ -109,7 +116,7 @@ repeated_next a b c xs i x known within is knows so_far now =
     ∙ ap (λ l. map g (repeated same_events [] before) ++ l)
     (ap (λ b. map g (if b then handler_tree x ∷ [] else []))
     (any_map handler_tree (same_events (handler_tree x)) (take i xs) ∙ sym knows) ∙ go known)))))
-    (finds_both a b c (map g (repeated same_events [] before)) (unless (not known) (twice x.at)) so_far now) where
+    (finds_both name_shown a b c (map g (repeated same_events [] before)) (unless (not known) (twice x.at)) so_far now) where
       go : (b : Bool) → map (λ (h : HandlerTree). twice h.at) (if b then handler_tree x ∷ [] else []) ≡ unless (not b) (twice x.at)
       go true = refl
       go false = refl
@@ -117,7 +124,7 @@ repeated_next a b c xs i x known within is knows so_far now =
 -- no local
 pub declares_none : (scope : names.Scope) (a : Found) → Declares scope a [] a scope
 declares_none scope a =
-    (finds_none a, ap (λ m. record { layer = scope.layer; locals = m }) (sym (append-nil scope.locals)))
+    (finds_none name_shown a, ap (λ m. record { layer = scope.layer; locals = m }) (sym (append-nil scope.locals)))
 
 -- one local more
 pub declares_next : (outer scope inner : names.Scope) (a b c : Found) (locals : List Local) (i : ℕ) (l : Local) (known : Bool) →
@@ -140,7 +147,7 @@ declares_next outer scope inner a b c locals i l known within is knows so_far no
       subst (λ f. Finds a f c)
           (sym (ap (twice_among (names.visible outer)) (map-append (λ (x : names.Local). x.name) ls (local_of l ∷ []))
           ∙ once_more (names.visible outer) (map (λ (x : names.Local). x.name) ls) l.name known sees))
-          (finds_both a b c (twice_among (names.visible outer) (map (λ (x : names.Local). x.name) ls)) (unless (not known) (twice l.name.at)) so_far.0 now),
+          (finds_both name_shown a b c (twice_among (names.visible outer) (map (λ (x : names.Local). x.name) ls)) (unless (not known) (twice l.name.at)) so_far.0 now),
       then_ ∙ (ap (λ s. names.with_locals s (local_of l ∷ [])) so_far.1
           ∙ ap (λ m. record { layer = outer.layer; locals = m }) (append_assoc outer.locals ls (local_of l ∷ []))),
     )

@@ -1,10 +1,10 @@
 -- The faults of the statements of a block.
-use Rattle.std.specs.Prelude.{List, ◌++◌, flat_map, fold}
+use Rattle.std.specs.Prelude.{List, ◌++◌, flat_map}
 use Rattle.layer_ast.specs.Tree.{StatementTree, StatementTrees}
 use Rattle.file_faults.specs.Faults.{NameFault}
 use Rattle.file_faults.specs.Limits.{maximum_in}
 use Rattle.file_faults.specs.NameFaults.{size_faults, statement_name_faults, twice_among}
-use Rattle.file_faults.specs.Scope.{Scope, brought, scope_behind, standing_in, standing_inside, visible}
+use Rattle.file_faults.specs.Scope.{Scope, brought, standing_in, standing_inside, visible}
 
 -- The faults of the statements of a block that stands in a scope.
 abbrev pub block_faults : Scope → StatementTrees → List NameFault
@@ -22,7 +22,3 @@ inner_faults scope statement =
     twice_among (visible scope) (brought statement)
     ++ flat_map size_faults (maximum_in statement)
     ++ flat_map statement_name_faults (standing_inside scope statement)
-
--- The scope behind statements that stand one behind the other.
-abbrev pub scope_behind_all : Scope → List StatementTree → Scope
-scope_behind_all = fold scope_behind

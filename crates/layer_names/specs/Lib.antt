@@ -1,6 +1,13 @@
+pub mod Answer
 pub mod Blocks
+pub mod Called
 pub mod Declarations
+pub mod Events
 pub mod Found
+pub mod Gathered
+pub mod Handlers
+pub mod Layers
+pub mod Places
 pub mod Rows
 pub mod Scope
-pub mod Words
+pub mod Tables

@@ -4,15 +4,15 @@ ghost use Rattle.std.specs.Prelude.{◌≡◌, ◌++◌, map, OnOk};
 ghost use Rattle.layer_ast.specs.View.{block_tree, statement_tree, statement_trees};
 ghost use Rattle.file_faults.specs.NameFaults.{twice_among};
 ghost use Rattle.file_faults.specs.Scope as spec;
-ghost use Rattle.layer_names.specs.Blocks.{block_faults, inner_faults, scope_behind_all, statement_faults};
+ghost use Rattle.layer_names.specs.Blocks.{block_faults, inner_faults, statement_faults};
 ghost use Rattle.layer_names.specs.Found.{Finds};
-ghost use Rattle.layer_names.specs.Scope.{locals_of, scope_of};
+ghost use Rattle.name_scope.specs.Scope.{locals_of, scope_of, scope_behind_all};
 
 use crate::found::Found;
-use crate::locals::row_locals;
-use crate::scope::{Local, Scope};
+use crate::scope::{Local, Scope, bring, declare};
 use crate::{limits, uses};
 use layer_ast::{Block, Sort, Statement};
+use name_scope::row_locals;
 use std::alloc::{AllocError, Global};
 
 /// The statements of a block, whose locals are visible in it alone.
@@ -74,7 +74,7 @@ fn inside(
 {
     match s {
         Statement::Let { name, .. } => {
-            scope.bring(found, *name, Sort::Int)?;
+            bring(found, scope, *name, Sort::Int)?;
             Ok(())
         }
         Statement::Push { otherwise, .. } => {
@@ -113,7 +113,7 @@ fn inside(
             ..
         } => {
             let outer = scope.len();
-            scope.bring(found, *name, Sort::Int)?;
+            bring(found, scope, *name, Sort::Int)?;
             limits::size(found, limits::MOST_TURNS, most);
             block(alloc, found, scope, first)?;
             scope.leave(outer);
@@ -137,7 +137,7 @@ fn with_locals(
     ensures { OnOk result (Finds found.old (twice_among (spec.visible (scope_of scope.old)) (map (λ l. l.name) (locals_of locals.now.items)) ++ block_faults (spec.with_locals (scope_of scope.old) (locals_of locals.now.items)) (block_tree b.now)) found.new × (scope_of scope.new ≡ scope_of scope.old)) }
 {
     let outer = scope.len();
-    scope.declare(found, locals)?;
+    declare(found, scope, locals)?;
     block(alloc, found, scope, b)?;
     scope.leave(outer);
     Ok(())

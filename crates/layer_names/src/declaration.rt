@@ -7,20 +7,21 @@ ghost use Rattle.file_faults.specs.Limits.{capacity_in};
 ghost use Rattle.file_faults.specs.NameFaults.{declaration_uses, row_faults, size_faults, too_many_of, twice_among, uses_faults};
 ghost use Rattle.layer_names.specs.Declarations.{declaration_faults};
 ghost use Rattle.layer_names.specs.Found.{Finds};
-ghost use Rattle.layer_names.specs.Scope.{scope_of};
+ghost use Rattle.name_scope.specs.Scope.{scope_of};
 
 use crate::found::Found;
-use crate::names::{listed, too_many, twice};
+use crate::names::{too_many, twice};
 use crate::scope::Scope;
 use crate::{limits, uses};
 use layer_ast::{Declaration, Name};
+use name_scope::listed;
 use std::alloc::{AllocError, Global};
 
 /// The most fields of a header.
 const MOST_FIELDS: usize = 4;
 
 /// The names that a declaration uses.
-#[tactic(auto, using(crate::proofs::Finds::finds_none))]
+#[tactic(auto, using(first_fault::proofs::Finds::finds_none))]
 fn used(found: &mut Found, scope: &Scope, d: &Declaration)
     ensures { Finds found.old (uses_faults (scope_of scope.now) (declaration_uses (declaration_tree d.now))) found.new }
 {
@@ -34,7 +35,7 @@ fn used(found: &mut Found, scope: &Scope, d: &Declaration)
 }
 
 /// The capacity of a queue.
-#[tactic(auto, using(crate::proofs::Finds::finds_none, crate::proofs::Finds::finds_both))]
+#[tactic(auto, using(first_fault::proofs::Finds::finds_none, first_fault::proofs::Finds::finds_both))]
 fn capacity(found: &mut Found, d: &Declaration)
     ensures { Finds found.old (flat_map size_faults (capacity_in (declaration_tree d.now))) found.new }
 {
@@ -47,7 +48,7 @@ fn capacity(found: &mut Found, d: &Declaration)
 }
 
 /// The items of a queue's rows.
-#[tactic(auto, using(crate::proofs::Finds::finds_none))]
+#[tactic(auto, using(first_fault::proofs::Finds::finds_none))]
 fn rows(alloc: Global, found: &mut Found, d: &Declaration) -> Result<(), AllocError>
     ensures { OnOk result (Finds found.old (row_faults (items_of (declaration_tree d.now))) found.new) }
 {
@@ -70,7 +71,7 @@ fn fields(alloc: Global, d: &Declaration) -> Result<Vec<Name>, AllocError>
 }
 
 /// The fields of a header: of these there are few, and none is there twice.
-#[tactic(auto, using(crate::proofs::Finds::finds_both))]
+#[tactic(auto, using(first_fault::proofs::Finds::finds_both))]
 fn few_fields(alloc: Global, found: &mut Found, d: &Declaration) -> Result<(), AllocError>
     ensures { OnOk result (Finds found.old (twice_among [] (labels_of (declaration_tree d.now)) ++ too_many_of 4 (labels_of (declaration_tree d.now))) found.new) }
 {
@@ -81,7 +82,7 @@ fn few_fields(alloc: Global, found: &mut Found, d: &Declaration) -> Result<(), A
 }
 
 /// A declaration, in the scope of its layer's own names.
-#[tactic(auto, using(crate::proofs::Finds::finds_both, crate::proofs::Finds::finds_join))]
+#[tactic(auto, using(first_fault::proofs::Finds::finds_both, first_fault::proofs::Finds::finds_join))]
 fn declaration(
     alloc: Global,
     found: &mut Found,
@@ -98,7 +99,7 @@ fn declaration(
 }
 
 /// Declarations, in the scope of their layer's own names.
-#[tactic(auto, using(crate::proofs::Finds::finds_none, crate::proofs::Finds::part_more))]
+#[tactic(auto, using(first_fault::proofs::Finds::finds_none, first_fault::proofs::Finds::part_more))]
 pub fn declarations(
     alloc: Global,
     found: &mut Found,

@@ -1,10 +1,11 @@
-//! The first fault that is found as a file is judged, part by part.
+//! Faults of names.
 
-ghost use Rattle.std.specs.Prelude.{◌≡◌, ◌∷◌, []};
-ghost use Rattle.file_faults.specs.Earliest.{precedes, unless};
-ghost use Rattle.file_faults.specs.Faults.{name_key};
-ghost use Rattle.layer_names.specs.Found.{Finds, fault_at, fault_of};
+ghost use Rattle.std.specs.Prelude.{◌≡◌, true, ◌∷◌, []};
+ghost use Rattle.file_faults.specs.Earliest.{unless};
+ghost use Rattle.layer_names.specs.Found.{Finds, fault_at, name_shown};
 
+use first_fault::Fault;
+pub use first_fault::Found;
 use layer_ast::At;
 
 /// What is wrong with a name.
@@ -18,68 +19,38 @@ pub enum Cause {
     TooMany,
 }
 
-/// A fault of names, at its place.
-#[derive(Clone, Copy)]
-pub struct Fault {
-    pub at: At,
-    pub cause: Cause,
+/// A fault of names as it is noted.
+fn fault(cause: Cause, at: At) -> Fault
+    ensures { result ≡ name_shown (fault_at cause at) }
+{
+    let rank = match cause {
+        Cause::Unknown => 0,
+        Cause::Twice => 1,
+        Cause::TooMany => 2,
+    };
+    Fault { at, rank }
 }
 
-impl Fault {
-    /// What faults are ordered by: line, column, and at one place the cause.
-    fn key(&self) -> [u32; 3]
-        ensures { result ≡ name_key (fault_of self.now) }
-    {
-        let rank = match self.cause {
-            Cause::Unknown => 0,
-            Cause::Twice => 1,
-            Cause::TooMany => 2,
-        };
-        [self.at.line, self.at.col, rank]
-    }
-
-    fn precedes(&self, other: &Fault) -> bool
-        ensures { result ≡ precedes name_key (fault_of self.now) (fault_of other.now) }
-    {
-        self.key().as_slice() < other.key().as_slice()
-    }
+/// Takes a fault into account.
+#[tactic(auto, unfolding(first_fault::specs::Found::FindsBy))]
+pub fn note(found: &mut Found, cause: Cause, at: At)
+    ensures { Finds found.old (fault_at cause at ∷ []) found.new }
+{
+    found.note(fault(cause, at));
 }
 
-/// The first fault so far.
-#[derive(Clone, Copy)]
-pub struct Found {
-    pub first: Option<Fault>,
-    /// Where faults are moved: those of a library layer stand at the name of the place that names it.
-    pub moved: Option<At>,
+/// Takes a fault into account, unless something holds.
+#[tactic(auto, using(first_fault::proofs::Finds::finds_unless))]
+pub fn note_unless(found: &mut Found, holds: bool, cause: Cause, at: At)
+    ensures { Finds found.old (unless holds (fault_at cause at)) found.new }
+{
+    found.note_unless(holds, fault(cause, at));
 }
 
-impl Found {
-    /// Takes a fault into account.
-    #[tactic(auto, unfolding(crate::specs::Found::Finds))]
-    pub fn note(&mut self, cause: Cause, at: At)
-        ensures { Finds self.old (fault_at cause at ∷ []) self.new }
-    {
-        let fault = Fault {
-            at: self.moved.unwrap_or(at),
-            cause,
-        };
-        match self.first {
-            None => self.first = Some(fault),
-            Some(first) => {
-                if fault.precedes(&first) {
-                    self.first = Some(fault);
-                }
-            }
-        }
-    }
-
-    /// Takes a fault into account, unless something holds.
-    #[tactic(auto, using(crate::proofs::Finds::finds_none))]
-    pub fn note_unless(&mut self, holds: bool, cause: Cause, at: At)
-        ensures { Finds self.old (unless holds (fault_at cause at)) self.new }
-    {
-        if !holds {
-            self.note(cause, at);
-        }
-    }
+/// Whether it is known that a fault changes nothing: it is found already, or one that comes before it.
+#[tactic(auto, unfolding(first_fault::specs::Found::FindsBy))]
+pub fn is_past(found: &Found, cause: Cause, at: At) -> bool
+    ensures { result ≡ true → Finds found.now (fault_at cause at ∷ []) found.now }
+{
+    found.is_past(fault(cause, at))
 }

@@ -1,13 +1,30 @@
 //! What the names of a layer file stand for, and the first fault of a file's names.
 #![tactic(auto)]
 
+mod answer;
 mod block;
 mod declaration;
-mod declared;
+mod error;
+mod events;
+mod file;
 mod found;
+mod gather;
+mod handler;
+mod head;
+mod judged;
+mod layer;
+mod library;
 mod limits;
-mod locals;
 mod names;
+mod place;
+mod places;
+mod resolved;
 mod scope;
+mod sizes;
+mod tables;
 mod uses;
-mod words;
+mod value;
+
+pub use answer::resolve;
+pub use error::NameError;
+pub use resolved::Resolved;

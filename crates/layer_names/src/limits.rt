@@ -10,9 +10,10 @@ ghost use Rattle.file_faults.specs.NameFaults.{row_faults, size_faults};
 ghost use Rattle.layer_names.specs.Found.{Finds};
 ghost use Rattle.layer_names.specs.Rows.{followed_faults};
 
-use crate::found::{Cause, Found};
+use crate::found::{Cause, Found, note_unless};
 use crate::names::{too_many, twice};
 use layer_ast::{Item, Items, Name, Size, Sort};
+use name_scope::items;
 use std::alloc::{AllocError, Global};
 
 /// The most rows of a queue.
@@ -32,14 +33,14 @@ pub fn is_within(most: u32, number: u32) -> bool
 }
 
 /// A size, which as a number must be within a limit.
-#[tactic(auto, using(crate::proofs::Finds::finds_none, crate::proofs::Finds::size_fault))]
+#[tactic(auto, using(first_fault::proofs::Finds::finds_none, crate::proofs::Finds::size_fault))]
 pub fn size(found: &mut Found, most: u32, size: &Size)
     ensures { Finds found.old (size_faults (record { size = size_tree size.now; most = most })) found.new }
 {
     match size {
         Size::Number { at, value } => {
             let holds = is_within(most, *value);
-            found.note_unless(holds, Cause::TooMany, *at);
+            note_unless(found, holds, Cause::TooMany, *at);
         }
         Size::Named { .. } => {}
     }
@@ -52,18 +53,8 @@ fn is_number(item: &Item) -> bool
     matches!(item.sort, Sort::Int)
 }
 
-/// The items of a row.
-pub fn items(alloc: Global, row: &Items) -> Result<Vec<Item>, AllocError>
-    ensures { IfOk result (λ all. map item_tree all.items ≡ items_in (items_tree row.now)) }
-{
-    let mut all = Vec::new(alloc);
-    all.push(row.first)?;
-    all.extend_from_slice(&row.rest)?;
-    Ok(all)
-}
-
 /// The names of items.
-#[tactic(auto, using(crate::proofs::Lists::trees_more))]
+#[tactic(auto, using(name_scope::proofs::Lists::trees_more))]
 fn names(alloc: Global, items: &[Item]) -> Result<Vec<Name>, AllocError>
     ensures { IfOk result (λ all. all.items ≡ map (λ i. i.name) (map item_tree items.now)) }
 {
@@ -89,13 +80,13 @@ fn numbers(alloc: Global, items: &[Item]) -> Result<Vec<Name>, AllocError>
 }
 
 /// Items behind which others follow: none may be a message.
-#[tactic(auto, using(crate::proofs::Finds::finds_none, crate::proofs::Finds::part_more))]
+#[tactic(auto, using(first_fault::proofs::Finds::finds_none, first_fault::proofs::Finds::part_more))]
 fn front(found: &mut Found, items: &[Item])
     ensures { Finds found.old (flat_map followed_faults (map item_tree items.now)) found.new }
 {
     for item in items {
         let holds = is_number(item);
-        found.note_unless(holds, Cause::TooMany, item.name.at);
+        note_unless(found, holds, Cause::TooMany, item.name.at);
     }
 }
 
@@ -110,7 +101,7 @@ fn messages(found: &mut Found, items: &[Item])
 }
 
 /// The items of a row.
-#[tactic(auto, using(crate::proofs::Finds::finds_both, crate::proofs::Rows::row_parts))]
+#[tactic(auto, using(first_fault::proofs::Finds::finds_both, crate::proofs::Rows::row_parts))]
 pub fn row(alloc: Global, found: &mut Found, row: &Items) -> Result<(), AllocError>
     ensures { OnOk result (Finds found.old (row_faults (items_in (items_tree row.now))) found.new) }
 {

@@ -9,20 +9,20 @@ ghost use Rattle.file_faults.specs.NameFaults.{same_word, use_faults, uses_fault
 ghost use Rattle.file_faults.specs.Uses as used;
 ghost use Rattle.file_faults.specs.Uses.{of_name, of_label};
 ghost use Rattle.layer_names.specs.Found.{Finds};
-ghost use Rattle.layer_names.specs.Scope.{scope_of};
+ghost use Rattle.name_scope.specs.Scope.{scope_of};
 
-use crate::declared::has_item;
-use crate::found::{Cause, Found};
+use crate::found::{Cause, Found, is_past, note_unless};
 use crate::scope::Scope;
 use layer_ast::{
     Argument, Arguments, Built, Expression, MessageExpression, Name, Pushed, Queue, Size, Statement,
 };
+use name_scope::has_item;
 
 /// The use of a name, which must be visible.
 pub fn name(found: &mut Found, scope: &Scope, name: &Name)
     ensures { Finds found.old (use_faults (scope_of scope.now) (of_name name.now)) found.new }
 {
-    found.note_unless(scope.is_visible(&name.word), Cause::Unknown, name.at);
+    note_unless(found, scope.is_visible(&name.word), Cause::Unknown, name.at);
 }
 
 /// Whether the rows of a queue have an item of this name.
@@ -35,17 +35,20 @@ fn is_label(scope: &Scope, queue: &Name, label: &Name) -> bool
     }
 }
 
-/// The use of a label, which must be that of an item of its queue.
+/// The use of a label, which must be that of an item of its queue. A row has few items where no fault comes before.
+#[tactic(auto, using(first_fault::proofs::Again::unless_past))]
 fn label(found: &mut Found, scope: &Scope, queue: &Name, label: &Name)
     ensures { Finds found.old (use_faults (scope_of scope.now) (of_label queue.now label.now)) found.new }
 {
-    let is_there = is_label(scope, queue, label);
-    found.note_unless(is_there, Cause::Unknown, label.at);
+    if !is_past(found, Cause::Unknown, label.at) {
+        let is_there = is_label(scope, queue, label);
+        note_unless(found, is_there, Cause::Unknown, label.at);
+    }
 }
 
 /// The uses in an expression.
 #[cycle(uses)]
-#[tactic(auto, using(crate::proofs::Finds::finds_none, crate::proofs::Finds::finds_both, crate::proofs::Finds::finds_row, crate::proofs::Finds::finds_three))]
+#[tactic(auto, using(first_fault::proofs::Finds::finds_none, first_fault::proofs::Finds::finds_both, first_fault::proofs::Finds::finds_row, first_fault::proofs::Finds::finds_three))]
 pub fn expression(found: &mut Found, scope: &Scope, e: &Expression)
     ensures { Finds found.old (uses_faults (scope_of scope.now) (used.uses (expression_tree e.now))) found.new }
 {
@@ -102,7 +105,7 @@ pub fn expression(found: &mut Found, scope: &Scope, e: &Expression)
 
 /// The uses in the mention of a queue.
 #[cycle(uses)]
-#[tactic(auto, using(crate::proofs::Finds::finds_none, crate::proofs::Finds::finds_both, crate::proofs::Finds::finds_row, crate::proofs::Finds::finds_three))]
+#[tactic(auto, using(first_fault::proofs::Finds::finds_none, first_fault::proofs::Finds::finds_both, first_fault::proofs::Finds::finds_row, first_fault::proofs::Finds::finds_three))]
 pub fn queue(found: &mut Found, scope: &Scope, q: &Queue)
     ensures { Finds found.old (uses_faults (scope_of scope.now) (used.queue_uses (queue_tree q.now))) found.new }
 {
@@ -115,7 +118,7 @@ pub fn queue(found: &mut Found, scope: &Scope, q: &Queue)
 
 /// The uses in a message.
 #[cycle(uses)]
-#[tactic(auto, using(crate::proofs::Finds::finds_none, crate::proofs::Finds::finds_both, crate::proofs::Finds::finds_row, crate::proofs::Finds::finds_three))]
+#[tactic(auto, using(first_fault::proofs::Finds::finds_none, first_fault::proofs::Finds::finds_both, first_fault::proofs::Finds::finds_row, first_fault::proofs::Finds::finds_three))]
 pub fn message(found: &mut Found, scope: &Scope, m: &MessageExpression)
     ensures { Finds found.old (uses_faults (scope_of scope.now) (used.message_uses (message_tree m.now))) found.new }
 {
@@ -127,7 +130,7 @@ pub fn message(found: &mut Found, scope: &Scope, m: &MessageExpression)
 
 /// The uses in a message that is no bare name.
 #[cycle(uses)]
-#[tactic(auto, using(crate::proofs::Finds::finds_none, crate::proofs::Finds::finds_both, crate::proofs::Finds::finds_row, crate::proofs::Finds::finds_three))]
+#[tactic(auto, using(first_fault::proofs::Finds::finds_none, first_fault::proofs::Finds::finds_both, first_fault::proofs::Finds::finds_row, first_fault::proofs::Finds::finds_three))]
 pub fn built(found: &mut Found, scope: &Scope, b: &Built)
     ensures { Finds found.old (uses_faults (scope_of scope.now) (used.built_uses (built_tree b.now))) found.new }
 {
@@ -177,7 +180,7 @@ fn argument(found: &mut Found, scope: &Scope, a: &Argument)
 }
 
 /// The uses in arguments.
-#[tactic(auto, using(crate::proofs::Finds::finds_none, crate::proofs::Finds::nested_more))]
+#[tactic(auto, using(first_fault::proofs::Finds::finds_none, first_fault::proofs::Finds::nested_more))]
 fn each_argument(found: &mut Found, scope: &Scope, all: &[Argument])
     ensures { Finds found.old (uses_faults (scope_of scope.now) (flat_map used.argument_uses (map argument_tree all.now))) found.new }
 {
@@ -187,7 +190,7 @@ fn each_argument(found: &mut Found, scope: &Scope, all: &[Argument])
 }
 
 /// The uses in a list of arguments.
-#[tactic(auto, using(crate::proofs::Finds::finds_row))]
+#[tactic(auto, using(first_fault::proofs::Finds::finds_row))]
 fn arguments(found: &mut Found, scope: &Scope, all: &Arguments)
     ensures { Finds found.old (uses_faults (scope_of scope.now) (used.arguments_uses (Some (arguments_tree all.now)))) found.new }
 {
@@ -196,7 +199,7 @@ fn arguments(found: &mut Found, scope: &Scope, all: &Arguments)
 }
 
 /// The uses in the header that an emission puts on.
-#[tactic(auto, using(crate::proofs::Finds::finds_none, crate::proofs::Finds::finds_both))]
+#[tactic(auto, using(first_fault::proofs::Finds::finds_none, first_fault::proofs::Finds::finds_both))]
 fn pushed(found: &mut Found, scope: &Scope, p: &Pushed)
     ensures { Finds found.old (uses_faults (scope_of scope.now) (used.pushed_uses (pushed_tree p.now))) found.new }
 {
@@ -208,7 +211,7 @@ fn pushed(found: &mut Found, scope: &Scope, p: &Pushed)
 }
 
 /// The uses in a size.
-#[tactic(auto, using(crate::proofs::Finds::finds_none, crate::proofs::Finds::finds_both))]
+#[tactic(auto, using(first_fault::proofs::Finds::finds_none, first_fault::proofs::Finds::finds_both))]
 pub fn size(found: &mut Found, scope: &Scope, s: &Size)
     ensures { Finds found.old (uses_faults (scope_of scope.now) (used.size_uses (size_tree s.now))) found.new }
 {
@@ -219,7 +222,7 @@ pub fn size(found: &mut Found, scope: &Scope, s: &Size)
 }
 
 /// The uses in an expression that may be missing.
-#[tactic(auto, using(crate::proofs::Finds::finds_none))]
+#[tactic(auto, using(first_fault::proofs::Finds::finds_none))]
 pub fn optional(found: &mut Found, scope: &Scope, e: &Option<Expression>)
     ensures { Finds found.old (uses_faults (scope_of scope.now) (option_map_or used.uses (option_map expression_tree e.now) [])) found.new }
 {
@@ -230,7 +233,7 @@ pub fn optional(found: &mut Found, scope: &Scope, e: &Option<Expression>)
 }
 
 /// The uses in a statement, without those in its blocks.
-#[tactic(auto, using(crate::proofs::Finds::finds_none, crate::proofs::Finds::finds_both, crate::proofs::Finds::finds_row))]
+#[tactic(auto, using(first_fault::proofs::Finds::finds_none, first_fault::proofs::Finds::finds_both, first_fault::proofs::Finds::finds_row))]
 pub fn statement(found: &mut Found, scope: &Scope, s: &Statement)
     ensures { Finds found.old (uses_faults (scope_of scope.now) (used.statement_uses (statement_tree s.now))) found.new }
 {

@@ -4,11 +4,13 @@ use Rattle.layer_ast.specs.View.{block_tree, expression_tree, names_tree, queue_
 use Rattle.layer_ast.specs.declared.syntax.Statement.{Statement}
 use Rattle.file_faults.specs.Scope as spec
 use Rattle.layer_names.specs.Blocks.{block_faults, inner_faults}
-use Rattle.layer_names.specs.Found.{Finds}
-use Rattle.layer_names.specs.Scope.{Declares, locals_of, scope_of}
-use Rattle.layer_names.specs.declared.scope.Local.{Local}
-use Rattle.layer_names.proofs.Blocks.{block_left, block_more, choose_inner, each_inner, statement_parts, take_inner, with_inner}
-use Rattle.layer_names.proofs.Finds.{finds_none}
+use Rattle.layer_names.specs.Found.{Finds, name_shown}
+use Rattle.layer_names.specs.Scope.{Declares}
+use Rattle.name_scope.specs.Scope.{locals_of, scope_of}
+use Rattle.name_scope.specs.declared.scope.Local.{Local}
+use Rattle.name_scope.proofs.Standing.{block_left}
+use Rattle.layer_names.proofs.Blocks.{block_more, choose_inner, each_inner, statement_parts, take_inner, with_inner}
+use Rattle.first_fault.proofs.Finds.{finds_none}
 use Rattle.layer_ast.proofs.StatementViews.{choose_tree, each_tree, emit_tree, set_square_tree, set_tree, take_tree}
 use Rattle.layer_names.proofs.block.+blocks.Goals as goal
 
@@ -55,7 +57,7 @@ inside-returns-in_ok-block-in-Each t c =
     subst (λ (x : StatementTree). Finds c.args.found.now (inner_faults s x) c.block-in-Each.new.found
     × (scope_of c.leave.new.self ≡ spec.scope_behind s x))
     (sym (ap statement_tree i.is ∙ each_tree i.at i.name i.below i.most i.first))
-    (each_inner s (scope_of c.bring-in-Each.new.self) (scope_of c.block-in-Each.new.scope) (scope_of c.leave.new.self) i.at i.name
+    (each_inner s (scope_of c.bring-in-Each.new.scope) (scope_of c.block-in-Each.new.scope) (scope_of c.leave.new.self) i.at i.name
     (expression_tree i.below) (size_tree i.most) (block_tree i.first) c.len-outer.result
     c.args.found.now c.bring-in-Each.new.found c.size.new.found c.block-in-Each.new.found
     c.len-outer.ensures brought c.size.ensures inner.0 inner.1 c.leave.ensures)
@@ -64,19 +66,19 @@ pub inside-returns-in-Set : goal.inside-returns-in-Set
 inside-returns-in-Set t c =
     let s = scope_of c.args.scope.now in
     subst (λ (x : StatementTree). Finds c.args.found.now (inner_faults s x) c.args.found.now × (s ≡ spec.scope_behind s x))
-    (sym (ap statement_tree c.in-Set.is ∙ set_tree _ _ _ _)) (finds_none c.args.found.now, refl)
+    (sym (ap statement_tree c.in-Set.is ∙ set_tree _ _ _ _)) (finds_none name_shown c.args.found.now, refl)
 
 pub inside-returns-in-SetSquare : goal.inside-returns-in-SetSquare
 inside-returns-in-SetSquare t c =
     let s = scope_of c.args.scope.now in
     subst (λ (x : StatementTree). Finds c.args.found.now (inner_faults s x) c.args.found.now × (s ≡ spec.scope_behind s x))
-    (sym (ap statement_tree c.in-SetSquare.is ∙ set_square_tree _ _ _ _ _)) (finds_none c.args.found.now, refl)
+    (sym (ap statement_tree c.in-SetSquare.is ∙ set_square_tree _ _ _ _ _)) (finds_none name_shown c.args.found.now, refl)
 
 pub inside-returns-in-Emit : goal.inside-returns-in-Emit
 inside-returns-in-Emit t c =
     let s = scope_of c.args.scope.now in
     subst (λ (x : StatementTree). Finds c.args.found.now (inner_faults s x) c.args.found.now × (s ≡ spec.scope_behind s x))
-    (sym (ap statement_tree c.in-Emit.is ∙ emit_tree _ _ _ _ _)) (finds_none c.args.found.now, refl)
+    (sym (ap statement_tree c.in-Emit.is ∙ emit_tree _ _ _ _ _)) (finds_none name_shown c.args.found.now, refl)
 
 pub statement-returns : goal.statement-returns
 statement-returns t c =
@@ -87,7 +89,7 @@ statement-returns t c =
     )
 
 pub statements-loop-s-init : goal.statements-loop-s-init
-statements-loop-s-init t c = (finds_none c.args.found.now, refl)
+statements-loop-s-init t c = (finds_none name_shown c.args.found.now, refl)
 
 pub statements-loop-s-preserved : goal.statements-loop-s-preserved
 statements-loop-s-preserved t c =
@@ -99,10 +101,10 @@ statements-loop-s-preserved t c =
 pub with_locals-returns : goal.with_locals-returns
 with_locals-returns t c =
     let s = scope_of c.args.scope.now in
-    let declares : Declares s c.args.found.now (locals_of c.args.locals.now.items) c.declare.new.found (scope_of c.declare.new.self) =
-    subst (λ (l : List Local). Declares s c.args.found.now (locals_of l) c.declare.new.found (scope_of c.declare.new.self))
+    let declares : Declares s c.args.found.now (locals_of c.args.locals.now.items) c.declare.new.found (scope_of c.declare.new.scope) =
+    subst (λ (l : List Local). Declares s c.args.found.now (locals_of l) c.declare.new.found (scope_of c.declare.new.scope))
     c.deref.ensures.value c.in_ok-declare.ensures in
     let inner = c.in_ok-block.ensures in
-    with_inner s (scope_of c.declare.new.self) (scope_of c.block.new.scope) (scope_of c.leave.new.self)
+    with_inner s (scope_of c.declare.new.scope) (scope_of c.block.new.scope) (scope_of c.leave.new.self)
     (locals_of c.args.locals.now.items) c.len-outer.result (block_tree c.args.b.now)
     c.args.found.now c.declare.new.found c.block.new.found c.len-outer.ensures declares inner.0 inner.1 c.leave.ensures

@@ -1,8 +1,8 @@
 use Rattle.std.proofs.Common.{◌≡◌, map, take}
 use Rattle.layer_ast.specs.View.{statement_tree, trees}
-use Rattle.layer_names.specs.Blocks.{block_faults, scope_behind_all}
+use Rattle.layer_names.specs.Blocks.{block_faults}
 use Rattle.layer_names.specs.Found.{Finds}
-use Rattle.layer_names.specs.Scope.{scope_of}
+use Rattle.name_scope.specs.Scope.{scope_of, scope_behind_all}
 use Rattle.layer_names.proofs.block.+blocks.Given as goal
 
 abbrev pub invariant-statements-loop-s : goal.invariant-statements-loop-s

@@ -3,8 +3,9 @@ use Rattle.layer_ast.specs.View.{declaration_tree}
 use Rattle.file_faults.specs.Forms.{items_of, labels_of}
 use Rattle.file_faults.specs.Limits.{capacity_in}
 use Rattle.file_faults.specs.NameFaults.{declaration_uses, row_faults, size_faults, too_many_of, twice_among, uses_faults}
-use Rattle.layer_names.specs.Scope.{scope_of}
-use Rattle.layer_names.proofs.Finds.{finds_both, finds_join}
+use Rattle.name_scope.specs.Scope.{scope_of}
+use Rattle.layer_names.specs.Found.{name_shown}
+use Rattle.first_fault.proofs.Finds.{finds_both, finds_join}
 use Rattle.layer_names.proofs.declaration.declaration.Goals as goal
 
 pub returns : goal.returns
@@ -12,9 +13,9 @@ returns c =
     let d = declaration_tree c.args.d.now in
     let u = uses_faults (scope_of c.args.scope.now) (declaration_uses d) in
     let k = flat_map size_faults (capacity_in d) in
-    finds_join c.args.found.now c.rows.new.found c.few_fields.new.found (u ++ k ++ row_faults (items_of d))
+    finds_join name_shown c.args.found.now c.rows.new.found c.few_fields.new.found (u ++ k ++ row_faults (items_of d))
     (twice_among [] (labels_of d)) (too_many_of 4 (labels_of d))
-    (finds_both c.args.found.now c.capacity.new.found c.rows.new.found (u ++ k) (row_faults (items_of d))
-    (finds_both c.args.found.now c.used.new.found c.capacity.new.found u k c.used.ensures c.capacity.ensures)
+    (finds_both name_shown c.args.found.now c.capacity.new.found c.rows.new.found (u ++ k) (row_faults (items_of d))
+    (finds_both name_shown c.args.found.now c.used.new.found c.capacity.new.found u k c.used.ensures c.capacity.ensures)
     c.in_ok-rows.ensures)
     c.in_ok-few_fields.ensures

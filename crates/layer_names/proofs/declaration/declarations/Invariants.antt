@@ -2,7 +2,7 @@ use Rattle.std.proofs.Common.{flat_map, map, take}
 use Rattle.layer_ast.specs.View.{declaration_tree}
 use Rattle.layer_names.specs.Declarations.{declaration_faults}
 use Rattle.layer_names.specs.Found.{Finds}
-use Rattle.layer_names.specs.Scope.{scope_of}
+use Rattle.name_scope.specs.Scope.{scope_of}
 use Rattle.layer_names.proofs.declaration.declarations.Given as goal
 
 abbrev pub invariant-loop-d : goal.invariant-loop-d

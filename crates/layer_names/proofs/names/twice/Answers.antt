@@ -4,9 +4,9 @@ use Rattle.layer_names.proofs.names.twice.Goals as goal
 
 pub loop-name-preserved : goal.loop-name-preserved
 loop-name-preserved c = (
-  twice_next c.args.found.now c.loop-name.found c.note_unless.new.self c.args.names.now c.loop-name.name-index c.name-item.result
+  twice_next c.args.found.now c.loop-name.found c.note_unless.new.found c.args.names.now c.loop-name.name-index c.name-item.result
       c.loop-name.seen c.is_some-known.result (search rules) (search rules) c.loop-name.invariant.1 (search rules)
       c.loop-name.invariant.0 c.note_unless.ensures,
   seen_next c.args.names.now c.loop-name.name-index c.name-item.result c.loop-name.seen c.push.new.self (search rules)
-      (search rules) c.loop-name.invariant.1 c.in_ok-push.ensures,
+      (search rules) c.loop-name.invariant.1 c.in_ok-push.ensures.pushed,
 )

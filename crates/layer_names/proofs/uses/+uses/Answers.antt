@@ -1,5 +1,5 @@
 use Rattle.std.proofs.Common.{rules}
-use Rattle.layer_names.proofs.Finds.{finds_both, finds_none, finds_row}
+use Rattle.first_fault.proofs.Finds.{finds_both, finds_none, finds_row}
 use Rattle.layer_names.proofs.uses.+uses.Goals as goal
 
 pub expression-returns-in-Some : goal.expression-returns-in-Some

@@ -3,7 +3,7 @@ use Rattle.layer_ast.specs.View.{argument_tree}
 use Rattle.file_faults.specs.NameFaults.{uses_faults}
 use Rattle.file_faults.specs.Uses as used
 use Rattle.layer_names.specs.Found.{Finds}
-use Rattle.layer_names.specs.Scope.{scope_of}
+use Rattle.name_scope.specs.Scope.{scope_of}
 use Rattle.layer_names.proofs.uses.each_argument.Given as goal
 
 abbrev pub invariant-loop-a : goal.invariant-loop-a

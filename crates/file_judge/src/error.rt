@@ -1,0 +1,65 @@
+//! Why a file is refused.
+
+ghost use Rattle.std.specs.Prelude.{◌≡◌};
+ghost use Rattle.file_judge.specs.declared.error.FileError.TheVariants.{Memory};
+
+use layer_ast::{At, Kind};
+use std::alloc::AllocError;
+use thiserror::Error;
+
+/// Why a file is refused: the first cause, in the order in which they stand here but that those at places in the text are told from
+/// each other by where they stand. The text is read first, then its names are judged, then its types, then the stack.
+#[derive(Clone, Copy, PartialEq, Eq, Debug, Error)]
+pub enum FileError {
+    #[error("too large")]
+    TooLarge,
+    /// A bad token begins here.
+    #[error("token {}:{}", .0.line, .0.col)]
+    BadToken(At),
+    /// The text stops being the beginning of a file here.
+    #[error("unexpected {}:{}", .0.line, .0.col)]
+    Unexpected(At),
+    /// A name isn't declared, or not visible here.
+    #[error("unknown {}:{}", .0.line, .0.col)]
+    Unknown(At),
+    /// A name or a handler is there already.
+    #[error("twice {}:{}", .0.line, .0.col)]
+    Twice(At),
+    /// One more than a limit allows.
+    #[error("limit {}:{}", .0.line, .0.col)]
+    OverLimit(At),
+    /// Something of another kind than is needed.
+    #[error("kind {}:{}", .0.line, .0.col)]
+    Kind(At),
+    /// Another number of arguments or names than is needed.
+    #[error("arity {}:{}", .0.line, .0.col)]
+    Arity(At),
+    /// A header where none may stand.
+    #[error("direction {}:{}", .0.line, .0.col)]
+    Direction(At),
+    /// A header that doesn't suit the message.
+    #[error("header {}:{}", .0.line, .0.col)]
+    Header(At),
+    /// An initial value that isn't made of what it may be made of.
+    #[error("initial {}:{}", .0.line, .0.col)]
+    Initial(At),
+    /// An event that comes to a place, counted from 0, and is of a kind can follow from itself.
+    #[error("an event at place {0} can follow from itself")]
+    Cycle(u8, Kind),
+    /// So many tasks can follow from one event, as far as 32 bits hold the number.
+    #[error("{0} tasks can follow from one event")]
+    TooMany(u32),
+    /// Too many joins can follow from one event.
+    #[error("joins")]
+    TooManyJoins,
+    #[error("no memory")]
+    Memory,
+}
+
+impl From<AllocError> for FileError {
+    ghost from_gives = { λ _ e. e ≡ Memory };
+
+    fn from(_: AllocError) -> FileError {
+        FileError::Memory
+    }
+}

@@ -1,0 +1,10 @@
+//! The judgement of layer files: bytes to an accepted stack, or to the first cause for which the file is refused.
+#![tactic(auto)]
+
+mod error;
+mod judgement;
+#[cfg(test)]
+mod tests;
+
+pub use error::FileError;
+pub use judgement::judge;

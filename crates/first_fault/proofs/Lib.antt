@@ -1,0 +1,5 @@
+pub mod Again
+pub mod Finds
+pub mod Firsts
+pub mod Moved
+pub mod Parts

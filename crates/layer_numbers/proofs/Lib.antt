@@ -1,0 +1,5 @@
+mod Views
+mod Rows
+mod Behind
+mod Blocks
+mod Stacks

@@ -1,0 +1,22 @@
+//! The layers that a file means, if its types are not at fault.
+
+ghost use Rattle.layer_ast.specs.Spells.{HasPlace};
+ghost use Rattle.layer_names.specs.Answer.{resolved_tree};
+ghost use Rattle.layer_typing.specs.Answer.{Checks};
+
+use crate::answer::judge;
+use crate::error::TypeError;
+use layer_names::Resolved;
+use layer_numbers::numbered;
+use std::alloc::Global;
+use typed_layer::Typed;
+
+/// The layers at the places of a file whose names are resolved, as members run them, if no type is at fault; else the first fault
+/// of the file's types in the order of the text.
+pub fn check(alloc: Global, resolved: Resolved) -> Result<Typed, TypeError>
+    requires { HasPlace (resolved_tree resolved) }
+    ensures { Checks (resolved_tree resolved) result }
+{
+    judge(alloc, &resolved)?;
+    Ok(numbered(alloc, resolved.file())?)
+}

@@ -1,0 +1,4 @@
+pub mod Finds
+pub mod Lists
+pub mod Places
+mod Slots

@@ -1,0 +1,4 @@
+pub mod Place
+pub mod Placed
+pub mod Scope
+pub mod Visible

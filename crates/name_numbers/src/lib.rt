@@ -1,0 +1,17 @@
+//! What names stand for in a layer at its place of a stack: numbers of cells, tags of headers, values of params, slots of what
+//! handlers declare; and expressions, messages and arguments with these in place of names.
+#![tactic(auto)]
+
+mod argument;
+mod declared;
+mod place;
+mod scope;
+mod value;
+mod visible;
+
+pub use argument::{carries, few, fields, last, numbers, numbers_of};
+pub use declared::field_count;
+pub use place::Place;
+pub use scope::{Names, Outer};
+pub use value::{argument_message, number, queue_index};
+pub use visible::Visible;

@@ -1,0 +1,80 @@
+//! The head of a handler: the names of its arguments, and those of the header that it takes off.
+
+ghost use Rattle.std.specs.Prelude.{◌≡◌, option_map, IfOk};
+ghost use Rattle.layer_ast.specs.View.{handler_tree, popped_tree};
+ghost use Rattle.file_faults.specs.Scope as spec;
+ghost use Rattle.name_scope.specs.Scope.{locals_of, scope_of};
+
+use crate::forms::declares_end;
+use crate::locals::{locals_as, number_locals};
+use crate::names::{listed, written};
+use crate::scope::{Local, Scope};
+use layer_ast::{Handler, Kind, Name, Popped, Sort};
+use std::alloc::{AllocError, Global};
+
+/// The sort of the message behind a popped header.
+fn sort_behind(scope: &Scope, popped: &Option<Popped>) -> Sort
+    ensures { result ≡ spec.sort_behind (scope_of scope.now).layer (option_map popped_tree popped.now) }
+{
+    match popped {
+        None => Sort::Msg,
+        Some(popped) => {
+            if declares_end(scope, &popped.name.word) {
+                Sort::Part
+            } else {
+                Sort::Msg
+            }
+        }
+    }
+}
+
+/// The sorts of a handler's arguments.
+fn argument_sorts(alloc: Global, scope: &Scope, handler: &Handler) -> Result<Vec<Sort>, AllocError>
+    ensures { IfOk result (λ all. all.items ≡ spec.argument_sorts (scope_of scope.now).layer (handler_tree handler.now)) }
+{
+    let mut sorts = Vec::new(alloc);
+    sorts.push(Sort::Int)?;
+    match handler.kind {
+        Kind::Cast | Kind::Send => sorts.push(sort_behind(scope, &handler.popped))?,
+        Kind::Stable | Kind::Ack => sorts.push(Sort::Int)?,
+        _ => {}
+    }
+    Ok(sorts)
+}
+
+/// The names of the fields of a popped header.
+fn popped_names(alloc: Global, popped: &Option<Popped>) -> Result<Vec<Name>, AllocError>
+    ensures { IfOk result (λ all. all.items ≡ spec.popped_names (option_map popped_tree popped.now)) }
+{
+    match popped {
+        None => Ok(Vec::new(alloc)),
+        Some(popped) => listed(alloc, &popped.fields),
+    }
+}
+
+/// The names that the head of a handler declares.
+pub fn head_names(alloc: Global, handler: &Handler) -> Result<Vec<Name>, AllocError>
+    ensures { IfOk result (λ all. all.items ≡ spec.head_names (handler_tree handler.now)) }
+{
+    let mut names = written(alloc, &handler.names)?;
+    let fields = popped_names(alloc, &handler.popped)?;
+    names.extend_from_slice(&fields)?;
+    Ok(names)
+}
+
+/// The locals that the head of a handler declares.
+#[tactic(auto, using(crate::proofs::Sorted::behind))]
+pub fn head_locals(
+    alloc: Global,
+    scope: &Scope,
+    handler: &Handler,
+) -> Result<Vec<Local>, AllocError>
+    ensures { IfOk result (λ all. locals_of all.items ≡ (spec.head_scope (scope_of scope.now).layer (handler_tree handler.now)).locals) }
+{
+    let sorts = argument_sorts(alloc, scope, handler)?;
+    let mut locals = locals_as(alloc, &sorts, &handler.names)?;
+    let names = popped_names(alloc, &handler.popped)?;
+    let fields = number_locals(alloc, &names)?;
+    locals.extend_from_slice(&fields)?;
+    Ok(locals)
+}
