@@ -1,1 +1,6 @@
-pub mod Finds
+pub mod Acts
+pub mod Needs
+pub mod Ones
+pub mod Sizes
+pub mod Trees
+pub mod Visits

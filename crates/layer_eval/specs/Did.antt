@@ -1,11 +1,43 @@
--- What the running of statements leaves.
-use Rattle.std.specs.Prelude.{◌≡◌, List, ◌++◌}
-use Rattle.layer_ast.specs.declared.tokens.Dir.{Dir}
-use Rattle.first_mean.specs.declared.run.Event.{Event}
-use Rattle.first_mean.specs.State.{State}
-use Rattle.first_mean.specs.Effect.{Outcome}
+-- What statements and visits leave at a desk.
+use Rattle.std.specs.Prelude.{◌≡◌, ℕ, Bool, true, false, ◌&&◌, List, ◌++◌}
+use Rattle.layer_ast.specs.declared.syntax.Likely.{Likely}
+use Rattle.layer_ast.specs.declared.syntax.Likely.TheVariants as likely
+use Rattle.layer_mean.specs.declared.run.Case.TheVariants.{First, Second}
+use Rattle.layer_mean.specs.Tree.{StatementTree, StatementTrees}
+use Rattle.layer_mean.specs.Effect.{Decision, usual, unusual, forked, all_as, Outcome, in_order, does, acts}
+use Rattle.layer_desk.specs.Laid.{Laid}
+use Rattle.layer_eval.specs.declared.predicted.Predicted.{Predicted}
 
--- An outcome has come about: its state is reached, and its events are sent behind those before.
-pub record Did (o : Outcome) (reached : State) (before behind : List (Dir × Event)) : Type 0 where
-  pub state : reached ≡ o.state
-  pub sent : behind ≡ before ++ o.sent
+-- Whether decisions went as predicted, in each case.
+abbrev pub as_predicted : List Decision → Predicted
+as_predicted ds = record { first = all_as First ds; second = all_as Second ds }
+
+-- What was decided before, and what was decided behind it.
+abbrev pub both : Predicted → Predicted → Predicted
+both p q = record { first = p.first && q.first; second = p.second && q.second }
+
+-- The decision that a condition is.
+abbrev pub decision : Bool → Likely → Decision
+decision true likely.First = usual
+decision true likely.Else = unusual
+decision true likely.Two = forked First
+decision false likely.First = unusual
+decision false likely.Else = usual
+decision false likely.Two = forked Second
+
+-- What a statement does to what lies on a desk, and what a block does.
+abbrev pub statement_does : ℕ → StatementTree → Laid → Outcome
+statement_does place x p = does place x p.state p.scope
+
+abbrev pub block_does : ℕ → StatementTrees → Laid → Outcome
+block_does place b p = in_order (acts place b) p.state p.scope
+
+-- An outcome came about: its state and its scope lie there, its events were sent behind the others, the hand is as before, and its
+-- decisions went as predicted or not.
+pub record Did (o : Outcome) (old new : Laid) (p : Predicted) : Type 0 where
+  pub state : new.state ≡ o.state
+  pub scope : new.scope ≡ o.scope
+  pub arrived : new.arrived ≡ old.arrived
+  pub hand : new.hand ≡ old.hand
+  pub sent : new.sent ≡ old.sent ++ o.sent
+  pub predicted : p ≡ as_predicted o.decided

@@ -1,3 +1,3 @@
-pub mod LayerAt
-pub mod Codes
+pub mod Worth
 pub mod Did
+pub mod Visit

@@ -1,181 +1,229 @@
 //! What statements do.
 
-ghost use Rattle.std.specs.Prelude.{◌≡◌, [], ◌∷◌, ◌++◌, IfOk, OnOk, map};
-ghost use Rattle.first_mean.specs.Effect.{does, does_all, sent_as};
-ghost use Rattle.first_mean.specs.Value.{val};
-ghost use Rattle.first_mean.specs.View.{expression_tree, statement_tree};
-ghost use Rattle.layer_eval.specs.Did.{Did};
+ghost use Rattle.std.specs.Prelude.{◌≡◌, true, Option, IfOk, OnOk};
+ghost use Rattle.msg_core.specs.Chain.{Content as Bytes};
+ghost use Rattle.layer_mean.specs.Event.{event_of};
+ghost use Rattle.layer_mean.specs.State.{has_room};
+ghost use Rattle.layer_mean.specs.Effect.{row_of, emitted};
+ghost use Rattle.typed_layer.specs.View.{row_tree, emission_tree, statement_tree, block_tree};
+ghost use Rattle.layer_desk.specs.Laid.{event_in, queued, sends};
+ghost use Rattle.layer_desk.specs.Need.{push_need, emission_need, statement_need, block_need};
+ghost use Rattle.layer_desk.specs.Spent.{Spent};
+ghost use Rattle.layer_eval.specs.Did.{Did, statement_does, block_does};
 
-use crate::emits::Emits;
-use crate::entered::Entered;
-use crate::value::number;
-use cell_store::Cells;
-use first_mean::{Event, FieldExpressions, Statement};
-use layer_ast::{Dir, Kind};
-use msg_core::{Fields, Header, Memory, Message};
-use std::alloc::Global;
+use crate::message::make;
+use crate::predicted::Predicted;
+use crate::value::{fields, number};
+use layer_ast::Kind;
+use layer_desk::{Desk, Envelope, NoRoom, Start};
+use msg_core::{Fields, Header};
+use slot_pool::Pool;
+use typed_layer::{Block, Emission, Row, Statement};
 
-/// Runs the block of a handler of the layer at `place`, in order. A last statement that sends takes the
-/// message itself and not a copy.
-pub fn run_block(
-    alloc: Global,
+/// Runs the statements of a block of the layer at a place, and says how its decisions went.
+#[cycle(effect)]
+pub fn run_block<K: Start, D: Desk>(
     place: u8,
-    block: &[Statement],
-    cells: &mut Cells,
-    entered: Entered,
-    out: &mut Emits,
-) -> Result<(), Memory>
-    ensures { OnOk result (
-        Did (does_all place entered (map statement_tree block.now) cells.old) cells.new out.old out.new
-        ) }
+    block: &Block,
+    desk: &mut D,
+    pool: &mut Pool,
+) -> Result<Predicted, NoRoom>
+    requires { D.ready K.begun pool.old desk.old }
+    ensures ready { D.ready K.begun pool.new desk.new }
+    ensures did { IfOk result (Did (block_does place (block_tree block.now) (D.shown pool.old desk.old))
+        (D.shown pool.old desk.old) (D.shown pool.new desk.new)) }
+    ensures spent { Spent (D.free pool.old desk.old) (D.free pool.new desk.new)
+        (block_need K.begun.layout (block_tree block.now)) result }
 {
-    let Some((last, before)) = block.split_last() else {
-        return Ok(());
-    };
-    run_all(alloc, place, before, cells, &entered, out)?;
-    run_last(alloc, place, last, cells, entered, out)?;
-    Ok(())
-}
-
-fn run_all(
-    alloc: Global,
-    place: u8,
-    statements: &[Statement],
-    cells: &mut Cells,
-    entered: &Entered,
-    out: &mut Emits,
-) -> Result<(), Memory>
-    ensures { OnOk result (
-        Did (does_all place entered.now (map statement_tree statements.now) cells.old) cells.new out.old out.new
-        ) }
-{
-    for statement in statements {
-        run_one(alloc, place, statement, cells, entered, out)?;
+    let mut predicted = Predicted::usual();
+    for statement in block.statements.as_slice() {
+        let own = run_statement::<K, D>(place, statement, desk, pool)?;
+        predicted = predicted.and(own);
     }
-    Ok(())
+    Ok(predicted)
 }
 
-fn run_one(
-    alloc: Global,
+#[cycle(effect)]
+fn run_statement<K: Start, D: Desk>(
     place: u8,
     statement: &Statement,
-    cells: &mut Cells,
-    entered: &Entered,
-    out: &mut Emits,
-) -> Result<(), Memory>
-    ensures { OnOk result (
-        Did (does place entered.now (statement_tree statement.now) cells.old) cells.new out.old out.new
-        ) }
+    desk: &mut D,
+    pool: &mut Pool,
+) -> Result<Predicted, NoRoom>
+    requires { D.ready K.begun pool.old desk.old }
+    ensures ready { D.ready K.begun pool.new desk.new }
+    ensures did { IfOk result (Did (statement_does place (statement_tree statement.now) (D.shown pool.old desk.old))
+        (D.shown pool.old desk.old) (D.shown pool.new desk.new)) }
+    ensures spent { Spent (D.free pool.old desk.old) (D.free pool.new desk.new)
+        (statement_need K.begun.layout (statement_tree statement.now)) result }
 {
     match statement {
-        Statement::Set { cell, index, value } => {
-            let index = number(index, cells, entered);
-            let value = number(value, cells, entered);
-            cells.set(*cell, index, value);
-            Ok(())
+        Statement::Bind { slot, value } => {
+            let value = number::<K, D>(value, desk, pool);
+            desk.bind::<K>(pool, *slot, value);
+            Ok(Predicted::usual())
         }
-        Statement::Emit {
-            dir,
-            kind,
-            peer,
-            tag,
-            fields,
+        Statement::Set { cell, value } => {
+            let value = number::<K, D>(value, desk, pool);
+            desk.assign::<K>(pool, *cell, 0, value);
+            Ok(Predicted::usual())
+        }
+        Statement::SetElement { cell, index, value } => {
+            let index = number::<K, D>(index, desk, pool);
+            let value = number::<K, D>(value, desk, pool);
+            desk.assign::<K>(pool, *cell, index, value);
+            Ok(Predicted::usual())
+        }
+        Statement::SetSquare {
+            cell,
+            row,
+            column,
+            value,
         } => {
-            let peer = number(peer, cells, entered);
-            let header = header(place, *tag, fields, cells, entered);
-            let message = entered.message().copy(alloc)?;
-            send(*dir, *kind, peer, header, message, out)?;
-            Ok(())
+            let row = number::<K, D>(row, desk, pool);
+            let column = number::<K, D>(column, desk, pool);
+            let value = number::<K, D>(value, desk, pool);
+            desk.assign_square::<K>(pool, *cell, row, column, value);
+            Ok(Predicted::usual())
+        }
+        Statement::Push {
+            cell,
+            index,
+            capacity,
+            row,
+            otherwise,
+        } => {
+            let index = number::<K, D>(index, desk, pool);
+            if desk.has_room::<K>(pool, *cell, index, *capacity) {
+                push::<K, D>(*cell, index, *capacity, row, desk, pool)?;
+                Ok(Predicted::usual())
+            } else {
+                run_block::<K, D>(place, otherwise, desk, pool)?;
+                Ok(Predicted::unusual())
+            }
+        }
+        Statement::Take {
+            cell,
+            index,
+            taken,
+            block,
+            otherwise,
+        } => {
+            let index = number::<K, D>(index, desk, pool);
+            if desk.take::<K>(pool, *cell, index, taken)? {
+                run_block::<K, D>(place, block, desk, pool)
+            } else {
+                run_block::<K, D>(place, otherwise, desk, pool)?;
+                Ok(Predicted::unusual())
+            }
+        }
+        Statement::Branch {
+            likely,
+            condition,
+            block,
+            otherwise,
+        } => {
+            if number::<K, D>(condition, desk, pool) != 0 {
+                let behind = run_block::<K, D>(place, block, desk, pool)?;
+                Ok(Predicted::chosen(true, *likely).and(behind))
+            } else {
+                let behind = run_block::<K, D>(place, otherwise, desk, pool)?;
+                Ok(Predicted::chosen(false, *likely).and(behind))
+            }
+        }
+        Statement::Each {
+            slot,
+            below,
+            most,
+            block,
+        } => {
+            let turns = number::<K, D>(below, desk, pool).min(u32::from(*most));
+            for turn in 0..turns {
+                desk.bind::<K>(pool, *slot, turn);
+                run_block::<K, D>(place, block, desk, pool)?;
+            }
+            Ok(Predicted::unusual())
+        }
+        Statement::Emit(emission) => {
+            emit::<K, D>(place, emission, desk, pool)?;
+            Ok(Predicted::usual())
         }
     }
 }
 
-/// Runs a statement behind which the message is of no use.
-fn run_last(
-    alloc: Global,
+/// Puts a row at the back of a queue that has room for it.
+fn push<K: Start, D: Desk>(
+    cell: u8,
+    index: u32,
+    capacity: u8,
+    row: &Row,
+    desk: &mut D,
+    pool: &mut Pool,
+) -> Result<(), NoRoom>
+    requires ready { D.ready K.begun pool.old desk.old }
+    requires room { has_room (D.shown pool.old desk.old).state cell index capacity ≡ true }
+    ensures ready { D.ready K.begun pool.new desk.new }
+    ensures shown { OnOk result (D.shown pool.new desk.new ≡ queued cell index
+        (row_of (row_tree row.now) (D.shown pool.old desk.old).state (D.shown pool.old desk.old).scope) (D.shown pool.old desk.old)) }
+    ensures spent { Spent (D.free pool.old desk.old) (D.free pool.new desk.new)
+        (push_need K.begun.layout cell capacity (row_tree row.now)) result }
+{
+    let numbers = fields::<K, D>(&row.numbers, desk, pool);
+    match &row.message {
+        None => desk.push::<K>(pool, cell, index, capacity, numbers),
+        Some(message) => {
+            make::<K, D>(message, desk, pool)?;
+            desk.push_first::<K>(pool, cell, index, capacity, numbers)
+        }
+    }
+}
+
+/// Sends an event, whose arguments are evaluated at once.
+fn emit<K: Start, D: Desk>(
     place: u8,
-    statement: &Statement,
-    cells: &mut Cells,
-    entered: Entered,
-    out: &mut Emits,
-) -> Result<(), Memory>
-    ensures { OnOk result (
-        Did (does place entered (statement_tree statement.now) cells.old) cells.new out.old out.new
-        ) }
+    emission: &Emission,
+    desk: &mut D,
+    pool: &mut Pool,
+) -> Result<(), NoRoom>
+    requires { D.ready K.begun pool.old desk.old }
+    ensures ready { D.ready K.begun pool.new desk.new }
+    ensures shown { OnOk result (D.shown pool.new desk.new ≡ sends emission.now.direction
+        (emitted place (emission_tree emission.now) (D.shown pool.old desk.old).state (D.shown pool.old desk.old).scope)
+        (D.shown pool.old desk.old)) }
+    ensures spent { Spent (D.free pool.old desk.old) (D.free pool.new desk.new) (emission_need (emission_tree emission.now)) result }
 {
-    match statement {
-        Statement::Emit {
-            dir,
-            kind,
-            peer,
-            tag,
-            fields,
-        } => {
-            let peer = number(peer, cells, &entered);
-            let header = header(place, *tag, fields, cells, &entered);
-            send(*dir, *kind, peer, header, entered.into_message(), out)?;
-            Ok(())
+    let numbers = fields::<K, D>(&emission.numbers, desk, pool);
+    let envelope = envelope(emission.kind, &numbers);
+    match &emission.content {
+        None => desk.send::<K>(pool, emission.direction, envelope),
+        Some(content) => {
+            let header = Header {
+                layer: place,
+                tag: content.tag,
+                fields: fields::<K, D>(&content.fields, desk, pool),
+            };
+            make::<K, D>(&content.message, desk, pool)?;
+            desk.send_first::<K>(pool, emission.direction, envelope, header)
         }
-        other => run_one(alloc, place, other, cells, &entered, out),
     }
 }
 
-/// Sends a message, going down behind `header`.
-fn send(
-    dir: Dir,
-    kind: Kind,
-    peer: u32,
-    header: Header,
-    message: Message,
-    out: &mut Emits,
-) -> Result<(), Memory>
-    ensures { OnOk result (
-        out.new ≡ out.old ++
-        (dir, record { kind = kind; peer = peer; message = sent_as dir header message }) ∷ []
-        ) }
+/// An event of a kind with these number arguments, in the order in which they are written.
+fn envelope(kind: Kind, numbers: &Fields) -> Envelope
+    ensures { (message : Option Bytes) → event_in result message ≡ event_of kind numbers.now message }
 {
-    let message = sent_as(dir, header, message)?;
-    out.push(
-        dir,
-        Event {
+    match kind {
+        Kind::Cast | Kind::Send => Envelope {
             kind,
-            peer,
-            message,
+            peer: numbers.at(0),
+            a: 0,
+            b: 0,
         },
-    )
-}
-
-fn header(place: u8, tag: u8, fields: &FieldExpressions, cells: &Cells, entered: &Entered) -> Header
-    ensures { result ≡ record {
-      layer = place;
-      tag = tag;
-      fields = map (λ e. val e cells.now entered.now) (map expression_tree fields.now);
-    } }
-{
-    Header {
-        layer: place,
-        tag,
-        fields: numbers(fields, cells, entered),
+        _ => Envelope {
+            kind,
+            peer: 0,
+            a: numbers.at(0),
+            b: numbers.at(1),
+        },
     }
-}
-
-fn numbers(expressions: &FieldExpressions, cells: &Cells, entered: &Entered) -> Fields
-    ensures { result ≡ map (λ e. val e cells.now entered.now) (map expression_tree expressions.now) }
-{
-    let mut fields = Fields::none();
-    for expression in expressions.slice() {
-        fields.push(number(expression, cells, entered));
-    }
-    fields
-}
-
-/// Going down a message gets the header of the layer that sends it.
-pub fn sent_as(dir: Dir, header: Header, message: Message) -> Result<Message, Memory>
-    ensures { IfOk result (λ m. m ≡ sent_as dir header message) }
-{
-    let mut message = message;
-    if dir == Dir::Down {
-        message.push_header(header)?;
-    }
-    Ok(message)
 }

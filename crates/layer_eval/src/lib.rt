@@ -1,15 +1,11 @@
-//! One visit of a layer: the event that comes in runs its handler's block, which writes cells and
-//! sends events to the neighbours.
+//! One visit of a layer, as members run it: the event that comes in runs its handler's block at a desk.
 #![tactic(auto)]
 
 mod effect;
-mod emits;
-mod entered;
-mod file_layer;
-#[cfg(test)]
-mod tests;
+mod message;
+mod predicted;
 mod value;
 mod visit;
 
-pub use emits::Emits;
-pub use file_layer::FileLayer;
+pub use predicted::Predicted;
+pub use visit::take_event;

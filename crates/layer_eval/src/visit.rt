@@ -1,138 +1,181 @@
-//! The choice of a handler, and what it is entered with.
+//! One visit: what a layer meets, the handler for it, and what is done without one.
 
-ghost use Rattle.std.specs.Prelude.{◌≡◌, ◌∷◌, ◌++◌, OnOk, option_map};
-ghost use Rattle.std.specs.Option.{option_copied};
-ghost use Rattle.std.specs.List.{find};
-ghost use Rattle.msg_core.specs.Chain.{Content};
-ghost use Rattle.first_mean.specs.View.{layer_tree, handler_tree};
-ghost use Rattle.first_mean.specs.Visit.{step, met, is_for, unhandled};
-ghost use Rattle.layer_eval.specs.Did.{Did};
+ghost use Rattle.std.specs.Prelude.{◌≡◌, ◌+◌, length, IfOk};
+ghost use Rattle.layer_mean.specs.Visit.{met};
+ghost use Rattle.typed_layer.specs.View.{expected_tree, handler_tree, layer_tree};
+ghost use Rattle.layer_desk.specs.Need.{handler_need, passing_need};
+ghost use Rattle.slot_pool.specs.References.{Moved};
+ghost use Rattle.layer_desk.specs.Spent.{SpentAtMost, Spent, Suffices};
+ghost use Rattle.layer_eval.specs.Did.{as_predicted};
+ghost use Rattle.layer_eval.specs.Visit.{Visits, visited, needed, meets, IsPopped, expected_decisions, handler_visited, passed};
 
-use crate::effect::{run_block, sent_as};
-use crate::emits::Emits;
-use crate::entered::Entered;
-use cell_store::Cells;
-use first_mean::{Event, Handler, Layer};
-use layer_ast::{Dir, Kind};
-use msg_core::{Fields, Header, Memory, Message};
-use std::alloc::Global;
-use std::marker::Model;
+use crate::effect::run_block;
+use crate::predicted::Predicted;
+use crate::value::number;
+use layer_ast::Dir;
+use layer_desk::{Desk, Envelope, NoRoom, Start};
+use msg_core::{Fields, Header};
+use slot_pool::Pool;
+use std::marker::Brand;
+use typed_layer::{Expected, Handler, TypedLayer};
 
-/// One visit of the layer at `place`: the handler for the event runs its block; with no handler the
-/// event passes, or is dropped.
-#[tactic(auto, unfolding(first_mean::specs::Visit::step))]
-pub fn visit(
-    alloc: Global,
+/// The layer at a place takes an event, whose message has arrived at its desk: the handler for its direction, kind and popped header
+/// runs its block; without one the event passes, or is dropped. Says whether that went as predicted. No memory is taken.
+pub fn take_event<D: Desk>(
     place: u8,
-    layer: &Layer,
-    cells: &mut Cells,
-    dir: Dir,
-    event: Event,
-    out: &mut Emits,
-) -> Result<(), Memory>
-    ensures { OnOk result (Did (step place (layer_tree layer.now) cells.old dir event) cells.new out.old out.new) }
+    layer: &TypedLayer,
+    direction: Dir,
+    envelope: Envelope,
+    desk: &mut D,
+    pool: &mut Pool,
+) -> Predicted
+    requires ready { D.ready (record { pool = pool.old; refs = D.refs desk.old; layout = D.layout desk.old }) pool.old desk.old }
+    requires room { Suffices (D.free pool.old desk.old)
+        (needed (D.layout desk.old) (layer_tree layer.now) direction envelope (D.shown pool.old desk.old)) }
+
+    // What lies at the desk, and what it says, is what the definition of a visit has.
+    ensures visited { Visits (visited place (layer_tree layer.now) direction envelope (D.shown pool.old desk.old))
+        (D.shown pool.old desk.old) (D.shown pool.new desk.new) result }
+    ensures spent { SpentAtMost (D.free pool.old desk.old) (D.free pool.new desk.new)
+        (needed (D.layout desk.old) (layer_tree layer.now) direction envelope (D.shown pool.old desk.old)) }
+
+    // Each event that was sent has taken one place.
+    ensures places { (D.free pool.new desk.new).places
+        + length (visited place (layer_tree layer.now) direction envelope (D.shown pool.old desk.old)).sent ≡ (D.free pool.old desk.old).places }
+    ensures moved { Moved pool.old pool.new (D.refs desk.old) (D.refs desk.new) }
+    ensures layout { D.layout desk.new ≡ D.layout desk.old }
+    ensures ready { D.ready (record { pool = pool.old; refs = D.refs desk.old; layout = D.layout desk.old }) pool.new desk.new }
 {
-    let Event {
-        kind,
-        peer,
-        message,
-    } = event;
-    let met = meet(dir, message);
-    match handler_for(layer, dir, kind, &met) {
-        Some(handler) => {
-            let entered = enter(peer, met);
-            run_block(alloc, place, &handler.block, cells, entered, out)
-        }
-        None => {
-            pass(place, dir, kind, peer, met, out)?;
-            Ok(())
-        }
+    match take_from::<Brand, D>(place, layer, direction, envelope, desk, pool) {
+        Ok(says) => says,
+        Err(_) => unreachable!(),
     }
 }
 
-/// An event's message as its layer meets it: going up without its first header, whose tag and fields
-/// stand here. Without a header the tag is 0.
+/// The same where room may be wanting.
+fn take_from<K: Start, D: Desk>(
+    place: u8,
+    layer: &TypedLayer,
+    direction: Dir,
+    envelope: Envelope,
+    desk: &mut D,
+    pool: &mut Pool,
+) -> Result<Predicted, NoRoom>
+    requires { D.ready K.begun pool.old desk.old }
+    ensures ready { D.ready K.begun pool.new desk.new }
+    ensures visited { IfOk result (Visits (visited place (layer_tree layer.now) direction envelope (D.shown pool.old desk.old))
+        (D.shown pool.old desk.old) (D.shown pool.new desk.new)) }
+    ensures spent { Spent (D.free pool.old desk.old) (D.free pool.new desk.new)
+        (needed K.begun.layout (layer_tree layer.now) direction envelope (D.shown pool.old desk.old)) result }
+{
+    let Popped { tag, fields } = meet::<K, D>(direction, desk, pool);
+    match layer.handlers.find(direction, envelope.kind, tag) {
+        Some(handler) => run_handler::<K, D>(place, handler, envelope, &fields, desk, pool),
+        None => pass::<K, D>(place, direction, envelope, tag, desk, pool),
+    }
+}
+
+/// What a popped header says; the tag is 0 where none was popped.
 #[derive(Drop)]
-struct Met {
+struct Popped {
     tag: u8,
     fields: Fields,
-    message: Message,
 }
 
-impl Model for Met {
-    ghost use Rattle.first_mean.specs.Visit.{Met as Meeting};
-
-    ghost Value = { Meeting };
-
-    ghost view = { λ m. record { tag = m.tag; fields = m.fields; message = m.message } };
-}
-
-fn meet(dir: Dir, message: Message) -> Met
-    ensures { result ≡ met dir message }
+/// Going up the layer's header is popped.
+fn meet<K: Start, D: Desk>(direction: Dir, desk: &mut D, pool: &Pool) -> Popped
+    requires { D.ready K.begun pool.now desk.old }
+    ensures ready { D.ready K.begun pool.now desk.new }
+    ensures tag { result.tag ≡ (met direction (D.shown pool.now desk.old).arrived).tag }
+    ensures fields { result.fields ≡ (met direction (D.shown pool.now desk.old).arrived).fields }
+    ensures popped { IsPopped result.tag (met direction (D.shown pool.now desk.old).arrived).message }
+    ensures shown { D.shown pool.now desk.new ≡ meets direction (D.shown pool.now desk.old) }
+    ensures free { D.free pool.now desk.new ≡ D.free pool.now desk.old }
 {
-    let mut message = message;
-    let popped = match dir {
-        Dir::Up => message.pop_header(),
+    let popped = match direction {
+        Dir::Up => desk.pop_header::<K>(pool),
         Dir::Down => None,
     };
-    let (tag, fields) = match popped {
-        Some(header) => (header.tag, header.fields),
-        None => (0, Fields::none()),
-    };
-    Met {
-        tag,
-        fields,
-        message,
+    match popped {
+        Some(header) => Popped {
+            tag: header.tag,
+            fields: header.fields,
+        },
+        None => Popped {
+            tag: 0,
+            fields: Fields::none(),
+        },
     }
 }
 
-fn enter(peer: u32, met: Met) -> Entered
-    ensures { result ≡ record { numbers = peer ∷ met.fields; message = met.message } }
+/// Enters a handler's block and runs it.
+fn run_handler<K: Start, D: Desk>(
+    place: u8,
+    handler: &Handler,
+    envelope: Envelope,
+    fields: &Fields,
+    desk: &mut D,
+    pool: &mut Pool,
+) -> Result<Predicted, NoRoom>
+    requires { D.ready K.begun pool.old desk.old }
+    ensures ready { D.ready K.begun pool.new desk.new }
+    ensures visited { IfOk result (Visits (handler_visited place (handler_tree handler.now) envelope fields.now (D.shown pool.old desk.old))
+        (D.shown pool.old desk.old) (D.shown pool.new desk.new)) }
+    ensures spent { Spent (D.free pool.old desk.old) (D.free pool.new desk.new)
+        (handler_need K.begun.layout (handler_tree handler.now) (D.shown pool.old desk.old).arrived) result }
 {
-    let Met {
-        tag: _,
-        fields,
-        message,
-    } = met;
-    Entered {
-        peer,
-        fields,
-        message,
+    desk.enter::<K>(pool, envelope, fields, handler.numbers, handler.messages)?;
+    let expected = expect::<K, D>(&handler.expected, desk, pool);
+    let behind = run_block::<K, D>(place, &handler.block, desk, pool)?;
+    desk.leave::<K>(pool);
+    Ok(expected.and(behind))
+}
+
+/// Whether a handler is as expected at its entry.
+fn expect<K: Start, D: Desk>(expected: &Expected, desk: &D, pool: &Pool) -> Predicted
+    requires { D.ready K.begun pool.now desk.now }
+    ensures { result ≡ as_predicted (expected_decisions (expected_tree expected.now) (D.shown pool.now desk.now)) }
+{
+    match expected {
+        Expected::Always => Predicted::usual(),
+        Expected::Common(condition) => {
+            if number::<K, D>(condition, desk, pool) != 0 {
+                Predicted::usual()
+            } else {
+                Predicted::unusual()
+            }
+        }
+        Expected::Rare => Predicted::unusual(),
     }
 }
 
-fn handler_for<'l>(layer: &'l Layer, dir: Dir, kind: Kind, met: &Met) -> Option<&'l Handler>
-    ensures { option_copied result ≡ find (λ h. is_for dir kind met.now.tag (handler_tree h)) layer.now.handlers.items }
+/// Without a handler an event passes on: going down behind the layer's header `none`, going up where that was popped. Behind another
+/// header it is dropped, which is never predicted.
+fn pass<K: Start, D: Desk>(
+    place: u8,
+    direction: Dir,
+    envelope: Envelope,
+    tag: u8,
+    desk: &mut D,
+    pool: &mut Pool,
+) -> Result<Predicted, NoRoom>
+    requires ready { D.ready K.begun pool.old desk.old }
+    requires popped { IsPopped tag (D.shown pool.old desk.old).arrived }
+    ensures ready { D.ready K.begun pool.new desk.new }
+    ensures visited { IfOk result (Visits (passed place direction envelope tag (D.shown pool.old desk.old))
+        (D.shown pool.old desk.old) (D.shown pool.new desk.new)) }
+    ensures spent { Spent (D.free pool.old desk.old) (D.free pool.new desk.new) (passing_need (D.shown pool.old desk.old).arrived) result }
 {
-    let tag = met.tag;
-    layer.handlers.iter().find(|handler| handler.dir == dir
-        && handler.kind == kind
-        && handler.tag == tag)
-}
-
-/// An event without a handler: going down it gets the layer's header `none`, and going up it passes
-/// where `none` was popped and is dropped otherwise.
-fn pass(place: u8, dir: Dir, kind: Kind, peer: u32, met: Met, out: &mut Emits) -> Result<(), Memory>
-    ensures { OnOk result (
-        (before : Content) → out.new ≡
-        out.old ++ unhandled place dir (record { kind = kind; peer = peer; message = before }) met
-        ) }
-{
-    if dir == Dir::Up && met.tag != 0 {
-        return Ok(());
+    if direction == Dir::Up && tag != 0 {
+        desk.leave::<K>(pool);
+        return Ok(Predicted::unusual());
     }
     let none = Header {
         layer: place,
         tag: 0,
         fields: Fields::none(),
     };
-    let message = sent_as(dir, none, met.message)?;
-    out.push(
-        dir,
-        Event {
-            kind,
-            peer,
-            message,
-        },
-    )
+    desk.pass_on::<K>(pool, direction, envelope, none)?;
+    desk.leave::<K>(pool);
+    Ok(Predicted::usual())
 }

@@ -1,0 +1,13 @@
+//! The desk that a layer works at while it takes an event: its cells, the scope of its block, the messages in hand and what it
+//! sends. All bodies of messages stand in a pool beside the desk.
+#![tactic(auto)]
+
+mod desk;
+mod envelope;
+mod laws;
+mod no_room;
+
+pub use desk::{Desk, Start};
+pub use envelope::Envelope;
+pub use laws::places_are_of_emissions;
+pub use no_room::NoRoom;

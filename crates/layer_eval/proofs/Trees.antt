@@ -1,0 +1,28 @@
+-- The trees that branches and loops of a program are.
+use Rattle.std.proofs.Common.{◌≡◌, ℕ, sym, ap, ap₂, ◌∙◌}
+use Rattle.layer_ast.specs.declared.syntax.Likely.{Likely}
+use Rattle.layer_mean.specs.Tree.{StatementTree, StatementTrees, branch, each}
+use Rattle.typed_layer.specs.declared.tree.Block.{Block}
+use Rattle.typed_layer.specs.declared.tree.Expression.{Expression}
+use Rattle.typed_layer.specs.declared.tree.Statement.TheFolds.{fold-Block, fold-roll-Statement, fold_out-Block}
+use Rattle.typed_layer.specs.declared.tree.Statement.TheOpen as layer
+use Rattle.typed_layer.specs.declared.tree.Statement.TheVariants as rust
+use Rattle.typed_layer.specs.View.{expression_tree, statement_of, block_of, statement_tree, block_tree}
+
+-- a block is the statements that it has
+block_is : (block : Block) → fold-Block StatementTree StatementTrees statement_of block_of block ≡ block_tree block
+block_is block = fold_out-Block StatementTree StatementTrees statement_of block_of block
+
+pub branch_tree : (x : Likely) (condition : Expression) (block otherwise : Block) →
+    statement_tree (rust.Branch x condition block otherwise) ≡ branch x (expression_tree condition) (block_tree block) (block_tree otherwise)
+branch_tree x condition block otherwise =
+    ap statement_tree (sym (rust.rolls-Branch x condition block otherwise))
+    ∙ (fold-roll-Statement StatementTree StatementTrees statement_of block_of (layer.Branch x condition block otherwise)
+    ∙ ap₂ (branch x (expression_tree condition)) (block_is block) (block_is otherwise))
+
+pub each_tree : (slot : ℕ) (below : Expression) (most : ℕ) (block : Block) →
+    statement_tree (rust.Each slot below most block) ≡ each slot (expression_tree below) most (block_tree block)
+each_tree slot below most block =
+    ap statement_tree (sym (rust.rolls-Each slot below most block))
+    ∙ (fold-roll-Statement StatementTree StatementTrees statement_of block_of (layer.Each slot below most block)
+    ∙ ap (each slot (expression_tree below) most) (block_is block))

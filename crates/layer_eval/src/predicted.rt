@@ -1,0 +1,66 @@
+//! Whether a visit goes as it is predicted.
+
+ghost use Rattle.std.specs.Prelude.{◌≡◌, false, [], ◌∷◌};
+ghost use Rattle.layer_eval.specs.Did.{both, as_predicted, decision};
+
+use layer_ast::Likely;
+
+/// Whether all decisions went as predicted, in the first of two common cases and in the second. A layer that names one case is
+/// predicted alike in both.
+#[derive(Clone, Copy, Debug, PartialEq, Eq)]
+pub struct Predicted {
+    pub first: bool,
+    pub second: bool,
+}
+
+impl Predicted {
+    /// No decision was made.
+    pub fn usual() -> Predicted
+        ensures { result ≡ as_predicted [] }
+    {
+        Predicted {
+            first: true,
+            second: true,
+        }
+    }
+
+    /// A decision didn't go as predicted in any case.
+    pub fn unusual() -> Predicted
+        ensures { result ≡ record { first = false; second = false } }
+    {
+        Predicted {
+            first: false,
+            second: false,
+        }
+    }
+
+    /// How a condition's decision went.
+    pub fn chosen(holds: bool, likely: Likely) -> Predicted
+        ensures { result ≡ as_predicted (decision holds likely ∷ []) }
+    {
+        match likely {
+            Likely::First => Predicted {
+                first: holds,
+                second: holds,
+            },
+            Likely::Else => Predicted {
+                first: !holds,
+                second: !holds,
+            },
+            Likely::Two => Predicted {
+                first: holds,
+                second: !holds,
+            },
+        }
+    }
+
+    /// Both what was decided before and what was decided behind it went as predicted.
+    pub fn and(self, behind: Predicted) -> Predicted
+        ensures { result ≡ both self behind }
+    {
+        Predicted {
+            first: self.first && behind.first,
+            second: self.second && behind.second,
+        }
+    }
+}
