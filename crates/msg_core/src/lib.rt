@@ -6,9 +6,11 @@
 #![tactic(auto)]
 
 mod fields;
+mod headers;
 mod message;
 mod packet;
 
 pub use fields::Fields;
+pub use headers::{Headers, MOST_HEADERS};
 pub use message::{Header, Memory, Message};
 pub use packet::{Dest, Packet, Stray, View};

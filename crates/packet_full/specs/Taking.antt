@@ -1,0 +1,30 @@
+-- What is taken off the front of a datagram.
+use Rattle.std.specs.Prelude.{◌≡◌, ℕ, List, ◌++◌, Option, Some, None}
+use Rattle.packet_mean.specs.Reading as reading
+use Rattle.packet_full.specs.declared.cursor.Cursor.{Cursor}
+use Rattle.packet_full.specs.declared.front.Preamble.{Preamble}
+
+-- the bytes that are left
+abbrev pub left : Cursor → List ℕ
+left cursor = cursor.bytes.now
+
+-- what stands in front, as the definition has it
+abbrev pub preamble_tree : Preamble → reading.Preamble
+preamble_tree p = record {
+  form = p.form;
+  group = p.group;
+  stamp = p.stamp;
+  view = p.view;
+  sender = p.sender;
+  dest = p.dest;
+}
+
+-- what a reader took and the bytes behind it, or that it took nothing
+abbrev pub Takes : {A : Type 0} → Option (A × List ℕ) → Option A → List ℕ → Type 0
+Takes taken (Some value) behind = taken ≡ Some (value, behind)
+Takes taken None behind = taken ≡ None
+
+-- numbers that were read, in front of those that are still read
+abbrev pub with_front : List ℕ → Option (List ℕ × List ℕ) → Option (List ℕ × List ℕ)
+with_front front None = None
+with_front front (Some (more, behind)) = Some (front ++ more, behind)

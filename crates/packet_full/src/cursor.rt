@@ -1,0 +1,127 @@
+//! The bytes of a datagram, taken from the front.
+
+ghost use Rattle.std.specs.Prelude.{◌≡◌, ◌+◌, ◌<◌, ◌≤◌, [], IfSome, drop, length, option_map, slice_index_or};
+ghost use Rattle.event_graph.specs.Answer.{stack_tree};
+ghost use Rattle.layer_mean.specs.Tree.{no_layer};
+ghost use Rattle.packet_laws.specs.Lengths.{IsWithinLimits};
+ghost use Rattle.packet_mean.specs.Reading as reading;
+ghost use Rattle.packet_full.specs.Chain.{header_read};
+ghost use Rattle.packet_full.specs.Taking.{Takes, left, preamble_tree};
+
+use crate::form::form_at;
+use crate::front::{Preamble, dest_of};
+use event_graph::Stack;
+use msg_core::{Fields, Header, Headers, View};
+
+/// The bytes that are left of a datagram.
+#[derive(Clone, Copy)]
+pub(crate) struct Cursor<'a> {
+    bytes: &'a [u8],
+}
+
+impl<'a> Cursor<'a> {
+    pub(crate) fn on(bytes: &'a [u8]) -> Cursor<'a>
+        ensures { left result ≡ bytes.now }
+    {
+        Cursor { bytes }
+    }
+
+    /// How many bytes are left.
+    pub(crate) fn len(&self) -> usize
+        ensures { result ≡ length (left self.now) }
+    {
+        self.bytes.len()
+    }
+
+    pub(crate) fn byte(&mut self) -> Option<u8>
+        ensures { Takes (reading.byte (left self.old)) result (left self.new) }
+    {
+        let (first, behind) = self.bytes.split_first()?;
+        self.bytes = behind;
+        Some(*first)
+    }
+
+    /// A number of four bytes, the highest first.
+    pub(crate) fn number(&mut self) -> Option<u32>
+        ensures { Takes (reading.number (left self.old)) result (left self.new) }
+    {
+        let (first, behind) = self.bytes.split_first_chunk::<4>()?;
+        self.bytes = behind;
+        Some(u32::from_be_bytes(*first))
+    }
+
+    /// So many numbers.
+    pub(crate) fn numbers(&mut self, count: u8) -> Option<Fields>
+        requires { count ≤ 4 }
+        ensures { Takes (reading.numbers count (left self.old)) result (left self.new) }
+    {
+        let mut fields = Fields::none();
+        for _ in 0..count {
+            fields.push(self.number()?);
+        }
+        Some(fields)
+    }
+
+    /// What stands in front of a datagram.
+    pub(crate) fn preamble(&mut self) -> Option<Preamble>
+        ensures { Takes (reading.preamble (left self.old)) (option_map preamble_tree result) (left self.new) }
+    {
+        let form = self.byte()?;
+        let group = self.number()?;
+        let stamp = self.number()?;
+        let ltime = self.number()?;
+        let mask = self.number()?;
+        let sender = self.byte()?;
+        let dest = self.byte()?;
+        Some(Preamble {
+            form,
+            group,
+            stamp,
+            view: View { ltime, mask },
+            sender,
+            dest: dest_of(dest),
+        })
+    }
+
+    /// The header of a place's layer, and whether it closes the chain.
+    fn header(&mut self, stack: &Stack, place: u8) -> Option<(Header, bool)>
+        requires limits { IsWithinLimits (stack_tree stack.now) }
+        requires place { place < length (stack_tree stack.now) }
+        ensures { Takes (header_read (slice_index_or (stack_tree stack.now) place no_layer) place (left self.old)) result (left self.new) }
+    {
+        let tag = self.byte()?;
+        let form = form_at(stack, place, tag)?;
+        let fields = self.numbers(form.fields)?;
+        Some((
+            Header {
+                layer: place,
+                tag,
+                fields,
+            },
+            form.ends,
+        ))
+    }
+
+    /// The headers of the layers from a place on, through the first that closes the chain.
+    pub(crate) fn chain(&mut self, stack: &Stack, place: u8, headers: &mut Headers) -> Option<()>
+        requires limits { IsWithinLimits (stack_tree stack.now) }
+        requires place { place ≤ length (stack_tree stack.now) }
+        requires none { headers.old ≡ [] }
+        ensures read { Takes (reading.chain (drop place (stack_tree stack.now)) place (left self.old)) (option_map (λ _. headers.new) result) (left self.new) }
+        ensures few { IfSome result (λ _. length headers.new + place ≤ length (stack_tree stack.now)) }
+    {
+        if place == stack.places() {
+            return Some(());
+        }
+        let Some((header, ends)) = self.header(stack, place) else {
+            return None
+        };
+        if !ends {
+            let Some(()) = self.chain(stack, place + 1, headers) else {
+                return None
+            };
+        }
+        headers.push_front(header);
+        Some(())
+    }
+}

@@ -1,0 +1,95 @@
+//! What stands in front of a datagram, and whether it is meant for a member.
+
+ghost use Rattle.std.specs.Prelude.{◌≡◌, ◌==◌, ◌&&◌, ◌||◌, not, nat_lt};
+ghost use Rattle.msg_core.specs.View.{member_count as members_of};
+ghost use Rattle.packet_mean.specs.Reading as reading;
+ghost use Rattle.packet_mean.specs.Received as received;
+ghost use Rattle.packet_mean.specs.Spelling.{full_form, short_form};
+ghost use Rattle.packet_full.specs.Taking.{preamble_tree};
+
+use msg_core::{Dest, Stray, View};
+use packet_mean::Here;
+
+/// The first byte of a full spelling.
+pub(crate) const FULL_FORM: u8 = 0xE5;
+
+/// The first byte of a short spelling.
+pub(crate) const SHORT_FORM: u8 = 0xE6;
+
+/// The byte that stands for all members in place of a rank.
+pub(crate) const EVERYONE: u8 = 0xFF;
+
+/// The 19 bytes in front.
+#[derive(Clone, Copy)]
+pub(crate) struct Preamble {
+    pub(crate) form: u8,
+    pub(crate) group: u32,
+    pub(crate) stamp: u32,
+    pub(crate) view: View,
+    pub(crate) sender: u8,
+    pub(crate) dest: Dest,
+}
+
+/// The destination that a byte names.
+pub(crate) fn dest_of(byte: u8) -> Dest
+    ensures { result ≡ reading.dest_of byte }
+{
+    if byte == EVERYONE {
+        Dest::All
+    } else {
+        Dest::Rank(byte)
+    }
+}
+
+/// Whether a byte is the first one of a spelling.
+pub(crate) fn is_form(byte: u8) -> bool
+    ensures { result ≡ (byte == full_form) || (byte == short_form) }
+{
+    byte == FULL_FORM || byte == SHORT_FORM
+}
+
+/// How many members a view has.
+fn member_count(view: View) -> u32
+    ensures { result ≡ members_of view }
+{
+    view.mask.count_ones()
+}
+
+/// Whether a packet to a destination is for a rank.
+fn is_for(rank: u8, dest: Dest) -> bool
+    ensures { result ≡ received.is_for rank dest }
+{
+    match dest {
+        Dest::All => true,
+        Dest::Rank(other) => other == rank,
+    }
+}
+
+/// Whether a rank is another one of a view.
+fn is_other(view: View, own: u8, rank: u8) -> bool
+    ensures { result ≡ nat_lt rank (members_of view) && not (rank == own) }
+{
+    u32::from(rank) < member_count(view) && rank != own
+}
+
+/// Tells the first cause for which a datagram isn't meant for a member, by what stands in front.
+pub(crate) fn meant_for(here: &Here, front: &Preamble) -> Result<(), Stray>
+    ensures { result ≡ received.meant_for here.now (preamble_tree front.now) }
+{
+    if front.group != here.group {
+        return Err(Stray::Group);
+    }
+    if front.stamp != here.stamp {
+        return Err(Stray::Stamp);
+    }
+    if front.view != here.view {
+        return Err(Stray::View);
+    }
+    if !is_other(here.view, here.rank, front.sender) {
+        return Err(Stray::Sender);
+    }
+    if !is_for(here.rank, front.dest) {
+        return Err(Stray::Dest);
+    }
+    Ok(())
+}

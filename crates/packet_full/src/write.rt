@@ -1,0 +1,124 @@
+//! Packets to bytes.
+
+ghost use Rattle.std.specs.Prelude.{◌≡◌, ◌+◌, ◌*◌, ◌^◌, ◌≤◌, ◌∷◌, ◌++◌, [], IfNone, IfOk, IfSome, length, vec_len, vec_capacity};
+ghost use Rattle.std.specs.List.{flat_map};
+ghost use Rattle.packet_mean.specs.Spelling as spelling;
+ghost use Rattle.packet_full.specs.Room.{room_needed};
+
+use crate::front::{EVERYONE, FULL_FORM};
+use msg_core::{Dest, Header, Memory, Message, Packet};
+use std::alloc::Global;
+
+/// The bytes in front of a packet's headers.
+const PREAMBLE_BYTES: usize = 19;
+
+/// The most bytes of a header: its tag and four numbers.
+const HEADER_BYTES: usize = 17;
+
+/// The byte that names a destination.
+fn dest_byte(dest: Dest) -> u8
+    ensures { result ≡ spelling.dest_byte dest }
+{
+    match dest {
+        Dest::All => EVERYONE,
+        Dest::Rank(rank) => rank,
+    }
+}
+
+/// Puts a number behind the others, the highest byte first.
+fn put_number(number: u32, into: &mut Vec<u8>)
+    requires { vec_len into.old + 4 ≤ vec_capacity into.old }
+    ensures items { into.new.items ≡ into.old.items ++ spelling.number_bytes number }
+    ensures len { vec_len into.new ≡ vec_len into.old + 4 }
+    ensures capacity { vec_capacity into.new ≡ vec_capacity into.old }
+{
+    let [first, second, third, fourth] = number.to_be_bytes();
+    into.push_reserved(first);
+    into.push_reserved(second);
+    into.push_reserved(third);
+    into.push_reserved(fourth);
+}
+
+/// Puts what stands in front of a packet in full.
+fn put_preamble(packet: &Packet, into: &mut Vec<u8>)
+    requires { vec_len into.old + 19 ≤ vec_capacity into.old }
+    ensures items { into.new.items ≡ into.old.items ++ spelling.preamble_bytes spelling.full_form packet.now }
+    ensures len { vec_len into.new ≡ vec_len into.old + 19 }
+    ensures capacity { vec_capacity into.new ≡ vec_capacity into.old }
+{
+    into.push_reserved(FULL_FORM);
+    put_number(packet.group, into);
+    put_number(packet.stamp, into);
+    put_number(packet.view.ltime, into);
+    put_number(packet.view.mask, into);
+    into.push_reserved(packet.sender);
+    into.push_reserved(dest_byte(packet.dest));
+}
+
+/// Puts a header: its tag, and its numbers.
+fn put_header(header: &Header, into: &mut Vec<u8>)
+    requires { vec_len into.old + 17 ≤ vec_capacity into.old }
+    ensures items { into.new.items ≡ into.old.items ++ spelling.header_bytes header.now }
+    ensures len { vec_len into.new ≤ vec_len into.old + 17 }
+    ensures capacity { vec_capacity into.new ≡ vec_capacity into.old }
+{
+    into.push_reserved(header.tag);
+    for k in 0..header.fields.len() {
+        put_number(header.fields.at(k), into);
+    }
+}
+
+/// Puts the headers of a message, the lowest layer's first.
+fn put_headers(message: &Message, into: &mut Vec<u8>)
+    requires { vec_len into.old + 17 * length message.now.headers ≤ vec_capacity into.old }
+    ensures items { into.new.items ≡ into.old.items ++ flat_map spelling.header_bytes message.now.headers }
+    ensures len { vec_len into.new ≤ vec_len into.old + 17 * length message.now.headers }
+    ensures capacity { vec_capacity into.new ≡ vec_capacity into.old }
+{
+    for k in 0..message.header_count() {
+        put_header(message.header_at(k), into);
+    }
+}
+
+/// Puts the bytes of a body.
+fn put_body(body: &[u8], into: &mut Vec<u8>)
+    requires { vec_len into.old + length body.now ≤ vec_capacity into.old }
+    ensures items { into.new.items ≡ into.old.items ++ body.now }
+    ensures capacity { vec_capacity into.old ≤ vec_capacity into.new }
+{
+    match into.extend_from_slice(body) {
+        Ok(()) => {}
+        Err(_) => unreachable!(),
+    }
+}
+
+/// Puts a packet in full behind what a vector holds, without memory: there is to be room for 17 bytes of each header, and for the rest.
+pub fn write_full_into(packet: &Packet, into: &mut Vec<u8>)
+    requires { vec_len into.old + room_needed packet.now ≤ vec_capacity into.old }
+    ensures items { into.new.items ≡ into.old.items ++ spelling.full_bytes packet.now }
+    ensures capacity { vec_capacity into.old ≤ vec_capacity into.new }
+{
+    put_preamble(packet, into);
+    put_headers(&packet.message, into);
+    put_body(packet.message.body(), into);
+}
+
+/// How much room a packet is given, where a number of 64 bits tells it.
+fn room_for(packet: &Packet) -> Option<usize>
+    ensures some { IfSome result (λ room. room ≡ room_needed packet.now) }
+    ensures none { IfNone result (2 ^ 64 ≤ room_needed packet.now) }
+{
+    let headers = packet.message.header_count().checked_mul(HEADER_BYTES)?;
+    let front = headers.checked_add(PREAMBLE_BYTES)?;
+    front.checked_add(packet.message.body().len())
+}
+
+/// A packet in full.
+pub fn write_full(alloc: Global, packet: &Packet) -> Result<Vec<u8>, Memory>
+    ensures { IfOk result (λ bytes. bytes.items ≡ spelling.full_bytes packet.now) }
+{
+    let room = room_for(packet).ok_or(Memory)?;
+    let mut bytes = Vec::with_capacity(alloc, room)?;
+    write_full_into(packet, &mut bytes);
+    Ok(bytes)
+}

@@ -1,0 +1,25 @@
+//! Plans.
+
+ghost use Rattle.std.specs.Prelude.{◌≤◌, vec_len};
+
+use layer_ast::Kind;
+
+/// The most plans of a stack.
+pub const MOST_PLANS: usize = 250;
+
+/// What is known beforehand of a packet.
+#[derive(Drop)]
+pub struct Plan {
+    pub kind: Kind,
+    /// Those of its headers, lowest layer first.
+    pub tags: Vec<u8>,
+    /// For each field of these headers, in the same order, the number that it always is, or None for one that varies.
+    pub fields: Vec<Option<u32>>,
+}
+
+/// The plans of a stack, numbered from 0: at most 250.
+#[derive(Drop)]
+pub struct Plans {
+    pub(crate) list: Vec<Plan>,
+    ghost few: { vec_len list ≤ 250 },
+}

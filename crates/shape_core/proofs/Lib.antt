@@ -1,0 +1,10 @@
+pub mod Ones
+pub mod Fields
+pub mod Walks
+pub mod Ways
+pub mod Visited
+pub mod Runs
+pub mod Forks
+pub mod Turns
+pub mod Entries
+pub mod Shapes

@@ -1,0 +1,40 @@
+-- A visit that is drawn, walked: what its layer's handler comes to, or what the lack of one does.
+use Rattle.std.specs.Prelude.{◌==◌, if◌then◌else◌, List, [], ◌∷◌, Option, Some, None, Result, Ok, Err, option_map}
+use Rattle.layer_ast.specs.declared.tokens.Dir.{Dir}
+use Rattle.layer_ast.specs.declared.tokens.Dir.TheVariants.{Up, Down}
+use Rattle.layer_ast.specs.declared.tokens.Kind.{Kind}
+use Rattle.layer_mean.specs.Tree.{HandlerTree, LayerTree}
+use Rattle.layer_mean.specs.Visit.{handler_for}
+use Rattle.layer_mean.specs.Way.{Step, handler_way}
+use Rattle.stack_mean.specs.NoShape as no_shape
+use Rattle.stack_mean.specs.Drawn.{DrawnHeader, DrawnEvent, DrawnMet, drawn_met, drawn_entered}
+use Rattle.shape_core.specs.declared.visit.Met.{Met}
+use Rattle.shape_core.specs.declared.walk.Visit.{Visit}
+use Rattle.shape_core.specs.Trees.{headers_tree}
+use Rattle.shape_core.specs.Walk.{Walking, Stop, sends, walked}
+
+abbrev pub met_tree : Met → DrawnMet
+met_tree m = record { tag = m.tag; headers = option_map headers_tree m.headers }
+
+abbrev pub way_walked : Visit → Option (List Step) → Walking → Result Walking Stop
+way_walked v None w = Err (record { reason = no_shape.rare v.place; forks = w.forks })
+way_walked v (Some steps) w = walked v steps w
+
+-- The header `none`, behind which a message passes down.
+abbrev pub none_header : DrawnHeader
+none_header = record { tag = 0; fields = [] }
+
+-- A missing handler passes an event on, except upwards behind another header than `none`.
+abbrev pub unhandled : Visit → Dir → Kind → DrawnMet → Option (List DrawnHeader) → Walking → Result Walking Stop
+unhandled v dir kind m None w = Ok (sends v dir kind None w)
+unhandled v Down kind m (Some headers) w = Ok (sends v Down kind (Some (none_header ∷ headers)) w)
+unhandled v Up kind m (Some headers) w =
+    if m.tag == 0 then Ok (sends v Up kind (Some headers) w) else Err (record { reason = no_shape.rare v.place; forks = w.forks })
+
+abbrev pub handled : Visit → Option HandlerTree → Dir → Kind → DrawnMet → Walking → Result Walking Stop
+handled v None dir kind m w = unhandled v dir kind m m.headers w
+handled v (Some h) dir kind m w = way_walked v (handler_way v.case h) (record w { scope = (drawn_entered h m.headers).scope })
+
+abbrev pub visited : Visit → LayerTree → Dir → DrawnEvent → Walking → Result Walking Stop
+visited v layer dir event w =
+    let m = drawn_met dir event.headers in handled v (handler_for layer dir event.kind m.tag) dir event.kind m w

@@ -1,0 +1,19 @@
+//! The shape of an entry of a stack: which visits and outputs follow from it where all goes as predicted in a case, and what made each of
+//! them; or the first reason for which it has none.
+#![tactic(auto)]
+
+mod constant;
+mod draw;
+mod error;
+mod header;
+mod sketch;
+#[cfg(test)]
+mod tests;
+mod types;
+mod visit;
+mod walk;
+
+pub use draw::shape;
+pub use error::NoShape;
+pub use header::DrawnHeader;
+pub use types::{Known, Shape, ShapeOut, ShapeVisit, Source};
