@@ -12,6 +12,8 @@ pub fn find_breaches()
     ensures name_twice { audit_of Total (codes "view 0 1 3\ndeliver 0 cast 0 61\nview 0 2 3\nview 0 1 3\ndeliver 0 cast 0 62\nview 1 1 3\ndeliver 1 cast 0 61\nend 0") ≡ Ok (Breach 5 7) }
     ensures lacking { audit_of Same (codes "deliver 0 cast 0 61\nview 0 1 3\nview 1 1 3\nend 3\n") ≡ Ok (Breach 1 3) }
     ensures lacking_one_of_two { audit_of Same (codes "deliver 0 cast 0 61\ndeliver 0 cast 0 61\ndeliver 1 cast 0 61\nview 0 1 3\nview 1 1 3\nend 0") ≡ Ok (Breach 2 5) }
+    ensures line_of_the_later_first { audit_of Sender (codes "deliver 0 cast 0 61\ndeliver 0 cast 1 62\ndeliver 1 cast 1 63\ndeliver 1 cast 0 64\nend 4") ≡ Ok (Breach 2 3) }
+    ensures line_of_the_end_first { audit_of Same (codes "deliver 0 cast 0 61\ndeliver 1 cast 0 62\nview 0 1 3\nview 1 1 3\nend 4") ≡ Ok (Breach 2 3) }
     ensures lacking_what_comes_later { audit_of Same (codes "view 1 1 3\ndeliver 0 cast 0 61\nview 0 1 3\nend 3\nvisits 0") ≡ Ok (Breach 2 1) }
 {}
 

@@ -1,9 +1,13 @@
 pub mod Agree
 pub mod Bodies
+pub mod Clear
 pub mod Counts
 pub mod Deliveries
 pub mod Endings
-pub mod Groups
+pub mod First
+pub mod InLine
+pub mod Lacking
+pub mod Marking
 pub mod Numbers
 pub mod Ranks
 pub mod Reports

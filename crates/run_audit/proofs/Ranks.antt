@@ -16,7 +16,7 @@ use Rattle.run_audit.specs.declared.contents.Ranked.{Ranked}
 use Rattle.run_audit.proofs.Agree.{same_bytes, turned, turned_bytes}
 use Rattle.run_audit.proofs.Counts.{both, count_more}
 
-same_on : (a b q : Content) → same_content_key a b ≡ true → same_content_key a q ≡ same_content_key b q
+pub same_on : (a b q : Content) → same_content_key a b ≡ true → same_content_key a q ≡ same_content_key b q
 same_on a b q e =
     let parts = both (a.peer == b.peer) (bytes_eq a.body.now b.body.now) e in
     λ i. (eqb-true a.peer b.peer parts.0 i == q.peer) && bytes_eq (same_bytes a.body.now b.body.now parts.1 i) q.body.now
@@ -25,7 +25,7 @@ same_on a b q e =
 pub answers : {X S : Type 0} (m : HashMap Content X S) (a b : Content) → same_content_key a b ≡ true → hash.get same_content_key m a ≡ hash.get same_content_key m b
 answers m a b e = λ i. hash.get_by (λ q. same_on a b q e i) m
 
-turned_content : (e x : Entry) → same_content (entry_shown e) (entry_shown x) ≡ same_content_key (content_of x) (content_of e)
+pub turned_content : (e x : Entry) → same_content (entry_shown e) (entry_shown x) ≡ same_content_key (content_of x) (content_of e)
 turned_content e x = λ i. turned e.peer x.peer i && turned_bytes e.body.now x.body.now i
 
 -- the counts with one more delivery

@@ -1,18 +1,17 @@
 -- The least lack, put together from those of each pair of segments.
-use Rattle.std.proofs.Common.{◌≡◌, ℕ, zero, suc, ◌+◌, ◌<◌, true, false, cond, List, [], ◌∷◌, ◌++◌, length, take, get_or, Option, Some, None, refl, sym, ap, ◌∙◌, arith}
-use Rattle.std.specs.Prelude.{◌&&◌, ◌==◌, map, filter, count_by, slice_get}
+use Rattle.std.proofs.Common.{◌≡◌, ℕ, ◌+◌, ◌<◌, true, false, cond, List, [], ◌∷◌, ◌++◌, length, take, get_or, Option, Some, None, refl, sym, ap, ◌∙◌, arith}
+use Rattle.std.specs.Prelude.{◌&&◌, ◌==◌, map, filter, count_by}
 use Rattle.std.specs.List.{flat_map}
 use Rattle.std.proofs.lemmas.Bool.Decides.{nat_tests}
-use Rattle.std.proofs.lemmas.List.{append-nil, map-append, map_more, take_more}
+use Rattle.std.proofs.lemmas.List.{append-nil, map-append, map_more}
 use Rattle.std.proofs.lemmas.List.Concat.{flat_map-append}
 use Rattle.std.proofs.lemmas.List.Elements.{filter-append}
 use Rattle.audit_mean.specs.Segment.{Entry, Numbered, same_content}
 use Rattle.audit_mean.specs.Lack.{Ended, ended_behind, goes_along, surplus_behind, lacks_of}
 use Rattle.audit_mean.specs.Lack as spec
 use Rattle.run_audit.specs.declared.contents.Ranked.{Ranked}
-use Rattle.run_audit.specs.declared.ended.Ended as code
 use Rattle.audit_mean.specs.Finding.{comes_before, lesser, least}
-use Rattle.run_audit.specs.Lacks.{Known, known, known_at, known_of, ended_shown, goes, ranked_behind, ranked_shown, exceeds, entries_in, lines_of_lack, surplus, lacks, is_other, lacks_of_one, goes_with, lacks_in, all_lacks, first_of}
+use Rattle.run_audit.specs.Lacks.{Known, known, ranked_behind, ranked_shown, exceeds, lines_of_lack, surplus, lacks, is_other, lacks_of_one, goes_with, lacks_in, all_lacks, first_of}
 
 passes_on : (x y z : ℕ × ℕ) → comes_before y x ≡ true → comes_before z y ≡ true → comes_before z x ≡ true
 passes_on x y z a b = grind (arith, nat_tests)
@@ -47,10 +46,6 @@ pub least-append : (xs ys : List (ℕ × ℕ)) → least (xs ++ ys) ≡ first_of
 least-append [] ys = refl
 least-append (x ∷ xs) ys = ap (first_of (Some x)) (least-append xs ys) ∙ sym (regrouped (Some x) (least xs) (least ys))
 
--- the least of what one more gives
-least_more : {X : Type 0} (f : X → List (ℕ × ℕ)) (xs : List X) (x : X) → least (flat_map f (xs ++ x ∷ [])) ≡ first_of (least (flat_map f xs)) (least (f x))
-least_more f xs x = ap least (flat_map-append f xs (x ∷ [])) ∙ ap (λ ys. least (flat_map f xs ++ ys)) (append-nil (f x)) ∙ least-append (flat_map f xs) (f x)
-
 -- one more of the deliveries that are gone through: it is one too many, or not
 pub surplus_further : (line : ℕ) (all : List Entry) (deliveries : List Ranked) (i : ℕ) (d : Ranked) (found new : Option (ℕ × ℕ)) → i < length deliveries → exceeds all (ranked_shown (get_or deliveries i d)) ≡ true → found ≡ least (surplus line all (map ranked_shown (take i deliveries))) → new ≡ first_of found (Some ((get_or deliveries i d).entry.line, line)) → new ≡ least (surplus line all (map ranked_shown (take (i + 1) deliveries)))
 surplus_further line all deliveries i d found new inside e so_far is =
@@ -80,44 +75,8 @@ others_more one xs ys =
     ∙ ap least (flat_map-append (lacks one) (filter (is_other one) xs) (filter (is_other one) ys))
     ∙ least-append (lacks_of_one one xs) (lacks_of_one one ys)
 
-pub inside_get : {X : Type 0} (xs : List X) (i : ℕ) (d : X) → i < length xs → slice_get xs i ≡ Some (get_or xs i d)
-inside_get [] i d inside = absurd (omega (arith, inside))
-inside_get (x ∷ xs) zero d inside = refl
-inside_get (x ∷ xs) (suc i) d inside = inside_get xs i d (omega (arith, inside))
-
-apart : (m n : ℕ) → (m ≡ n → ⊥) → (m == n) ≡ false
-apart m n h = grind (arith, nat_tests)
-
--- what a segment lacks of the one at a place, if that is another member's
-pub lack_there : (one : Known) (ended : List code.Ended) (index : ℕ) (other : code.Ended) → index < length ended → other ≡ get_or ended index other → (one.member ≡ other.member → ⊥) → least (surplus one.line (entries_in one) (map ranked_shown other.deliveries.items)) ≡ least (lacks_of_one one (known_at ended index))
-lack_there one ended index other inside is differ =
-    let there : slice_get ended index ≡ Some other = inside_get ended index other inside ∙ ap Some (sym is) in
-    rw (there, apart one.member other.member differ) (ap least (sym (append-nil (lacks one (ended_shown other)))))
-
--- one more of the places of a group
-pub lack_further : (one : Known) (ended : List code.Ended) (group : List ℕ) (i d : ℕ) (found lack new : Option (ℕ × ℕ)) → i < length group → found ≡ least (lacks_of_one one (known_of ended (take i group))) → lack ≡ least (lacks_of_one one (known_at ended (get_or group i d))) → new ≡ first_of found lack → new ≡ least (lacks_of_one one (known_of ended (take (i + 1) group)))
-lack_further one ended group i d found lack new inside so_far here is =
-    let front = take i group in
-    let x = get_or group i d in
-    is
-    ∙ (λ j. first_of (so_far j) (here j))
-    ∙ sym (others_more one (known_of ended front) (known_at ended x))
-    ∙ ap (λ ys. least (lacks_of_one one (known_of ended front ++ ys))) (sym (append-nil (known_at ended x)))
-    ∙ ap (λ ys. least (lacks_of_one one ys)) (sym (flat_map-append (known_at ended) front (x ∷ [])))
-    ∙ ap (λ ys. least (lacks_of_one one (known_of ended ys))) (sym (take_more group i d inside))
-
--- one more of the segments that may lack something
-pub least_further : (ended : List code.Ended) (i : ℕ) (d one : code.Ended) (found lack new : Option (ℕ × ℕ)) (group : List Known) → i < length ended → one ≡ get_or ended i d → found ≡ least (flat_map (lacks_in (map ended_shown ended)) (map ended_shown (take i ended))) → lack ≡ least (lacks_of_one (ended_shown one) group) → group ≡ filter (goes one.way) (map ended_shown ended) → new ≡ first_of found lack → new ≡ least (flat_map (lacks_in (map ended_shown ended)) (map ended_shown (take (i + 1) ended)))
-least_further ended i d one found lack new group inside at so_far here grouped is =
-    let all = map ended_shown ended in
-    is
-    ∙ (λ j. first_of (so_far j) ((here ∙ ap (λ g. least (lacks_of_one (ended_shown one) g)) grouped) j))
-    ∙ sym (least_more (lacks_in all) (map ended_shown (take i ended)) (ended_shown one))
-    ∙ ap (λ e. least (flat_map (lacks_in all) (map ended_shown (take i ended) ++ ended_shown e ∷ []))) at
-    ∙ ap (λ ys. least (flat_map (lacks_in all) ys)) (sym (map_more ended_shown ended i d inside))
-
 -- ranks change no delivery
-entries_ranked : (before entries : List Entry) → map (λ placed. placed.entry) (ranked_behind before entries) ≡ entries
+pub entries_ranked : (before entries : List Entry) → map (λ placed. placed.entry) (ranked_behind before entries) ≡ entries
 entries_ranked before [] = refl
 entries_ranked before (e ∷ entries) = ap (λ es. e ∷ es) (entries_ranked (before ++ e ∷ []) entries)
 

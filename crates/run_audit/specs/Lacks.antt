@@ -1,9 +1,11 @@
 -- What members that leave a view together lack of each other, as it is found.
-use Rattle.std.specs.Prelude.{◌≡◌, ℕ, ◌+◌, ◌==◌, ◌&&◌, not, if◌then◌else◌, Bool, List, [], ◌∷◌, ◌++◌, map, filter, count_by, Option, Some, None, Vec, bytes_eq, unwrap_or, option_map, slice_get}
+use Rattle.std.specs.Prelude.{◌≡◌, ℕ, ◌+◌, ◌==◌, ◌&&◌, not, if◌then◌else◌, Bool, false, List, [], ◌∷◌, ◌++◌, map, filter, count_by, Option, Some, None, Vec, bytes_eq, unwrap_or}
 use Rattle.std.specs.List.{flat_map}
-use Rattle.std.specs.Option.{option_eq, option_to_list}
+use Rattle.std.specs.Option.{option_eq}
 use Rattle.audit_mean.specs.Segment as spec
-use Rattle.audit_mean.specs.Segment.{Name, in_view, Numbered, same_name, same_content, entries_of}
+use Rattle.audit_mean.specs.Segment.{Name, in_view, Numbered, same_name, same_content, segment_behind, entries_of}
+use Rattle.audit_mean.specs.Line as said
+use Rattle.audit_mean.specs.Line.{ReportLine}
 use Rattle.audit_mean.specs.Clash.{Placed}
 use Rattle.audit_mean.specs.Lack.{is_in}
 use Rattle.audit_mean.specs.Lack as lack
@@ -14,7 +16,6 @@ use Rattle.run_audit.specs.declared.segments.Entry.{Entry}
 use Rattle.run_audit.specs.declared.contents.Content.{Content}
 use Rattle.run_audit.specs.declared.contents.Ranked.{Ranked}
 use Rattle.run_audit.specs.declared.ended.Ended.{Ended}
-use Rattle.run_audit.specs.declared.ended.SegmentKey.{SegmentKey}
 use Rattle.run_audit.specs.declared.ended.Way.{Way}
 use Rattle.std.specs.declared.alloc.Global.{Global}
 
@@ -63,28 +64,25 @@ ended_shown ended = record {
   deliveries = map ranked_shown ended.deliveries.items;
 }
 
--- the segment at a place, if there is one
-abbrev pub known_at : List Ended → ℕ → List Known
-known_at ended index = option_to_list (option_map ended_shown (slice_get ended index))
-
--- the segments at these places
-abbrev pub known_of : List Ended → List ℕ → List Known
-known_of ended places = flat_map (known_at ended) places
-
-abbrev pub same_segment : SegmentKey → SegmentKey → Bool
-same_segment a b = a.member == b.member && a.began == b.began
-
 -- what stands at a key, which is nothing where the key has no list
 abbrev pub listed : {A : Type 0} → Option (Vec A Global) → List A
 listed None = []
 listed (Some list) = list.items
 
-abbrev pub segment_key : Entry → SegmentKey
-segment_key entry = record { member = entry.member; began = entry.segment.began }
+-- the deliveries in the segment that each member is in
+abbrev pub Holds : (ℕ → Option (Vec Entry Global)) → List Numbered → Type 0
+Holds held before = (member : ℕ) (segment : spec.Segment) → segment_behind member before ≡ Some segment → map entry_shown (listed (held member)) ≡ filter (is_in member segment) (entries_of before)
 
--- the deliveries in each segment
-abbrev pub Holds : (SegmentKey → Option (Vec Entry Global)) → List Numbered → Type 0
-Holds held before = (member : ℕ) (segment : spec.Segment) → map entry_shown (listed (held (record { member = member; began = segment.began }))) ≡ filter (is_in member segment) (entries_of before)
+-- whether a line ends a member's segment
+abbrev pub is_left : ReportLine → ℕ → Bool
+is_left (said.view m ltime mask) member = m == member
+is_left (said.out m) member = m == member
+is_left _ member = false
+
+-- a member's deliveries behind a line, which is a delivery in a segment, or may end one
+abbrev pub held_behind : Option Entry → ReportLine → ℕ → List Entry → List Entry
+held_behind (Some entry) line member held = if entry.member == member then held ++ entry ∷ [] else held
+held_behind None line member held = if is_left line member then [] else held
 
 abbrev pub same_way : Way → Way → Bool
 same_way a b = option_eq same_view a.from b.from && same_view a.to b.to

@@ -1,5 +1,5 @@
 //! How often each content is delivered in a segment.
-ghost use Rattle.std.specs.Prelude.{◌≡◌, ◌<◌, ◌^◌, length, map, unwrap_or, [], IfOk};
+ghost use Rattle.std.specs.Prelude.{◌≡◌, ◌<◌, map, unwrap_or, [], IfOk};
 ghost use Rattle.std.specs.HashMap as hash;
 ghost use Rattle.run_audit.specs.Entries.{entry_shown};
 ghost use Rattle.run_audit.specs.Lacks.{Counts, OneMore, content_of, ranked_behind, ranked_shown, same_content_key};

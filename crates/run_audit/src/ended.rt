@@ -1,13 +1,12 @@
 //! The segments that members end by going into a view.
-ghost use Rattle.std.specs.Prelude.{◌≡◌, ◌<◌, ◌^◌, ◌++◌, ◌∷◌, if◌then◌else◌, List, length, map, filter, option_map, [], IfOk};
+ghost use Rattle.std.specs.Prelude.{◌≡◌, ℕ, ◌==◌, ◌<◌, ◌^◌, ◌++◌, ◌∷◌, if◌then◌else◌, List, nat_eq, length, map, option_map, [], None, IfOk};
 ghost use Rattle.std.specs.HashMap as hash;
 ghost use Rattle.std.specs.Option.{option_to_list};
 ghost use Rattle.audit_mean.specs.Segment.{Numbered};
 ghost use Rattle.audit_mean.specs.Lack as spec;
 ghost use Rattle.run_audit.specs.Entries.{Stands, entry_shown, numbered};
 ghost use Rattle.run_audit.specs.Reading.{shown};
-ghost use Rattle.run_audit.specs.Lacks.{Holds, ended_shown, known, listed, ranked_behind, ranked_shown, same_segment, segment_key};
-ghost use Rattle.run_audit.specs.declared.ended.SegmentKey.{SegmentKey};
+ghost use Rattle.run_audit.specs.Lacks.{Holds, ended_shown, held_behind, known, listed, ranked_behind, ranked_shown};
 
 use crate::contents::{Ranked, rank};
 use crate::line::Line;
@@ -32,13 +31,6 @@ pub(crate) struct Ended<'a> {
     pub deliveries: Vec<Ranked<'a>>,
 }
 
-/// What tells a segment from the others: its member, and the number of the line that began it.
-#[derive(Clone, Copy, PartialEq, Eq, Hash)]
-struct SegmentKey {
-    member: u8,
-    began: u32,
-}
-
 /// The segments that the members of a report ended by `view` lines, in the order of these.
 pub(crate) fn ended_segments<'a>(
     alloc: Global,
@@ -54,7 +46,7 @@ pub(crate) fn ended_segments<'a>(
         let number = index as u32 + 1;
         let ended = ended_by(alloc, &segments, &held, number, line)?;
         push_some(&mut all, ended)?;
-        add_some(alloc, &mut held, segments.entry(number, line))?;
+        follow(alloc, &mut held, segments.entry(number, line), line)?;
         segments.advance(number, line);
     }
     Ok(all)
@@ -64,11 +56,11 @@ pub(crate) fn ended_segments<'a>(
 fn ended_by<'a>(
     alloc: Global,
     segments: &Segments,
-    held: &HashMap<SegmentKey, Vec<Entry<'a>>>,
+    held: &HashMap<u8, Vec<Entry<'a>>>,
     number: u32,
     line: &Line<'a>,
 ) -> Result<Option<Ended<'a>>, AllocError>
-    ensures { IfOk result (λ ended. (before : List Numbered) → Stands segments.now before → Holds (hash.get same_segment held.now) before → option_map ended_shown ended ≡ option_map known (spec.ended_by before (number, shown line.now))) }
+    ensures { IfOk result (λ ended. (before : List Numbered) → Stands segments.now before → Holds (hash.get nat_eq held.now) before → option_map ended_shown ended ≡ option_map known (spec.ended_by before (number, shown line.now))) }
 {
     let Line::View(member, ltime, mask) = line else {
         return Ok(None);
@@ -76,11 +68,7 @@ fn ended_by<'a>(
     let Some(segment) = segments.of(*member) else {
         return Ok(None);
     };
-    let key = SegmentKey {
-        member: *member,
-        began: segment.began,
-    };
-    let deliveries = rank_at(alloc, held, key)?;
+    let deliveries = rank_at(alloc, held, *member)?;
     Ok(Some(Ended {
         line: number,
         member: *member,
@@ -92,15 +80,15 @@ fn ended_by<'a>(
     }))
 }
 
-/// The deliveries of a segment with their ranks.
+/// The deliveries of a member's segment with their ranks.
 fn rank_at<'a>(
     alloc: Global,
-    held: &HashMap<SegmentKey, Vec<Entry<'a>>>,
-    key: SegmentKey,
+    held: &HashMap<u8, Vec<Entry<'a>>>,
+    member: u8,
 ) -> Result<Vec<Ranked<'a>>, AllocError>
-    ensures { IfOk result (λ ranked. map ranked_shown ranked.items ≡ ranked_behind [] (map entry_shown (listed (hash.get same_segment held.now key)))) }
+    ensures { IfOk result (λ ranked. map ranked_shown ranked.items ≡ ranked_behind [] (map entry_shown (listed (hash.get nat_eq held.now member)))) }
 {
-    match held.get(&key) {
+    match held.get(&member) {
         Some(entries) => rank(alloc, entries.as_slice()),
         None => Ok(Vec::new(alloc)),
     }
@@ -115,36 +103,48 @@ fn push_some<'a>(all: &mut Vec<Ended<'a>>, ended: Option<Ended<'a>>) -> Result<(
     Ok(())
 }
 
-/// One more delivery in its segment, if there is one.
-fn add_some<'a>(
+/// The deliveries in the segments behind a line, which may be a delivery in one.
+fn follow<'a>(
     alloc: Global,
-    held: &mut HashMap<SegmentKey, Vec<Entry<'a>>>,
+    held: &mut HashMap<u8, Vec<Entry<'a>>>,
     entry: Option<Entry<'a>>,
+    line: &Line<'_>,
 ) -> Result<(), AllocError>
-    ensures { IfOk result (λ done. (key : SegmentKey) → listed (hash.get same_segment held.new key) ≡ listed (hash.get same_segment held.old key) ++ filter (λ e. same_segment (segment_key e) key) (option_to_list entry.entry)) }
+    ensures { IfOk result (λ done. (member : ℕ) → listed (hash.get nat_eq held.new member) ≡ held_behind entry.entry (shown line.now) member (listed (hash.get nat_eq held.old member))) }
 {
     if let Some(entry) = entry {
         add(alloc, held, entry)?;
+    } else {
+        drop_ended(held, line);
     }
     Ok(())
 }
 
+/// One more delivery in its member's segment.
 fn add<'a>(
     alloc: Global,
-    held: &mut HashMap<SegmentKey, Vec<Entry<'a>>>,
+    held: &mut HashMap<u8, Vec<Entry<'a>>>,
     entry: Entry<'a>,
 ) -> Result<(), AllocError>
-    ensures { IfOk result (λ done. (key : SegmentKey) → listed (hash.get same_segment held.new key) ≡ (if same_segment (segment_key entry.entry) key then listed (hash.get same_segment held.old (segment_key entry.entry)) ++ entry.entry ∷ [] else listed (hash.get same_segment held.old key))) }
+    ensures { IfOk result (λ done. (member : ℕ) → listed (hash.get nat_eq held.new member) ≡ (if entry.entry.member == member then listed (hash.get nat_eq held.old member) ++ entry.entry ∷ [] else listed (hash.get nat_eq held.old member))) }
 {
-    let key = SegmentKey {
-        member: entry.member,
-        began: entry.segment.began,
-    };
-    let mut entries = match held.remove(&key) {
+    let mut entries = match held.remove(&entry.member) {
         Some(entries) => entries,
         None => Vec::new(alloc),
     };
     entries.push(entry)?;
-    held.insert(key, entries)?;
+    held.insert(entry.member, entries)?;
     Ok(())
+}
+
+/// A segment that a line ends, its deliveries with it.
+fn drop_ended<'a>(held: &mut HashMap<u8, Vec<Entry<'a>>>, line: &Line<'_>)
+    ensures { (member : ℕ) → listed (hash.get nat_eq held.new member) ≡ held_behind None (shown line.now) member (listed (hash.get nat_eq held.old member)) }
+{
+    match line {
+        Line::View(member, _, _) | Line::Out(member) => {
+            let _ended = held.remove(member);
+        }
+        _ => {}
+    }
 }

@@ -1,13 +1,14 @@
 //! The least delivery that a member lacks of one with which it goes into a view.
-ghost use Rattle.std.specs.Prelude.{◌≡◌, ◌++◌, ◌∷◌, if◌then◌else◌, List, map, filter, [], IfOk};
+ghost use Rattle.std.specs.Prelude.{◌≡◌, ◌&&◌, ◌∷◌, [], List, map, filter, IfOk};
 ghost use Rattle.std.specs.HashMap as hash;
 ghost use Rattle.audit_mean.specs.Segment as segment;
 ghost use Rattle.audit_mean.specs.Finding.{least};
-ghost use Rattle.run_audit.specs.Lacks.{Counts, all_lacks, ended_shown, entries_in, exceeds, first_of, goes, known_at, known_of, lacks_of_one, listed, ranked_shown, same_content_key, same_way, surplus};
-ghost use Rattle.run_audit.specs.declared.ended.Way.{Way};
+ghost use Rattle.run_audit.specs.Lacks.{Counts, all_lacks, ended_shown, entries_in, exceeds, first_of, goes_with, is_other, lacks_in, lacks_of_one, ranked_shown, same_content_key, surplus};
+ghost use Rattle.run_audit.specs.Marks.{IsInLine, is_in_front};
 
 use crate::contents::{Content, Ranked, content_of, count, count_of};
-use crate::ended::{Ended, Way};
+use crate::ended::Ended;
+use crate::marks::first_lacking;
 use std::alloc::{AllocError, Global};
 use std::collections::HashMap;
 
@@ -17,93 +18,64 @@ pub(crate) fn least_lack<'a>(
     alloc: Global,
     ended: &[Ended<'a>],
 ) -> Result<Option<(u32, u32)>, AllocError>
+    requires { IsInLine (map ended_shown ended.now) }
     ensures { IfOk result (λ found. found ≡ least (all_lacks (map ended_shown ended.now))) }
 {
-    let groups = group(alloc, ended)?;
-    let mut found = None;
+    let line = first_lacking(alloc, ended)?;
     for one in ended {
-        let lack = lack_in(alloc, ended, &groups, one)?;
-        found = first_of(found, lack);
+        if !is_in_front(one.line, line) {
+            let lack = lack_of(alloc, ended, one)?;
+            if lack.is_some() {
+                return Ok(lack);
+            }
+        }
     }
-    Ok(found)
-}
-
-/// The places of the segments that were left for one view from segments of one name, for each.
-fn group(alloc: Global, ended: &[Ended<'_>]) -> Result<HashMap<Way, Vec<usize>>, AllocError>
-    ensures { IfOk result (λ groups. (way : Way) → known_of ended.now (listed (hash.get same_way groups way)) ≡ filter (goes way) (map ended_shown ended.now)) }
-{
-    let mut groups = HashMap::new(alloc);
-    for (index, one) in ended.iter().enumerate() {
-        add(alloc, &mut groups, one.way, index)?;
-    }
-    Ok(groups)
-}
-
-fn add(
-    alloc: Global,
-    groups: &mut HashMap<Way, Vec<usize>>,
-    way: Way,
-    index: usize,
-) -> Result<(), AllocError>
-    ensures { IfOk result (λ done. (other : Way) → listed (hash.get same_way groups.new other) ≡ (if same_way way other then listed (hash.get same_way groups.old way) ++ index ∷ [] else listed (hash.get same_way groups.old other))) }
-{
-    let mut group = match groups.remove(&way) {
-        Some(group) => group,
-        None => Vec::new(alloc),
-    };
-    group.push(index)?;
-    groups.insert(way, group)?;
-    Ok(())
+    Ok(None)
 }
 
 /// The first delivery that a segment lacks of those in its group.
-fn lack_in<'a>(
-    alloc: Global,
-    ended: &[Ended<'a>],
-    groups: &HashMap<Way, Vec<usize>>,
-    one: &Ended<'a>,
-) -> Result<Option<(u32, u32)>, AllocError>
-    ensures { IfOk result (λ found. found ≡ least (lacks_of_one (ended_shown one.now) (known_of ended.now (listed (hash.get same_way groups.now one.now.way))))) }
-{
-    match groups.get(&one.way) {
-        Some(group) => lack_of(alloc, ended, group.as_slice(), one),
-        None => Ok(None),
-    }
-}
-
-/// The first delivery that a segment lacks of the segments at these places.
 fn lack_of<'a>(
     alloc: Global,
     ended: &[Ended<'a>],
-    group: &[usize],
     one: &Ended<'a>,
 ) -> Result<Option<(u32, u32)>, AllocError>
-    ensures { IfOk result (λ found. found ≡ least (lacks_of_one (ended_shown one.now) (known_of ended.now group.now))) }
+    ensures { IfOk result (λ found. found ≡ least (lacks_in (map ended_shown ended.now) (ended_shown one.now))) }
 {
     let counts = count(alloc, one.deliveries.as_slice())?;
     let mut found = None;
-    for index in group {
-        let lack = lack_at(ended, *index, one, &counts);
+    for other in ended {
+        let lack = lack_from(one, &counts, other);
         found = first_of(found, lack);
     }
     Ok(found)
 }
 
-/// The first delivery that a segment with these counts lacks of the one at a place, if that is another
-/// member's.
-fn lack_at<'a>(
-    ended: &[Ended<'a>],
-    index: usize,
+/// The first delivery that a segment with these counts lacks of another, if that is of its group and
+/// of another member.
+fn lack_from<'a>(
     one: &Ended<'a>,
     counts: &HashMap<Content<'a>, usize>,
+    other: &Ended<'a>,
 ) -> Option<(u32, u32)>
-    ensures { Counts (hash.get same_content_key counts.now) (entries_in (ended_shown one.now)) → result ≡ least (lacks_of_one (ended_shown one.now) (known_at ended.now index)) }
+    ensures { Counts (hash.get same_content_key counts.now) (entries_in (ended_shown one.now)) → result ≡ least (lacks_of_one (ended_shown one.now) (filter (goes_with (ended_shown one.now)) (ended_shown other.now ∷ []))) }
 {
-    let other = ended.get(index)?;
-    if one.member == other.member {
+    if !goes_along(one, other) {
         return None;
     }
     first_surplus(one.line, counts, other.deliveries.as_slice())
+}
+
+#[tactic(auto, using(crate::proofs::First::parted, crate::proofs::First::alike))]
+fn goes_along(one: &Ended<'_>, other: &Ended<'_>) -> bool
+    ensures { result ≡ (goes_with (ended_shown one.now) (ended_shown other.now) && is_other (ended_shown one.now) (ended_shown other.now)) }
+{
+    goes_with(one, other) && one.member != other.member
+}
+
+fn goes_with(one: &Ended<'_>, other: &Ended<'_>) -> bool
+    ensures { result ≡ goes_with (ended_shown one.now) (ended_shown other.now) }
+{
+    other.way == one.way
 }
 
 /// The first of these deliveries that is one too many of its content for a segment with these counts.
@@ -142,5 +114,15 @@ fn first_of(a: Option<(u32, u32)>, b: Option<(u32, u32)>) -> Option<(u32, u32)>
         }
         (Some(x), None) => Some(x),
         (None, other) => other,
+    }
+}
+
+/// Whether a line stands in front of another, which may be none.
+fn is_in_front(line: u32, other: Option<u32>) -> bool
+    ensures { result ≡ is_in_front line other }
+{
+    match other {
+        Some(other) => line < other,
+        None => true,
     }
 }

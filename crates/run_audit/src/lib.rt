@@ -8,6 +8,7 @@ mod error;
 mod judge;
 mod lacks;
 mod line;
+mod marks;
 mod parts;
 mod places;
 mod report;

@@ -18,15 +18,15 @@ fault_at members line (Some t) NoMember h = rw (le-ltb (member_of t.0) members h
 fault_at members line None NoMember h = absurd h
 fault_at members line taken Memory h = tt
 
--- the events read so far, in front of what the other lines spell
-abbrev pub with_front : List ScriptEvent → Result (List ScriptEvent) ScriptFault → Result (List ScriptEvent) ScriptFault
-with_front front (Ok events) = Ok (front ++ events)
+-- what is read so far, in front of what the other lines spell
+abbrev pub with_front : {A : Type 0} → List A → Result (List A) ScriptFault → Result (List A) ScriptFault
+with_front front (Ok read) = Ok (front ++ read)
 with_front front (Err fault) = Err fault
 
--- one more event is read
-pub front_more : (front : List ScriptEvent) (event : ScriptEvent) (rest : Result (List ScriptEvent) ScriptFault) → with_front (front ++ event ∷ []) rest ≡ with_front front (rest >>= λ events. Ok (event ∷ events))
-front_more front event (Ok events) = ap Ok (append_assoc front (event ∷ []) events)
-front_more front event (Err fault) = refl
+-- one more is read
+pub front_more : {A : Type 0} (front : List A) (one : A) (rest : Result (List A) ScriptFault) → with_front (front ++ one ∷ []) rest ≡ with_front front (rest >>= λ more. Ok (one ∷ more))
+front_more front one (Ok more) = ap Ok (append_assoc front (one ∷ []) more)
+front_more front one (Err fault) = refl
 
 -- with one more event read, those read and the other lines still spell the whole
 pub goes_on : (members : ℕ) (front : List ScriptEvent) (line : ℕ × List ℕ) (event : ScriptEvent) (all behind : List (ℕ × List ℕ)) (whole : Result (List ScriptEvent) ScriptFault) → all ≡ line ∷ behind → event_of members line ≡ Ok event → with_front front (events_of members all) ≡ whole → with_front (front ++ event ∷ []) (events_of members behind) ≡ whole

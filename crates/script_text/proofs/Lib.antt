@@ -1,4 +1,9 @@
+pub mod Addresses
 pub mod Cuts
 pub mod Digits
+pub mod Draws
 pub mod Faults
 pub mod Hex
+pub mod Made
+pub mod Plans
+pub mod Requests

@@ -1,3 +1,5 @@
 pub mod Answer
+pub mod Making
 pub mod Parts
+pub mod Plan
 pub mod Reading

@@ -76,3 +76,10 @@ IsBelow members number (Ok member) = (member ≡ number) × (number < members)
 IsBelow members number (Err Form) = ⊥
 IsBelow members number (Err NoMember) = members ≤ number
 IsBelow members number (Err Memory) = ⊥
+
+-- the same of a request with its turn
+abbrev pub IsTurn : ℕ → Option ((ℕ × ScriptEvent) × List Word) → Result (ℕ × ScriptEvent) LineError → Type 0
+IsTurn members taken (Ok turn) = (option_map (λ t. t.0) taken ≡ Some turn) × (member_of turn.1 < members)
+IsTurn members taken (Err Form) = taken ≡ None
+IsTurn members taken (Err NoMember) = IsSomeAnd taken (λ t. members ≤ member_of t.0.1)
+IsTurn members taken (Err Memory) = Unit {0}

@@ -78,7 +78,11 @@ fn event(alloc: Global, members: u8, mut words: Words<'_>) -> Result<ScriptEvent
     }
 }
 
-fn cast(alloc: Global, members: u8, mut words: Words<'_>) -> Result<ScriptEvent, LineError>
+pub(crate) fn cast(
+    alloc: Global,
+    members: u8,
+    mut words: Words<'_>,
+) -> Result<ScriptEvent, LineError>
     ensures { IsEvent members (spec.cast_line (words_left words.entry)) result }
 {
     let member = words.number()?;
@@ -87,7 +91,11 @@ fn cast(alloc: Global, members: u8, mut words: Words<'_>) -> Result<ScriptEvent,
     Ok(ScriptEvent::Cast(member_below(members, member)?, body))
 }
 
-fn send(alloc: Global, members: u8, mut words: Words<'_>) -> Result<ScriptEvent, LineError>
+pub(crate) fn send(
+    alloc: Global,
+    members: u8,
+    mut words: Words<'_>,
+) -> Result<ScriptEvent, LineError>
     ensures { IsEvent members (spec.send_line (words_left words.entry)) result }
 {
     let member = words.number()?;
@@ -97,7 +105,7 @@ fn send(alloc: Global, members: u8, mut words: Words<'_>) -> Result<ScriptEvent,
     Ok(ScriptEvent::Send(member_below(members, member)?, rank, body))
 }
 
-fn leave(members: u8, mut words: Words<'_>) -> Result<ScriptEvent, LineError>
+pub(crate) fn leave(members: u8, mut words: Words<'_>) -> Result<ScriptEvent, LineError>
     ensures { IsEvent members (spec.leave_line (words_left words.entry)) result }
 {
     let member = words.number()?;

@@ -1,10 +1,17 @@
 //! Reads the text of a script.
 #![tactic(auto)]
 
+mod address;
+mod datagram;
 mod error;
 mod event;
+mod generating;
 mod lines;
+mod maker;
+mod plan;
+mod plan_line;
 mod reading;
+mod seed;
 mod splits;
 #[cfg(test)]
 mod tests;
@@ -12,5 +19,8 @@ mod values;
 mod words;
 
 pub use crate::error::ScriptError;
+pub use crate::generating::generate;
+pub use crate::plan::read_plan;
 pub use crate::reading::read_script;
 pub use crate::splits::cut;
+pub use crate::values::number_within;

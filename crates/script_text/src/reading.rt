@@ -12,10 +12,10 @@ use script_mean::{Events, Script};
 use std::alloc::Global;
 
 /// The most bytes of a script.
-const MOST_BYTES: usize = 4_194_304;
+pub(crate) const MOST_BYTES: usize = 4_194_304;
 
 /// The most lines of a script.
-const MOST_LINES: usize = 100_000;
+pub(crate) const MOST_LINES: usize = 100_000;
 
 /// Reads the script that a text spells, or finds the text's first fault.
 pub fn read_script(alloc: Global, text: &[u8]) -> Result<Script, ScriptError>

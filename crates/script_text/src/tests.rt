@@ -1,6 +1,6 @@
 //! What no clause says: that reading succeeds where there is memory, also at the limits, and what an
 //! error prints.
-use crate::{ScriptError, read_script};
+use crate::{ScriptError, generate, read_plan, read_script};
 use std::alloc::{AllocError, Global};
 use std::test::Fail;
 
@@ -54,6 +54,35 @@ fn reads_up_to_the_limits(rt: HostRuntime) -> Result<(), Fail> {
             "{line_feeds} line feeds, {comment} bytes"
         );
     }
+    Ok(())
+}
+
+#[test]
+fn reads_a_plan(rt: HostRuntime) -> Result<(), Fail> {
+    let plan = read_plan(
+        rt.alloc(),
+        b"group 1 stamp 7 members 2\npeer 0 127.0.0.1:4000\npeer 1 1.2.3.255:65535\nturn 3 send 0 1 -",
+    )?;
+    let shown = format!(in rt.alloc(); "{plan:?}")?;
+    assert_eq!(rt;
+        shown.as_str(),
+        "NodePlan { group: 1, stamp: 7, peers: Peers { peers: [Peer { ip: [127, 0, 0, 1], port: 4000 }, \
+Peer { ip: [1, 2, 3, 255], port: 65535 }] }, turns: Turns { turns: [(3, Send(0, 1, Bytes { bytes: [] }))] } }"
+    );
+    Ok(())
+}
+
+#[test]
+fn makes_a_script(rt: HostRuntime) -> Result<(), Fail> {
+    let script = generate(rt.alloc(), 2, 3, 3, true)?;
+    let shown = format!(in rt.alloc(); "{script:?}")?;
+    assert_eq!(rt;
+        shown.as_str(),
+        "Script { group: 1, stamp: 1, members: 3, events: Events { events: [Cast(0, Bytes { \
+bytes: [0, 1, 2, 3, 4, 5, 6, 7, 8, 9, 10, 11, 12, 13, 14, 15, 16, 17, 18, 19, 20, 21, \
+22, 23, 24, 25, 26, 27, 28, 29, 30] }), Give(2, 0), Raw(1, Bytes { bytes: [229, 0, 0, 0, \
+1, 0, 0, 0, 1, 0, 0, 0, 0, 0, 0, 0, 7, 1, 255, 0, 3, 3, 1] })] } }"
+    );
     Ok(())
 }
 

@@ -1,5 +1,5 @@
 //! What a word spells.
-ghost use Rattle.std.specs.Prelude.{◌≡◌, IsTrue};
+ghost use Rattle.std.specs.Prelude.{◌≡◌, ◌≤◌, IfSome, IsTrue};
 ghost use Rattle.std.specs.Char.{is_ascii_digit, is_ascii_uppercase};
 ghost use Rattle.std.specs.List.{list_all, list_any};
 ghost use Rattle.std.specs.Str.Parse.{digits_value};
@@ -14,8 +14,9 @@ use std::alloc::Global;
 const MOST_DIGITS: usize = 131_014;
 
 /// A number of plain decimal digits, within bounds.
-pub(crate) fn number_within(low: u32, high: u32, word: &[u8]) -> Option<u32>
-    ensures { result ≡ spec.number_within low high word.now }
+pub fn number_within(low: u32, high: u32, word: &[u8]) -> Option<u32>
+    ensures value { result ≡ spec.number_within low high word.now }
+    ensures bound { IfSome result (λ number. number ≤ high) }
 {
     if !is_plain(word) {
         return None;
@@ -41,7 +42,8 @@ fn are_digits(word: &[u8]) -> bool
 
 fn value_within(low: u32, high: u32, digits: &[u8]) -> Option<u32>
     requires { IsTrue (list_all is_ascii_digit digits.now) }
-    ensures { result ≡ spec.within low high (digits_value 10 digits.now) }
+    ensures value { result ≡ spec.within low high (digits_value 10 digits.now) }
+    ensures bound { IfSome result (λ number. number ≤ high) }
 {
     let mut value: u64 = 0;
     for digit in digits {

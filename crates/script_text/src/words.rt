@@ -2,12 +2,14 @@
 ghost use Rattle.std.specs.Prelude.{◌≡◌};
 ghost use Rattle.std.specs.Iterator.{YieldsFirstRef, item_count};
 ghost use Rattle.script_mean.specs.Words.{words_of};
+ghost use Rattle.script_mean.specs.Address.{peer_of};
 ghost use Rattle.script_mean.specs.Form as form;
 ghost use Rattle.script_text.specs.Reading.{Takes, words_left};
 
 use crate::error::LineError;
 use crate::splits::cut;
-use crate::values;
+use crate::{address, values};
+use outside::Peer;
 use script_mean::Bytes;
 use std::alloc::Global;
 
@@ -51,6 +53,13 @@ impl<'a> Words<'a> {
     {
         let word = self.next().ok_or(LineError::Form)?;
         values::body(alloc, word)
+    }
+
+    pub(crate) fn peer(&mut self) -> Result<Peer, LineError>
+        ensures { Takes (form.one peer_of (words_left self.old)) result (words_left self.new) }
+    {
+        let word = self.next().ok_or(LineError::Form)?;
+        address::peer_of(word).ok_or(LineError::Form)
     }
 
     pub(crate) fn end(&mut self) -> Result<(), LineError>

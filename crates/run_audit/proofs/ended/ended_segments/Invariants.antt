@@ -1,9 +1,9 @@
-use Rattle.std.proofs.Common.{take}
+use Rattle.std.proofs.Common.{◌+◌, take}
+use Rattle.std.specs.Prelude.{nat_eq}
 use Rattle.std.specs.HashMap as hash
 use Rattle.run_audit.specs.Entries.{numbered}
-use Rattle.run_audit.specs.Lacks.{same_segment}
 use Rattle.run_audit.proofs.Endings.{Leads}
 use Rattle.run_audit.proofs.ended.ended_segments.Given as goal
 
 abbrev pub invariant-loop-index : goal.invariant-loop-index
-invariant-loop-index l = Leads l.segments (hash.get same_segment l.held) l.all.items (take l.index (numbered l.lines))
+invariant-loop-index l = Leads (l.index + 1) l.segments (hash.get nat_eq l.held) l.all.items (take l.index (numbered l.lines))

@@ -5,8 +5,8 @@ use Rattle.std.proofs.lemmas.Str.Parse.{digits_value-take-le}
 use Rattle.script_text.proofs.Digits.{digit_at, too_large}
 use Rattle.script_text.proofs.values.value_within.Goals as goal
 
-pub returns-then-value-from : goal.returns-then-value-from
-returns-then-value-from c =
+pub returns-then-value-from-clause-value : goal.returns-then-value-from-clause-value
+returns-then-value-from-clause-value c =
     let i = c.loop-digit.digit-index in
     let digits = c.args.digits.now in
     let digit = digit_at digits i c.requires (omega arith) in

@@ -1,0 +1,93 @@
+//! Bodies and datagrams that are made from a seed.
+ghost use Rattle.std.specs.Prelude.{◌≡◌, ◌+◌, ◌%◌, ◌<◌, ◌≤◌, ◌-◌, ◌^◌, ◌++◌, map, IfOk};
+ghost use Rattle.std.specs.List.{range_with_len};
+ghost use Rattle.script_mean.specs.Event.{member_of};
+ghost use Rattle.script_mean.specs.Generate as spec;
+ghost use Rattle.script_text.specs.Making.{Makes};
+
+use crate::seed::Seed;
+use script_mean::{Bytes, ScriptEvent};
+use std::alloc::{AllocError, Global};
+
+/// Up to 63 bytes, which count up from the event's number.
+pub(crate) fn body(alloc: Global, seed: &mut Seed, number: u32) -> Result<Bytes, AllocError>
+    ensures { Makes (spec.a_body number seed.old.value) result seed.new.value }
+{
+    let size = seed.below(64);
+    Ok(Bytes::of(counting(alloc, number, size)?))
+}
+
+fn counting(alloc: Global, number: u32, size: u32) -> Result<Vec<u8>, AllocError>
+    ensures { IfOk result (λ bytes. bytes.items ≡ map (λ byte. byte % 256) (range_with_len number size)) }
+{
+    let mut bytes = Vec::new(alloc);
+    for place in 0..size {
+        bytes.push(((u64::from(number) + u64::from(place)) % 256) as u8)?;
+    }
+    Ok(bytes)
+}
+
+/// A datagram that may be stray.
+pub(crate) fn datagram(
+    alloc: Global,
+    seed: &mut Seed,
+    members: u8,
+    member: u8,
+) -> Result<ScriptEvent, AllocError>
+    requires { (1 ≤ members) × (members ≤ 32) }
+    ensures made { Makes (spec.a_datagram members member seed.old.value) result seed.new.value }
+    ensures of_member { IfOk result (λ event. member_of event ≡ member) }
+{
+    let form = seed.below(2);
+    let sender = seed.below(u32::from(members)) as u8;
+    let count = seed.below(64);
+    let mut bytes = preamble(alloc, form, members, sender)?;
+    add_small(&mut bytes, seed, count)?;
+    let way = seed.below(8);
+    cut_short(&mut bytes, seed, way);
+    Ok(ScriptEvent::Raw(member, Bytes::of(bytes)))
+}
+
+/// The bytes in front of a datagram's headers.
+fn preamble(alloc: Global, form: u32, members: u8, sender: u8) -> Result<Vec<u8>, AllocError>
+    requires { members ≤ 32 }
+    ensures { IfOk result (λ bytes. bytes.items ≡ spec.a_preamble form members sender) }
+{
+    let mut bytes = Vec::new(alloc);
+    bytes.push(if form == 0 { 229 } else { 230 })?;
+    bytes.extend_from_slice(&1_u32.to_be_bytes())?;
+    bytes.extend_from_slice(&1_u32.to_be_bytes())?;
+    bytes.extend_from_slice(&0_u32.to_be_bytes())?;
+    bytes.extend_from_slice(&all_of(members).to_be_bytes())?;
+    bytes.push(sender)?;
+    bytes.push(255)?;
+    Ok(bytes)
+}
+
+/// The mask of a view of all members.
+fn all_of(members: u8) -> u32
+    requires { members ≤ 32 }
+    ensures { result ≡ 2 ^ members - 1 }
+{
+    (2_u64.pow(u32::from(members)) - 1) as u32
+}
+
+/// So many bytes below 4.
+fn add_small(bytes: &mut Vec<u8>, seed: &mut Seed, count: u32) -> Result<(), AllocError>
+    ensures { IfOk result (λ done. (bytes.new.items ≡ bytes.old.items ++ (spec.draws count 4 seed.old.value).0) × (seed.new.value ≡ (spec.draws count 4 seed.old.value).1)) }
+{
+    for _ in 0..count {
+        bytes.push(seed.below(4) as u8)?;
+    }
+    Ok(())
+}
+
+/// One time in eight, fewer than twenty of the bytes are left.
+fn cut_short(bytes: &mut Vec<u8>, seed: &mut Seed, way: u32)
+    ensures { spec.cut_short bytes.old.items way seed.old.value ≡ (bytes.new.items, seed.new.value) }
+{
+    if way == 0 {
+        let left = seed.below(20);
+        bytes.truncate(left as usize);
+    }
+}
