@@ -20,6 +20,7 @@ pub record Given : Type 0 where
   pub turns : Option Text
   pub me : Option Text
   pub patience : Option Text
+  pub law : Option Text
   pub wire : Bool
   pub count : Bool
   pub raw : Bool
@@ -44,6 +45,7 @@ given_in rows = do
     turns = first_of (codes "turns") rows;
     me = first_of (codes "me") rows;
     patience = first_of (codes "patience") rows;
+    law = first_of (codes "law") rows;
     wire = is_set (codes "wire") rows;
     count = is_set (codes "count") rows;
     raw = is_set (codes "raw") rows;

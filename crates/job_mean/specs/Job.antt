@@ -3,6 +3,8 @@ use Rattle.std.specs.Prelude.{ℕ, ◌==◌, ◌&&◌, nat_lt, Bool, true, List,
 use Rattle.std.specs.List.{list_all, list_any, slice_split}
 use Rattle.std.specs.Str.{bytes_eq}
 use Rattle.clap.specs.Walk.{Text}
+use Rattle.audit_mean.specs.declared.law.Law.{Law}
+use Rattle.audit_mean.specs.declared.law.Law.TheVariants.{Sender, Total, Same}
 use Rattle.script_mean.specs.Words.{◌>>=◌, number_within}
 use Rattle.job_mean.specs.Given.{Given, given_of}
 
@@ -13,13 +15,14 @@ pub data Mode : Type 0 where
 
 -- what the program is to do: judge a file; print its bypasses; replay a script, with the packets' bytes or
 -- the number of visits if wanted; replay a script that is made from a seed, with datagrams in it if wanted; run members over a network
--- of which so many receives may fail
+-- of which so many receives may fail; judge a law of the group on a report
 pub data Job : Type 0 where
   check : (file : Text) → Job
   synth : (file : Text) → Job
   replay : (file script : Text) (mode : Mode) (wire count : Bool) → Job
   load : (file : Text) (seed events members : ℕ) (raw : Bool) (mode : Mode) → Job
   node : (file plan : Text) (turns : ℕ) (members : List ℕ) (patience : ℕ) (mode : Mode) → Job
+  audit : (file : Text) (law : Law) → Job
 
 -- each word that not every job has, and whether it was given
 abbrev pub extras : Given → List (Text × Bool)
@@ -27,7 +30,7 @@ extras given =
     (codes "second", is_some given.second) ∷ (codes "run", is_some given.run) ∷ (codes "seed", is_some given.seed) ∷
     (codes "events", is_some given.events) ∷ (codes "members", is_some given.members) ∷
     (codes "turns", is_some given.turns) ∷ (codes "me", is_some given.me) ∷ (codes "patience", is_some given.patience) ∷
-    (codes "wire", given.wire) ∷ (codes "count", given.count) ∷ (codes "raw", given.raw) ∷ []
+    (codes "law", is_some given.law) ∷ (codes "wire", given.wire) ∷ (codes "count", given.count) ∷ (codes "raw", given.raw) ∷ []
 
 -- a job refuses each word that it doesn't list
 abbrev pub with_only : List Text → Given → Option (Unit {0})
@@ -42,6 +45,19 @@ mode_of (Some name) =
     if bytes_eq name (codes "layered") then Some layered
     else if bytes_eq name (codes "bypass") then Some bypass
     else None
+
+-- the law of `--law`, which has to be given
+abbrev pub law_named : Text → Option Law
+law_named name =
+    if bytes_eq name (codes "sender") then Some Sender
+    else if bytes_eq name (codes "total") then Some Total
+    else if bytes_eq name (codes "same") then Some Same
+    else None
+
+abbrev pub law_of : Option Text → Option Law
+law_of given = do
+  name ← given
+  law_named name
 
 -- a number that has to be given, within bounds
 abbrev pub a_number : ℕ → ℕ → Option Text → Option ℕ
@@ -115,6 +131,13 @@ node_job given = do
   patience ← a_number_or_zero 1000 given.patience
   Some (node given.file plan turns members patience mode)
 
+-- `audit FILE --law L`
+abbrev pub audit_job : Given → Option Job
+audit_job given = do
+  _ ← with_only (codes "law" ∷ []) given
+  law ← law_of given.law
+  Some (audit given.file law)
+
 -- the job of what was given, if it is one
 abbrev pub job : Given → Option Job
 job given =
@@ -123,6 +146,7 @@ job given =
     else if bytes_eq given.job (codes "replay") then replay_job given
     else if bytes_eq given.job (codes "load") then load_job given
     else if bytes_eq given.job (codes "node") then node_job given
+    else if bytes_eq given.job (codes "audit") then audit_job given
     else None
 
 -- the job that the words behind the program's name are, if they are one

@@ -8,6 +8,8 @@ use Rattle.layer_ast.specs.declared.tokens.Kind.{Kind}
 use Rattle.layer_ast.specs.contracts.tokens.Kind.{the_type}
 use Rattle.layer_ast.specs.Spelling.{kinds}
 use Rattle.script_mean.specs.Script.{ScriptFault, too_long, bad_line, no_member}
+use Rattle.audit_mean.specs.Finding as finding
+use Rattle.audit_mean.specs.Finding.{AuditFault}
 
 -- why a file is refused: its length; a token, by the place of the first fault; a name; a type; the graph of
 -- its events, by place and kind of a cycle or the largest weight
@@ -32,11 +34,13 @@ pub data SecondFault : Type 0 where
   misspelled : (fault : ScriptFault) → SecondFault
   too_many_rows : SecondFault
 
--- how the program ends: the whole output was written; a file or the words are refused; a read, a write or a
--- link failed; memory ran out
+-- how the program ends: the whole output was written, or it was and is a breach of a law; a file or the words are refused, a
+-- file of an audit being a report; a read, a write or a link failed; memory ran out
 pub data Ended : Type 0 where
   done : Ended
+  breached : Ended
   file_refused : (fault : FileFault) → Ended
+  report_refused : (fault : AuditFault) → Ended
   words_refused : Ended
   second_refused : (fault : SecondFault) → Ended
   read_failed : Ended
@@ -48,12 +52,14 @@ pub data Ended : Type 0 where
 abbrev pub status_number : Ended → ℕ
 status_number done = 0
 status_number (file_refused fault) = 1
+status_number (report_refused fault) = 1
 status_number words_refused = 2
 status_number (second_refused fault) = 3
 status_number read_failed = 4
 status_number write_failed = 5
 status_number link_failed = 6
 status_number no_memory = 7
+status_number breached = 8
 
 -- the word of a kind of event
 abbrev pub kind_word : Kind → List ℕ
@@ -80,6 +86,11 @@ file_cause (cycle place kind) = codes "cycle " ++ decimal place ++ codes " " ++ 
 file_cause (too_many weight) = codes "too many " ++ decimal weight
 file_cause too_many_joins = codes "joins"
 
+-- the cause for which the file of an audit is refused
+abbrev pub report_cause : AuditFault → List ℕ
+report_cause finding.too_large = codes "too large"
+report_cause (finding.bad_line line) = codes "line " ++ decimal line
+
 -- the cause for which the second file is refused
 abbrev pub second_cause : SecondFault → List ℕ
 second_cause (misspelled too_long) = codes "too long"
@@ -87,10 +98,12 @@ second_cause (misspelled (bad_line line)) = codes "line " ++ decimal line
 second_cause (misspelled (no_member line)) = codes "member " ++ decimal line
 second_cause too_many_rows = codes "rows"
 
--- the line on the standard error, which is missing where the whole output was written
+-- the line on the standard error, which is missing where the whole output was written and is no breach
 abbrev pub error_line : Ended → List ℕ
 error_line done = []
+error_line breached = codes "breach\n"
 error_line (file_refused fault) = codes "file: " ++ file_cause fault ++ codes "\n"
+error_line (report_refused fault) = codes "file: " ++ report_cause fault ++ codes "\n"
 error_line words_refused = codes "words: refused\n"
 error_line (second_refused fault) = codes "script: " ++ second_cause fault ++ codes "\n"
 error_line read_failed = codes "read fault\n"

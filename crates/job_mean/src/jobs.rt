@@ -2,7 +2,8 @@
 ghost use Rattle.std.specs.Prelude.{◌≡◌, [], ◌∷◌, Some, codes, true, false};
 ghost use Rattle.clap.specs.Faults.{is_simple_and_free};
 ghost use Rattle.job_mean.specs.Command.{command};
-ghost use Rattle.job_mean.specs.Job.{job_of_words, check, synth, replay, load, node, layered, bypass};
+ghost use Rattle.audit_mean.specs.declared.law.Law.TheVariants.{Sender, Total, Same};
+ghost use Rattle.job_mean.specs.Job.{job_of_words, check, synth, replay, load, node, audit, layered, bypass};
 
 /// The command is one of which `clap` promises what it finds, and that it refuses just what the definition
 /// refuses.
@@ -21,6 +22,9 @@ pub fn name_jobs()
     ensures loads_datagrams { job_of_words (codes "load" ∷ codes "a" ∷ codes "--raw" ∷ codes "--seed=7" ∷ codes "--events=0" ∷ codes "--members=1" ∷ codes "--run=layered" ∷ []) ≡ Some (load (codes "a") 7 0 1 true layered) }
     ensures runs_a_node { job_of_words (codes "node" ∷ codes "a" ∷ codes "b" ∷ codes "--turns" ∷ codes "1000000" ∷ codes "--me" ∷ codes "0,2,31" ∷ codes "--run" ∷ codes "layered" ∷ []) ≡ Some (node (codes "a") (codes "b") 1000000 (0 ∷ 2 ∷ 31 ∷ []) 0 layered) }
     ensures runs_a_patient_node { job_of_words (codes "node" ∷ codes "a" ∷ codes "b" ∷ codes "--patience" ∷ codes "1000" ∷ codes "--turns=1" ∷ codes "--me=0" ∷ []) ≡ Some (node (codes "a") (codes "b") 1 (0 ∷ []) 1000 bypass) }
+    ensures audits_peers { job_of_words (codes "audit" ∷ codes "r" ∷ codes "--law" ∷ codes "sender" ∷ []) ≡ Some (audit (codes "r") Sender) }
+    ensures audits_order { job_of_words (codes "audit" ∷ codes "--law=total" ∷ codes "r" ∷ []) ≡ Some (audit (codes "r") Total) }
+    ensures audits_views { job_of_words (codes "audit" ∷ codes "r" ∷ codes "--law=same" ∷ []) ≡ Some (audit (codes "r") Same) }
     ensures behind_the_end_of_options { job_of_words (codes "check" ∷ codes "--" ∷ codes "--wire" ∷ []) ≡ Some (check (codes "--wire")) }
     ensures hyphen_and_nothing { job_of_words (codes "replay" ∷ codes "-" ∷ [] ∷ []) ≡ Some (replay (codes "-") [] bypass false false) }
 {}

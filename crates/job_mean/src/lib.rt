@@ -7,4 +7,6 @@ mod status_lines;
 
 pub use crate::jobs::{name_jobs, simple_command};
 pub use crate::refusals::{refuse_by_clap, refuse_by_job, refuse_numbers};
-pub use crate::status_lines::{say_file_faults, say_second_faults, say_statuses};
+pub use crate::status_lines::{
+    say_file_faults, say_report_faults, say_second_faults, say_statuses,
+};

@@ -37,6 +37,10 @@ pub fn refuse_by_job()
     ensures raw_for_replay { job_of_words (codes "replay" ∷ codes "a" ∷ codes "b" ∷ codes "--raw" ∷ []) ≡ None }
     ensures raw_for_node { job_of_words (codes "node" ∷ codes "a" ∷ codes "b" ∷ codes "--turns=1" ∷ codes "--me=0" ∷ codes "--raw" ∷ []) ≡ None }
     ensures patience_for_load { job_of_words (codes "load" ∷ codes "a" ∷ codes "--seed=1" ∷ codes "--events=1" ∷ codes "--members=1" ∷ codes "--patience=1" ∷ []) ≡ None }
+    ensures no_law { job_of_words (codes "audit" ∷ codes "a" ∷ []) ≡ None }
+    ensures another_law { job_of_words (codes "audit" ∷ codes "a" ∷ codes "--law=order" ∷ []) ≡ None }
+    ensures script_for_audit { job_of_words (codes "audit" ∷ codes "a" ∷ codes "b" ∷ codes "--law=same" ∷ []) ≡ None }
+    ensures law_for_check { job_of_words (codes "check" ∷ codes "a" ∷ codes "--law=same" ∷ []) ≡ None }
     ensures wire_for_node { job_of_words (codes "node" ∷ codes "a" ∷ codes "b" ∷ codes "--turns=1" ∷ codes "--me=0" ∷ codes "--wire" ∷ []) ≡ None }
 {}
 

@@ -2,7 +2,8 @@
 ghost use Rattle.std.specs.Prelude.{◌≡◌, [], codes};
 ghost use Rattle.layer_ast.specs.declared.tokens.Kind.TheVariants.{BlockOk};
 ghost use Rattle.script_mean.specs.Script.{too_long, bad_line, no_member};
-ghost use Rattle.job_mean.specs.Status.{error_line, status_number, done, file_refused, words_refused, second_refused, read_failed, write_failed, link_failed, no_memory};
+ghost use Rattle.audit_mean.specs.Finding as finding;
+ghost use Rattle.job_mean.specs.Status.{error_line, status_number, done, breached, file_refused, report_refused, words_refused, second_refused, read_failed, write_failed, link_failed, no_memory};
 ghost use Rattle.job_mean.specs.Status.{too_large, bad_token, unexpected, unknown, twice, over_limit, wrong_kind, arity, direction, header, initial, cycle, too_many, too_many_joins, misspelled, too_many_rows};
 
 /// The lines of a file's faults.
@@ -31,10 +32,18 @@ pub fn say_second_faults()
     ensures rows { error_line (second_refused too_many_rows) ≡ codes "script: rows\n" }
 {}
 
+/// The lines of a report's faults.
+pub fn say_report_faults()
+    ensures length { error_line (report_refused finding.too_large) ≡ codes "file: too large\n" }
+    ensures form { error_line (report_refused (finding.bad_line 4)) ≡ codes "file: line 4\n" }
+{}
+
 /// The statuses, and the other lines.
 pub fn say_statuses()
     ensures good { (status_number done ≡ 0) × (error_line done ≡ []) }
     ensures file { status_number (file_refused too_large) ≡ 1 }
+    ensures report { status_number (report_refused finding.too_large) ≡ 1 }
+    ensures breach { (status_number breached ≡ 8) × (error_line breached ≡ codes "breach\n") }
     ensures words { (status_number words_refused ≡ 2) × (error_line words_refused ≡ codes "words: refused\n") }
     ensures second { status_number (second_refused too_many_rows) ≡ 3 }
     ensures read { (status_number read_failed ≡ 4) × (error_line read_failed ≡ codes "read fault\n") }

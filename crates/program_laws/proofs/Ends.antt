@@ -1,6 +1,7 @@
 -- The ends of a run exclude each other.
 use Rattle.std.proofs.Common.{arith, ◌≡◌, refl, sym, ◌∙◌, ap, subst, ℕ, ◌+◌, ◌<◌, true, List, [], ◌∷◌, ◌++◌, length, Option, Some, None, inl, inr}
-use Rattle.std.specs.Prelude.{◌⊎◌, nat_lt, IsSomeAnd, Ok, if◌then◌else◌}
+use Rattle.std.specs.Prelude.{◌⊎◌, nat_lt, IsSomeAnd, Result, Ok, Err, if◌then◌else◌}
+use Rattle.clap.specs.Walk.{Text}
 use Rattle.layer_mean.specs.Tree.{LayerTree}
 use Rattle.script_mean.specs.NodePlan.{node_plan}
 use Rattle.script_mean.specs.Script.{script_of}
@@ -9,14 +10,17 @@ use Rattle.stack_mean.specs.Acceptance.{rows_of}
 use Rattle.std.proofs.lemmas.Bool.{le-leb, lt-ltb}
 use Rattle.std.proofs.lemmas.List.Elements.{All-head, All-tail}
 use Rattle.std.specs.List.{All, fold, list_all}
-use Rattle.job_mean.specs.Job.{Job, check, synth, replay, load, node, job_of_words}
-use Rattle.job_mean.specs.Status.{FileFault, SecondFault, Ended, done, file_refused, words_refused, second_refused, read_failed, write_failed, link_failed, no_memory, status_number}
+use Rattle.job_mean.specs.Job.{Job, check, synth, replay, load, node, audit, job_of_words}
+use Rattle.job_mean.specs.Status.{FileFault, SecondFault, Ended, done, breached, file_refused, report_refused, words_refused, second_refused, read_failed, write_failed, link_failed, no_memory, status_number}
+use Rattle.audit_mean.specs.Finding.{AuditFault, audit_of}
+use Rattle.audit_mean.specs.declared.law.Law.{Law}
+use Rattle.audit_mean.specs.declared.law.Finding.{Finding}
 use Rattle.run_mean.specs.Journal.{Heard, failure}
 use Rattle.program_mean.specs.Judged.{Means, IsGood, Refuses}
 use Rattle.program_mean.specs.Output.{HasRoom, IsNode, is_failure, failures}
 use Rattle.program_mean.specs.Second.{crowded, after_script, after_plan, second_fault}
-use Rattle.program_mean.specs.Headline.{Counted, Run, Fails, IsSound, RoseBy, second_for, WritesOf, OfJob, gone_on, HeardAll, Began, RefusesFile, RefusesSecond, ReadsFailed, LinksFail, Ends, Says, whole, cut_off, out_of_memory}
-use Rattle.program_laws.specs.OneEnd.{Counts, CountsAll, OneEnd, Came, WordsAreDue, FilesAreDue, SecondsAreDue}
+use Rattle.program_mean.specs.Headline.{Counted, Run, Fails, IsSound, RoseBy, second_for, WritesOf, OfJob, end_found, whole_end, WritesWhole, gone_on, HeardAll, Began, ReadsStack, RefusesFile, IsNoReport, RefusesReport, RefusesSecond, ReadsFailed, LinksFail, Ends, Says, whole, cut_off, out_of_memory}
+use Rattle.program_laws.specs.OneEnd.{Counts, CountsAll, OneEnd, Came, WordsAreDue, FilesAreDue, ReportsAreDue, MissesAreDue, ChecksAreDue, FindingsAreDue, SecondsAreDue}
 use Rattle.program_laws.proofs.Files.{one_meaning, one_refusal, good_or_refused}
 
 -- What is some, and known.
@@ -52,11 +56,62 @@ met r Holds h = known (job_of_words r.words) _ (Met r Holds) h (λ job is_job x.
       holds = z;
     })))
 
+-- What two words say of a run's job and files.
+both_of : (r : Run) (P Q : Job → (file second : List ℕ) → Type 0) → Met r P → Met r Q →
+    Met r (λ job file second. P job file second × Q job file second)
+both_of r P Q m n =
+    let job : n.job ≡ m.job = some_once n.job m.job (sym n.is_job ∙ m.is_job) in
+    let file : n.file ≡ m.file = some_once n.file m.file (sym n.is_file ∙ m.is_file) in
+    let second : n.second ≡ m.second =
+    some_once n.second m.second (sym n.is_second ∙ ap (λ j. second_for j r.second) job ∙ m.is_second) in record {
+      job = m.job;
+      is_job = m.is_job;
+      sound = m.sound;
+      file = m.file;
+      is_file = m.is_file;
+      second = m.second;
+      is_second = m.is_second;
+      holds = (m.holds, subst {A = Job × List ℕ × List ℕ} (λ x. Q x.0 x.1 x.2) (λ k. (job k, file k, second k)) n.holds);
+    }
+
+-- What holds of a run's job and files, held against what else holds of them.
+against : (r : Run) (P Q : Job → (file second : List ℕ) → Type 0) (C : Type 0) → Met r P → Met r Q →
+    ((job : Job) (file second : List ℕ) → P job file second → Q job file second → C) → C
+against r P Q C m n go = let b = both_of r P Q m n in go b.job b.file b.second b.holds.0 b.holds.1
+
 -- A stack that a file means, and a second file that isn't refused over it.
-record Good (job : Job) (file second : List ℕ) : Type 0 where
+record GoodStack (job : Job) (file second : List ℕ) : Type 0 where
   stack : List LayerTree
   means : Means file stack
   fine : second_fault job stack second ≡ None
+
+-- The finding of a law on a file that is a report.
+record IsReport (law : Law) (file : List ℕ) : Type 0 where
+  finding : Finding
+  found : audit_of law file ≡ Ok finding
+
+-- What a job needs of its files.
+abbrev Good : Job → (file second : List ℕ) → Type 0
+Good (audit name law) file second = IsReport law file
+Good job file second = GoodStack job file second
+
+good_stack : (job : Job) (file second : List ℕ) → ReadsStack job → Good job file second → GoodStack job file second
+good_stack (check name) file second reads good = good
+good_stack (synth name) file second reads good = good
+good_stack (replay name script mode wire count) file second reads good = good
+good_stack (load name seed events members raw mode) file second reads good = good
+good_stack (node name plan turns me patience mode) file second reads good = good
+good_stack (audit name law) file second reads good = absurd reads
+
+-- A job that is refused for its second file or its members reads a stack.
+reads_stack : (job : Job) (stack : List LayerTree) (second : List ℕ) (fault : SecondFault) → second_fault job stack second ≡ Some fault →
+    ReadsStack job
+reads_stack (check name) stack second fault refused = tt
+reads_stack (synth name) stack second fault refused = tt
+reads_stack (replay name script mode wire count) stack second fault refused = tt
+reads_stack (load name seed events members raw mode) stack second fault refused = tt
+reads_stack (node name plan turns me patience mode) stack second fault refused = tt
+reads_stack (audit name law) stack second fault refused = absurd (cc refused)
 
 roomy : (stack : List LayerTree) (n : ℕ) → HasRoom stack n → crowded stack n ≡ None
 roomy stack n room = rw (le-leb (rows_of stack n) 8192 room) refl
@@ -88,6 +143,7 @@ writes_good print (load name seed events members raw mode) r file second out w =
     record { stack = w.0.stack; means = w.0.means; fine = roomy w.0.stack members w.0.room }
 writes_good print (node name plan turns me patience mode) r file second out w =
     record { stack = w.node.stack; means = w.node.means; fine = node_fine file second me w.node }
+writes_good print (audit name law) r file second out w = record { finding = w.0.finding; found = w.0.found }
 
 links_good : (job : Job) (r : Run) (file second : List ℕ) → LinksFail job r file second → Good job file second
 links_good (node name plan turns me patience mode) r file second (inl w) =
@@ -98,17 +154,11 @@ links_good (check name) r file second w = absurd w
 links_good (synth name) r file second w = absurd w
 links_good (replay name script mode wire count) r file second w = absurd w
 links_good (load name seed events members raw mode) r file second w = absurd w
+links_good (audit name law) r file second w = absurd w
 
--- What a run met, whatever held of it.
-record Reached (r : Run) : Type 0 where
-  job : Job
-  is_job : job_of_words r.words ≡ Some job
-  sound : IsSound r.reads
-  file : List ℕ
-  is_file : r.file ≡ Some file
-  second : List ℕ
-  is_second : second_for job r.second ≡ Some second
-  good : Good job file second
+-- A run that got to good files.
+abbrev Reached : Run → Type 0
+Reached r = Met r Good
 
 reached_by : (r : Run) (Holds : Job → (file second : List ℕ) → Type 0) → ((job : Job) (file second : List ℕ) → Holds job file second → Good job file second) →
     OfJob r Holds → Reached r
@@ -120,12 +170,11 @@ reached_by r Holds goods h = let m = met r Holds h in record {
   is_file = m.is_file;
   second = m.second;
   is_second = m.is_second;
-  good = goods m.job m.file m.second m.holds;
+  holds = goods m.job m.file m.second m.holds;
 }
 
--- Each of these ends reached good files.
-done_reached : (print : List LayerTree → List ℕ) (r : Run) → Ends print r done → Reached r
-done_reached print r h = reached_by r _ (λ job file second. writes_good print job r file second r.written) h.0
+whole_reached : (print : List LayerTree → List ℕ) (r : Run) (end : Ended) → WritesWhole print r end → Reached r
+whole_reached print r end h = reached_by r _ (λ job file second w. writes_good print job r file second r.written w.0) h.0
 
 began_reached : (print : List LayerTree → List ℕ) (r : Run) → Began print r → Reached r
 began_reached print r b =
@@ -138,30 +187,56 @@ began_reached print r b =
       is_file = m.is_file;
       second = m.second;
       is_second = m.is_second;
-      good = m.good;
+      holds = m.holds;
     }
 
-links_reached : (print : List LayerTree → List ℕ) (r : Run) → Ends print r link_failed → Reached r
-links_reached print r h = reached_by r _ (λ job file second. links_good job r file second) h.1
+links_reached : (r : Run) → OfJob r (λ job file second. LinksFail job r file second) → Reached r
+links_reached r h = reached_by r _ (λ job file second. links_good job r file second) h
+
+-- The words of a run whose job reads a stack.
+stack_job : (r : Run) (job : Job) → job_of_words r.words ≡ Some job → IsSomeAnd (job_of_words r.words) ReadsStack → ReadsStack job
+stack_job r job is h = subst (λ o. IsSomeAnd o ReadsStack) is h
 
 -- A refused file isn't reached as good.
-refused_not_reached : (r : Run) (fault : FileFault) → Reached r → IsSomeAnd r.file (λ file. Refuses file fault) → ⊥
-refused_not_reached r fault m h = known r.file (λ file. Refuses file fault) ⊥ h (λ file is refuses.
+refused_not_reached : (r : Run) (fault : FileFault) → Reached r → IsSomeAnd (job_of_words r.words) ReadsStack →
+    IsSomeAnd r.file (λ file. Refuses file fault) → ⊥
+refused_not_reached r fault m reads h = known r.file (λ file. Refuses file fault) ⊥ h (λ file is refuses.
+    let good = good_stack m.job m.file m.second (stack_job r m.job m.is_job reads) m.holds in
     let same : m.file ≡ file = some_once m.file file (sym m.is_file ∙ is) in
-    good_or_refused file m.good.stack fault (subst (λ text. Means text m.good.stack) same m.good.means) refuses)
+    good_or_refused file good.stack fault (subst (λ text. Means text good.stack) same good.means) refuses)
 
--- A refused second file isn't reached as good.
+-- A refused second file isn't good.
+second_or_good : (job : Job) (file second : List ℕ) (stack : List LayerTree) (fault : SecondFault) → Means file stack →
+    second_fault job stack second ≡ Some fault → Good job file second → ⊥
+second_or_good job file second stack fault means refused good =
+    let g = good_stack job file second (reads_stack job stack second fault refused) good in
+    let same : stack ≡ g.stack = one_meaning file stack g.stack means g.means in
+    let both : ◌≡◌ {A = Option SecondFault} (Some fault) None = sym refused ∙ ap (λ s. second_fault job s second) same ∙ g.fine in cc
+
 second_not_reached : (r : Run) (fault : SecondFault) → Reached r → RefusesSecond r fault → ⊥
-second_not_reached r fault m h =
-    let n = met r _ h.refused in
-    let job : n.job ≡ m.job = some_once n.job m.job (sym n.is_job ∙ m.is_job) in
-    let file : n.file ≡ m.file = some_once n.file m.file (sym n.is_file ∙ m.is_file) in
-    let second : n.second ≡ m.second =
-    some_once n.second m.second (sym n.is_second ∙ ap (λ j. second_for j r.second) job ∙ m.is_second) in
-    let stack : h.stack ≡ m.good.stack =
-    one_meaning m.file h.stack m.good.stack (subst (λ text. Means text h.stack) file n.holds.0) m.good.means in
-    let both : ◌≡◌ {A = Option SecondFault} (Some fault) None =
-    sym n.holds.1 ∙ (λ i. second_fault (job i) (stack i) (second i)) ∙ m.good.fine in cc
+second_not_reached r fault m h = against r _ Good ⊥ (met r _ h.refused) m (λ job file second refused good.
+    second_or_good job file second h.stack fault refused.0 refused.1 good)
+
+-- A file that is no report isn't reached as one, nor as a stack.
+no_report_or_good : (job : Job) (file second : List ℕ) (fault : AuditFault) → IsNoReport job file fault → Good job file second → ⊥
+no_report_or_good (audit name law) file second fault none good =
+    let both : ◌≡◌ {A = Result Finding AuditFault} (Err fault) (Ok good.finding) = sym none ∙ good.found in cc
+no_report_or_good (check name) file second fault none good = none
+no_report_or_good (synth name) file second fault none good = none
+no_report_or_good (replay name script mode wire count) file second fault none good = none
+no_report_or_good (load name seed events members raw mode) file second fault none good = none
+no_report_or_good (node name plan turns me patience mode) file second fault none good = none
+
+no_report_or_stack : (job : Job) (file : List ℕ) (fault : AuditFault) → IsNoReport job file fault → ReadsStack job → ⊥
+no_report_or_stack (audit name law) file fault none reads = reads
+no_report_or_stack (check name) file fault none reads = none
+no_report_or_stack (synth name) file fault none reads = none
+no_report_or_stack (replay name script mode wire count) file fault none reads = none
+no_report_or_stack (load name seed events members raw mode) file fault none reads = none
+no_report_or_stack (node name plan turns me patience mode) file fault none reads = none
+
+report_not_reached : (r : Run) (fault : AuditFault) → Reached r → RefusesReport r fault → ⊥
+report_not_reached r fault m h = against r _ Good ⊥ (met r _ h.refused) m (λ job file second. no_report_or_good job file second fault)
 
 -- A run whose words are no job reached nothing.
 no_job : (r : Run) (P : Job → Type 0) → job_of_words r.words ≡ None → IsSomeAnd (job_of_words r.words) P → ⊥
@@ -204,17 +279,16 @@ served_or_deaf print (check name) r file second counts heard w x = x
 served_or_deaf print (synth name) r file second counts heard w x = x
 served_or_deaf print (replay name script mode wire count) r file second counts heard w x = x
 served_or_deaf print (load name seed events members raw mode) r file second counts heard w x = x
+served_or_deaf print (audit name law) r file second counts heard w x = x
 
-done_or_link : (print : List LayerTree → List ℕ) (r : Run) → CountsAll r → Ends print r done → Ends print r link_failed → ⊥
-done_or_link print r counts h i =
-    let m = met r _ h.0 in
-    let n = met r _ i.1 in
-    let job : n.job ≡ m.job = some_once n.job m.job (sym n.is_job ∙ m.is_job) in
-    let file : n.file ≡ m.file = some_once n.file m.file (sym n.is_file ∙ m.is_file) in
-    let second : n.second ≡ m.second =
-    some_once n.second m.second (sym n.is_second ∙ ap (λ j. second_for j r.second) job ∙ m.is_second) in
-    served_or_deaf print m.job r m.file m.second counts h.2 m.holds
-    (subst {A = Job × List ℕ × List ℕ} (λ x. LinksFail x.0 r x.1 x.2) (λ k. (job k, file k, second k)) n.holds)
+done_or_link : (print : List LayerTree → List ℕ) (r : Run) (end : Ended) → CountsAll r → WritesWhole print r end →
+    OfJob r (λ job file second. LinksFail job r file second) → ⊥
+done_or_link print r end counts h i = against r _ _ ⊥ (met r _ h.0) (met r _ i) (λ job file second w fails.
+    served_or_deaf print job r file second counts h.2 w.0 fails)
+
+-- A job that wrote its whole output ends in one way.
+whole_once : (print : List LayerTree → List ℕ) (r : Run) (a b : Ended) → WritesWhole print r a → WritesWhole print r b → a ≡ b
+whole_once print r a b h i = against r _ _ (a ≡ b) (met r _ h.0) (met r _ i.0) (λ job file second w v. sym w.1 ∙ v.1)
 
 -- A refused file and a second file that is looked at.
 file_or_second : (r : Run) (a : FileFault) (b : SecondFault) → RefusesFile r a → RefusesSecond r b → ⊥
@@ -232,17 +306,146 @@ file_once r a b h i =
     one_refusal file a b x (subst (λ text. Refuses text b) same y)))
 
 second_once : (r : Run) (a b : SecondFault) → RefusesSecond r a → RefusesSecond r b → a ≡ b
-second_once r a b h i =
-    let m = met r _ h.refused in
-    let n = met r _ i.refused in
-    let job : n.job ≡ m.job = some_once n.job m.job (sym n.is_job ∙ m.is_job) in
-    let file : n.file ≡ m.file = some_once n.file m.file (sym n.is_file ∙ m.is_file) in
-    let second : n.second ≡ m.second =
-    some_once n.second m.second (sym n.is_second ∙ ap (λ j. second_for j r.second) job ∙ m.is_second) in
-    let stack : i.stack ≡ h.stack =
-    one_meaning m.file i.stack h.stack (subst (λ text. Means text i.stack) file n.holds.0) m.holds.0 in
-    let both : ◌≡◌ {A = Option SecondFault} (Some a) (Some b) =
-    sym m.holds.1 ∙ (λ k. second_fault (sym job k) (sym stack k) (sym second k)) ∙ n.holds.1 in cc
+second_once r a b h i = against r _ _ (a ≡ b) (met r _ h.refused) (met r _ i.refused) (λ job file second x y.
+    let stack : h.stack ≡ i.stack = one_meaning file h.stack i.stack x.0 y.0 in
+    let both : ◌≡◌ {A = Option SecondFault} (Some a) (Some b) = sym x.1 ∙ ap (λ s. second_fault job s second) stack ∙ y.1 in cc)
+
+one_report_fault : (job : Job) (file : List ℕ) (a b : AuditFault) → IsNoReport job file a → IsNoReport job file b → a ≡ b
+one_report_fault (audit name law) file a b x y =
+    let both : ◌≡◌ {A = Result Finding AuditFault} (Err a) (Err b) = sym x ∙ y in cc
+one_report_fault (check name) file a b x y = absurd x
+one_report_fault (synth name) file a b x y = absurd x
+one_report_fault (replay name script mode wire count) file a b x y = absurd x
+one_report_fault (load name seed events members raw mode) file a b x y = absurd x
+one_report_fault (node name plan turns me patience mode) file a b x y = absurd x
+
+report_once : (r : Run) (a b : AuditFault) → RefusesReport r a → RefusesReport r b → a ≡ b
+report_once r a b h i =
+    against r _ _ (a ≡ b) (met r _ h.refused) (met r _ i.refused) (λ job file second. one_report_fault job file a b)
+
+report_or_file : (r : Run) (a : AuditFault) (b : FileFault) → RefusesReport r a → RefusesFile r b → ⊥
+report_or_file r a b h i =
+    let m = met r _ h.refused in no_report_or_stack m.job m.file a m.holds (stack_job r m.job m.is_job i.job)
+
+report_or_second : (r : Run) (a : AuditFault) (b : SecondFault) → RefusesReport r a → RefusesSecond r b → ⊥
+report_or_second r a b h i = against r _ _ ⊥ (met r _ h.refused) (met r _ i.refused) (λ job file second x y.
+    no_report_or_stack job file a x (reads_stack job i.stack second b y.1))
+
+-- A read that failed, and what was read without a fault.
+read_or_sound : (r : Run) → CountsAll r → IsSound r.reads → ReadsFailed r → ⊥
+read_or_sound r counts sound h = still_rose r.reads counts.reads sound h.rose
+
+-- A run that stopped at its words or files.
+abbrev Stops : Run → Ended → Type 0
+Stops r words_refused = job_of_words r.words ≡ None
+Stops r (file_refused fault) = RefusesFile r fault
+Stops r (report_refused fault) = RefusesReport r fault
+Stops r (second_refused fault) = RefusesSecond r fault
+Stops r read_failed = ReadsFailed r
+Stops r _ = ⊥
+
+-- A run that went on behind them.
+abbrev GoesOn : (List LayerTree → List ℕ) → Run → Ended → Type 0
+GoesOn print r done = WritesWhole print r done
+GoesOn print r breached = WritesWhole print r breached
+GoesOn print r write_failed = Fails r.puts
+GoesOn print r link_failed = IsSound r.puts × OfJob r (λ job file second. LinksFail job r file second)
+GoesOn print r _ = ⊥
+
+-- How a run ended: it stopped at its words or files, it went on over good files, or memory ran out.
+data Way (print : List LayerTree → List ℕ) (r : Run) (end : Ended) : Type 0 where
+  stopped : Stops r end → Way print r end
+  went_on : GoesOn print r end → Reached r → Way print r end
+  wanted : end ≡ no_memory → Way print r end
+
+way : (print : List LayerTree → List ℕ) (r : Run) (end : Ended) → Ends print r end → Way print r end
+way print r done h = went_on h (whole_reached print r done h)
+way print r breached h = went_on h (whole_reached print r breached h)
+way print r (file_refused fault) h = stopped h
+way print r (report_refused fault) h = stopped h
+way print r words_refused h = stopped h.0
+way print r (second_refused fault) h = stopped h
+way print r read_failed h = stopped h
+way print r write_failed h = went_on h.0 (began_reached print r h.1)
+way print r link_failed h = went_on h (links_reached r h.1)
+way print r no_memory h = wanted refl
+
+-- A run that stopped there didn't get to good files.
+stops_before : (r : Run) (end : Ended) → CountsAll r → Stops r end → Reached r → ⊥
+stops_before r words_refused counts h m = jobless r h m
+stops_before r (file_refused fault) counts h m = refused_not_reached r fault m h.job h.refused
+stops_before r (report_refused fault) counts h m = report_not_reached r fault m h
+stops_before r (second_refused fault) counts h m = second_not_reached r fault m h
+stops_before r read_failed counts h m = read_or_sound r counts m.sound h
+stops_before r _ counts h m = h
+
+-- It stopped for one cause.
+stops_once : (r : Run) (a b : Ended) → CountsAll r → Stops r a → Stops r b → a ≡ b
+stops_once r words_refused words_refused counts h i = refl
+stops_once r words_refused (file_refused b) counts h i = absurd (no_job r _ h i.job)
+stops_once r words_refused (report_refused b) counts h i = absurd (no_job r _ h i.refused)
+stops_once r words_refused (second_refused b) counts h i = absurd (no_job r _ h i.refused)
+stops_once r words_refused read_failed counts h i = absurd (no_job r _ h i.unread)
+stops_once r words_refused _ counts h i = absurd i
+stops_once r (file_refused a) words_refused counts h i = absurd (no_job r _ i h.job)
+stops_once r (file_refused a) (file_refused b) counts h i = ap file_refused (file_once r a b h i)
+stops_once r (file_refused a) (report_refused b) counts h i = absurd (report_or_file r b a i h)
+stops_once r (file_refused a) (second_refused b) counts h i = absurd (file_or_second r a b h i)
+stops_once r (file_refused a) read_failed counts h i = absurd (read_or_sound r counts h.sound i)
+stops_once r (file_refused a) _ counts h i = absurd i
+stops_once r (report_refused a) words_refused counts h i = absurd (no_job r _ i h.refused)
+stops_once r (report_refused a) (file_refused b) counts h i = absurd (report_or_file r a b h i)
+stops_once r (report_refused a) (report_refused b) counts h i = ap report_refused (report_once r a b h i)
+stops_once r (report_refused a) (second_refused b) counts h i = absurd (report_or_second r a b h i)
+stops_once r (report_refused a) read_failed counts h i = absurd (read_or_sound r counts (met r _ h.refused).sound i)
+stops_once r (report_refused a) _ counts h i = absurd i
+stops_once r (second_refused a) words_refused counts h i = absurd (no_job r _ i h.refused)
+stops_once r (second_refused a) (file_refused b) counts h i = absurd (file_or_second r b a i h)
+stops_once r (second_refused a) (report_refused b) counts h i = absurd (report_or_second r b a i h)
+stops_once r (second_refused a) (second_refused b) counts h i = ap second_refused (second_once r a b h i)
+stops_once r (second_refused a) read_failed counts h i = absurd (read_or_sound r counts (met r _ h.refused).sound i)
+stops_once r (second_refused a) _ counts h i = absurd i
+stops_once r read_failed words_refused counts h i = absurd (no_job r _ i h.unread)
+stops_once r read_failed (file_refused b) counts h i = absurd (read_or_sound r counts i.sound h)
+stops_once r read_failed (report_refused b) counts h i = absurd (read_or_sound r counts (met r _ i.refused).sound h)
+stops_once r read_failed (second_refused b) counts h i = absurd (read_or_sound r counts (met r _ i.refused).sound h)
+stops_once r read_failed read_failed counts h i = refl
+stops_once r read_failed _ counts h i = absurd i
+stops_once r _ _ counts h i = absurd h
+
+-- A run that went on ended in one way.
+goes_once : (print : List LayerTree → List ℕ) (r : Run) (a b : Ended) → CountsAll r → GoesOn print r a → GoesOn print r b → a ≡ b
+goes_once print r done done counts h i = refl
+goes_once print r done breached counts h i = whole_once print r done breached h i
+goes_once print r done write_failed counts h i = absurd (still_rose r.puts counts.puts h.1 i)
+goes_once print r done link_failed counts h i = absurd (done_or_link print r done counts h i.1)
+goes_once print r done _ counts h i = absurd i
+goes_once print r breached done counts h i = whole_once print r breached done h i
+goes_once print r breached breached counts h i = refl
+goes_once print r breached write_failed counts h i = absurd (still_rose r.puts counts.puts h.1 i)
+goes_once print r breached link_failed counts h i = absurd (done_or_link print r breached counts h i.1)
+goes_once print r breached _ counts h i = absurd i
+goes_once print r write_failed done counts h i = absurd (still_rose r.puts counts.puts i.1 h)
+goes_once print r write_failed breached counts h i = absurd (still_rose r.puts counts.puts i.1 h)
+goes_once print r write_failed write_failed counts h i = refl
+goes_once print r write_failed link_failed counts h i = absurd (still_rose r.puts counts.puts i.0 h)
+goes_once print r write_failed _ counts h i = absurd i
+goes_once print r link_failed done counts h i = absurd (done_or_link print r done counts i h.1)
+goes_once print r link_failed breached counts h i = absurd (done_or_link print r breached counts i h.1)
+goes_once print r link_failed write_failed counts h i = absurd (still_rose r.puts counts.puts h.0 i)
+goes_once print r link_failed link_failed counts h i = refl
+goes_once print r link_failed _ counts h i = absurd i
+goes_once print r _ _ counts h i = absurd h
+
+pub one_end : OneEnd
+one_end print r a b counts p q h i = go (way print r a h) (way print r b i) where
+  go : Way print r a → Way print r b → a ≡ b
+  go (stopped x) (stopped y) = stops_once r a b counts x y
+  go (stopped x) (went_on y m) = absurd (stops_before r a counts x m)
+  go (went_on x m) (stopped y) = absurd (stops_before r b counts y m)
+  go (went_on x m) (went_on y n) = goes_once print r a b counts x y
+  go (wanted e) y = absurd (p e)
+  go x (wanted e) = absurd (q e)
 
 -- What was said of an end.
 said : (r : Run) (end : Ended) → Says r end → Came r (status_number end)
@@ -254,17 +457,24 @@ want : (r : Run) (n : ℕ) → Came r 7 → Came r n
 want r n (inl seven) = inr seven
 want r n (inr seven) = inr seven
 
+-- A run that came to an end that stopped it for this cause, or to none.
+want_of : (r : Run) (end : Ended) (n : ℕ) → end ≡ no_memory → Came r (status_number end) → Came r n
+want_of r end n is came = want r n (subst (λ e. Came r (status_number e)) is came)
+
 pub words_are_due : WordsAreDue
-words_are_due print r ran none = go ran.end ran.ends (said r ran.end ran.says) where
-  go : (end : Ended) → Ends print r end → Came r (status_number end) → Came r 2
-  go done h came = absurd (jobless r none (done_reached print r h))
-  go (file_refused fault) h came = absurd (no_job r _ none h.job)
-  go words_refused h came = came
-  go (second_refused fault) h came = absurd (no_job r _ none h.refused)
-  go read_failed h came = absurd (no_job r _ none h.unread)
-  go write_failed h came = absurd (jobless r none (began_reached print r h.1))
-  go link_failed h came = absurd (jobless r none (links_reached print r h))
-  go no_memory h came = want r 2 came
+words_are_due print r ran none = go ran.end (way print r ran.end ran.ends) (said r ran.end ran.says) where
+  stops : (end : Ended) → Stops r end → Came r (status_number end) → Came r 2
+  stops words_refused h came = came
+  stops (file_refused fault) h came = absurd (no_job r _ none h.job)
+  stops (report_refused fault) h came = absurd (no_job r _ none h.refused)
+  stops (second_refused fault) h came = absurd (no_job r _ none h.refused)
+  stops read_failed h came = absurd (no_job r _ none h.unread)
+  stops _ h came = absurd h
+
+  go : (end : Ended) → Way print r end → Came r (status_number end) → Came r 2
+  go end (stopped h) came = stops end h came
+  go end (went_on h m) came = absurd (jobless r none m)
+  go end (wanted is) came = want_of r end 2 is came
 
 -- A read that failed, of a run whose file was read and is refused.
 read_or_refused : (r : Run) (file : List ℕ) (fault : FileFault) → r.file ≡ Some file → Refuses file fault → ReadsFailed r → ⊥
@@ -275,122 +485,255 @@ read_or_refused r file fault is refuses h = known (job_of_words r.words) _ ⊥ h
       let same : other ≡ file = some_once other file (sym too ∙ is) in
       good_or_refused file good.stack fault (subst (λ text. Means text good.stack) same good.means) refuses)
 
-pub files_are_due : FilesAreDue
-files_are_due print r job file fault ran is_job is_file refuses = go ran.end ran.ends (said r ran.end ran.says) where
-  at_file : IsSomeAnd r.file (λ text. Refuses text fault)
-  at_file = subst (λ o. IsSomeAnd o (λ text. Refuses text fault)) (sym is_file) refuses
+-- A job that was named and its files that were read.
+met_at : (r : Run) (job : Job) (file : List ℕ) (P : Job → Type 0) (Q : List ℕ → Type 0) → job_of_words r.words ≡ Some job → r.file ≡ Some file →
+    P job → Q file → IsSomeAnd (job_of_words r.words) P × IsSomeAnd r.file Q
+met_at r job file P Q is_job is_file p q =
+    (subst (λ o. IsSomeAnd o P) (sym is_job) p, subst (λ o. IsSomeAnd o Q) (sym is_file) q)
 
-  is_a_job : job_of_words r.words ≡ None → ⊥
-  is_a_job none = let both : ◌≡◌ {A = Option Job} None (Some job) = sym none ∙ is_job in cc
+named : (r : Run) (job : Job) → job_of_words r.words ≡ Some job → job_of_words r.words ≡ None → ⊥
+named r job is none = let both : ◌≡◌ {A = Option Job} None (Some job) = sym none ∙ is in cc
+
+pub files_are_due : FilesAreDue
+files_are_due print r job file fault ran is_job reads is_file refuses = go ran.end (way print r ran.end ran.ends) (said r ran.end ran.says) where
+  at_job : IsSomeAnd (job_of_words r.words) ReadsStack × IsSomeAnd r.file (λ text. Refuses text fault)
+  at_job = met_at r job file ReadsStack (λ text. Refuses text fault) is_job is_file reads refuses
+
+  no_report : (b : AuditFault) → RefusesReport r b → ⊥
+  no_report b i = let m = met r _ i.refused in no_report_or_stack m.job m.file b m.holds (stack_job r m.job m.is_job at_job.0)
 
   looked_on : (b : SecondFault) → RefusesSecond r b → ⊥
   looked_on b i = let n = met r _ i.refused in
       let same : n.file ≡ file = some_once n.file file (sym n.is_file ∙ is_file) in
       good_or_refused file i.stack fault (subst (λ text. Means text i.stack) same n.holds.0) refuses
 
-  go : (end : Ended) → Ends print r end → Came r (status_number end) → Came r 1
-  go done h came = absurd (refused_not_reached r fault (done_reached print r h) at_file)
-  go (file_refused other) h came = came
-  go words_refused h came = absurd (is_a_job h.0)
-  go (second_refused other) h came = absurd (looked_on other h)
-  go read_failed h came = absurd (read_or_refused r file fault is_file refuses h)
-  go write_failed h came = absurd (refused_not_reached r fault (began_reached print r h.1) at_file)
-  go link_failed h came = absurd (refused_not_reached r fault (links_reached print r h) at_file)
-  go no_memory h came = want r 1 came
+  stops : (end : Ended) → Stops r end → Came r (status_number end) → Came r 1
+  stops words_refused h came = absurd (named r job is_job h)
+  stops (file_refused other) h came = came
+  stops (report_refused other) h came = came
+  stops (second_refused other) h came = absurd (looked_on other h)
+  stops read_failed h came = absurd (read_or_refused r file fault is_file refuses h)
+  stops _ h came = absurd h
 
-pub seconds_are_due : SecondsAreDue
-seconds_are_due print r job file second stack fault ran is_job is_file is_second means refuses = go ran.end ran.ends (said r ran.end ran.says) where
-  is_a_job : job_of_words r.words ≡ None → ⊥
-  is_a_job none = let both : ◌≡◌ {A = Option Job} None (Some job) = sym none ∙ is_job in cc
+  go : (end : Ended) → Way print r end → Came r (status_number end) → Came r 1
+  go end (stopped h) came = stops end h came
+  go end (went_on h m) came = absurd (refused_not_reached r fault m at_job.0 at_job.1)
+  go end (wanted is) came = want_of r end 1 is came
+
+-- A read that failed, of an audit whose file was read.
+read_or_audited : (r : Run) (name : Text) (law : Law) (file : List ℕ) → job_of_words r.words ≡ Some (audit name law) → r.file ≡ Some file →
+    ReadsFailed r → ⊥
+read_or_audited r name law file is_job is_file h =
+    go (subst (λ o. IsSomeAnd o Unread) is_job h.unread) where
+      Unread : Job → Type 0
+      Unread job = (r.file ≡ None) ⊎ ((second_for job r.second ≡ None) × IsSomeAnd r.file IsGood)
+
+      go : (r.file ≡ None) ⊎ ((second_for (audit name law) r.second ≡ None) × IsSomeAnd r.file IsGood) → ⊥
+      go (inl none) = let both : ◌≡◌ {A = Option (List ℕ)} None (Some file) = sym none ∙ is_file in cc
+      go (inr x) = let both : ◌≡◌ {A = Option (List ℕ)} (Some []) None = x.0 in cc
+
+pub reports_are_due : ReportsAreDue
+reports_are_due print r name law file fault ran is_job is_file refused = go ran.end (way print r ran.end ran.ends) (said r ran.end ran.says) where
+  no_stack : IsSomeAnd (job_of_words r.words) ReadsStack → ⊥
+  no_stack reads = stack_job r (audit name law) is_job reads
 
   reached : Reached r → ⊥
   reached m =
-      let same_job : m.job ≡ job = some_once m.job job (sym m.is_job ∙ is_job) in
-      let same_file : m.file ≡ file = some_once m.file file (sym m.is_file ∙ is_file) in
-      let same_second : m.second ≡ second =
-      some_once m.second second (sym m.is_second ∙ ap (λ j. second_for j r.second) same_job ∙ is_second) in
-      let same_stack : m.good.stack ≡ stack =
-      one_meaning file m.good.stack stack (subst (λ text. Means text m.good.stack) same_file m.good.means) means in
-      let both : ◌≡◌ {A = Option SecondFault} None (Some fault) =
-      sym m.good.fine ∙ (λ i. second_fault (same_job i) (same_stack i) (same_second i)) ∙ refuses in cc
+      let job : m.job ≡ audit name law = some_once m.job (audit name law) (sym m.is_job ∙ is_job) in
+      let same : m.file ≡ file = some_once m.file file (sym m.is_file ∙ is_file) in
+      let good : IsReport law file = subst {A = Job × List ℕ} (λ x. Good x.0 x.1 m.second) (λ k. (job k, same k)) m.holds in
+      let both : ◌≡◌ {A = Result Finding AuditFault} (Err fault) (Ok good.finding) = sym refused ∙ good.found in cc
 
-  at_file : (other : FileFault) → RefusesFile r other → ⊥
-  at_file other h = known r.file (λ text. Refuses text other) ⊥ h.refused (λ text is x.
-      let same : text ≡ file = some_once text file (sym is ∙ is_file) in
-      good_or_refused file stack other means (subst (λ t. Refuses t other) same x))
+  no_second : (b : SecondFault) → RefusesSecond r b → ⊥
+  no_second b i = let n = met r _ i.refused in
+      let job : n.job ≡ audit name law = some_once n.job (audit name law) (sym n.is_job ∙ is_job) in
+      subst ReadsStack job (reads_stack n.job i.stack n.second b n.holds.1)
 
-  unread : ReadsFailed r → ⊥
-  unread h = known (job_of_words r.words) _ ⊥ h.unread (λ other too x. which other too x) where
-    which : (other : Job) → job_of_words r.words ≡ Some other →
-        ((r.file ≡ None) ⊎ ((second_for other r.second ≡ None) × IsSomeAnd r.file IsGood)) → ⊥
-    which other too (inl none) = let both : ◌≡◌ {A = Option (List ℕ)} None (Some file) = sym none ∙ is_file in cc
-    which other too (inr x) =
-        let same : other ≡ job = some_once other job (sym too ∙ is_job) in
-        let both : ◌≡◌ {A = Option (List ℕ)} None (Some second) = sym x.0 ∙ ap (λ j. second_for j r.second) same ∙ is_second in cc
+  stops : (end : Ended) → Stops r end → Came r (status_number end) → Came r 1
+  stops words_refused h came = absurd (named r (audit name law) is_job h)
+  stops (file_refused other) h came = came
+  stops (report_refused other) h came = came
+  stops (second_refused other) h came = absurd (no_second other h)
+  stops read_failed h came = absurd (read_or_audited r name law file is_job is_file h)
+  stops _ h came = absurd h
 
-  go : (end : Ended) → Ends print r end → Came r (status_number end) → Came r 3
-  go done h came = absurd (reached (done_reached print r h))
-  go (file_refused other) h came = absurd (at_file other h)
-  go words_refused h came = absurd (is_a_job h.0)
-  go (second_refused other) h came = came
-  go read_failed h came = absurd (unread h)
-  go write_failed h came = absurd (reached (began_reached print r h.1))
-  go link_failed h came = absurd (reached (links_reached print r h))
-  go no_memory h came = want r 3 came
+  go : (end : Ended) → Way print r end → Came r (status_number end) → Came r 1
+  go end (stopped h) came = stops end h came
+  go end (went_on h m) came = absurd (reached m)
+  go end (wanted is) came = want_of r end 1 is came
 
--- A read that failed leaves no other end.
-read_or_sound : (r : Run) → CountsAll r → IsSound r.reads → ReadsFailed r → ⊥
-read_or_sound r counts sound h = still_rose r.reads counts.reads sound h.rose
+-- An audit that wrote its whole output ended by its finding.
+audit_ended : (print : List LayerTree → List ℕ) (r : Run) (name : Text) (law : Law) (file : List ℕ) (finding : Finding) (end : Ended) →
+    job_of_words r.words ≡ Some (audit name law) → r.file ≡ Some file → audit_of law file ≡ Ok finding → WritesWhole print r end →
+    end ≡ end_found (Ok finding)
+audit_ended print r name law file finding end is_job is_file found h =
+    let m = met r _ h.0 in
+    let job : m.job ≡ audit name law = some_once m.job (audit name law) (sym m.is_job ∙ is_job) in
+    let same : m.file ≡ file = some_once m.file file (sym m.is_file ∙ is_file) in
+    sym m.holds.1 ∙ (λ k. whole_end (job k) (same k)) ∙ ap end_found found
 
-pub one_end : OneEnd
-one_end print r done done counts p q h i = refl
-one_end print r done (file_refused b) counts p q h i = absurd (refused_not_reached r b (done_reached print r h) i.refused)
-one_end print r done words_refused counts p q h i = absurd (jobless r i.0 (done_reached print r h))
-one_end print r done (second_refused b) counts p q h i = absurd (second_not_reached r b (done_reached print r h) i)
-one_end print r done read_failed counts p q h i = absurd (read_or_sound r counts (done_reached print r h).sound i)
-one_end print r done write_failed counts p q h i = absurd (still_rose r.puts counts.puts h.1 i.0)
-one_end print r done link_failed counts p q h i = absurd (done_or_link print r counts h i)
-one_end print r (file_refused a) done counts p q h i = absurd (refused_not_reached r a (done_reached print r i) h.refused)
-one_end print r (file_refused a) (file_refused b) counts p q h i = ap file_refused (file_once r a b h i)
-one_end print r (file_refused a) words_refused counts p q h i = absurd (no_job r _ i.0 h.job)
-one_end print r (file_refused a) (second_refused b) counts p q h i = absurd (file_or_second r a b h i)
-one_end print r (file_refused a) read_failed counts p q h i = absurd (read_or_sound r counts h.sound i)
-one_end print r (file_refused a) write_failed counts p q h i = absurd (refused_not_reached r a (began_reached print r i.1) h.refused)
-one_end print r (file_refused a) link_failed counts p q h i = absurd (refused_not_reached r a (links_reached print r i) h.refused)
-one_end print r words_refused done counts p q h i = absurd (jobless r h.0 (done_reached print r i))
-one_end print r words_refused (file_refused b) counts p q h i = absurd (no_job r _ h.0 i.job)
-one_end print r words_refused words_refused counts p q h i = refl
-one_end print r words_refused (second_refused b) counts p q h i = absurd (no_job r _ h.0 i.refused)
-one_end print r words_refused read_failed counts p q h i = absurd (no_job r _ h.0 i.unread)
-one_end print r words_refused write_failed counts p q h i = absurd (jobless r h.0 (began_reached print r i.1))
-one_end print r words_refused link_failed counts p q h i = absurd (jobless r h.0 (links_reached print r i))
-one_end print r (second_refused a) done counts p q h i = absurd (second_not_reached r a (done_reached print r i) h)
-one_end print r (second_refused a) (file_refused b) counts p q h i = absurd (file_or_second r b a i h)
-one_end print r (second_refused a) words_refused counts p q h i = absurd (no_job r _ i.0 h.refused)
-one_end print r (second_refused a) (second_refused b) counts p q h i = ap second_refused (second_once r a b h i)
-one_end print r (second_refused a) read_failed counts p q h i = absurd (read_or_sound r counts (met r _ h.refused).sound i)
-one_end print r (second_refused a) write_failed counts p q h i = absurd (second_not_reached r a (began_reached print r i.1) h)
-one_end print r (second_refused a) link_failed counts p q h i = absurd (second_not_reached r a (links_reached print r i) h)
-one_end print r read_failed done counts p q h i = absurd (read_or_sound r counts (done_reached print r i).sound h)
-one_end print r read_failed (file_refused b) counts p q h i = absurd (read_or_sound r counts i.sound h)
-one_end print r read_failed words_refused counts p q h i = absurd (no_job r _ i.0 h.unread)
-one_end print r read_failed (second_refused b) counts p q h i = absurd (read_or_sound r counts (met r _ i.refused).sound h)
-one_end print r read_failed read_failed counts p q h i = refl
-one_end print r read_failed write_failed counts p q h i = absurd (read_or_sound r counts (began_reached print r i.1).sound h)
-one_end print r read_failed link_failed counts p q h i = absurd (read_or_sound r counts (links_reached print r i).sound h)
-one_end print r write_failed done counts p q h i = absurd (still_rose r.puts counts.puts i.1 h.0)
-one_end print r write_failed (file_refused b) counts p q h i = absurd (refused_not_reached r b (began_reached print r h.1) i.refused)
-one_end print r write_failed words_refused counts p q h i = absurd (jobless r i.0 (began_reached print r h.1))
-one_end print r write_failed (second_refused b) counts p q h i = absurd (second_not_reached r b (began_reached print r h.1) i)
-one_end print r write_failed read_failed counts p q h i = absurd (read_or_sound r counts (began_reached print r h.1).sound i)
-one_end print r write_failed write_failed counts p q h i = refl
-one_end print r write_failed link_failed counts p q h i = absurd (still_rose r.puts counts.puts i.0 h.0)
-one_end print r link_failed done counts p q h i = absurd (done_or_link print r counts i h)
-one_end print r link_failed (file_refused b) counts p q h i = absurd (refused_not_reached r b (links_reached print r h) i.refused)
-one_end print r link_failed words_refused counts p q h i = absurd (jobless r i.0 (links_reached print r h))
-one_end print r link_failed (second_refused b) counts p q h i = absurd (second_not_reached r b (links_reached print r h) i)
-one_end print r link_failed read_failed counts p q h i = absurd (read_or_sound r counts (links_reached print r h).sound i)
-one_end print r link_failed write_failed counts p q h i = absurd (still_rose r.puts counts.puts h.0 i.0)
-one_end print r link_failed link_failed counts p q h i = refl
-one_end print r no_memory b counts p q h i = absurd (p refl)
-one_end print r a no_memory counts p q h i = absurd (q refl)
+-- Neither a check nor an audit ends at its network.
+no_links : (r : Run) (job : Job) → job_of_words r.words ≡ Some job → ((file second : List ℕ) → LinksFail job r file second → ⊥) →
+    OfJob r (λ job file second. LinksFail job r file second) → ⊥
+no_links r job is_job none h =
+    let m = met r _ h in
+    let same : m.job ≡ job = some_once m.job job (sym m.is_job ∙ is_job) in
+    none m.file m.second (subst (λ j. LinksFail j r m.file m.second) same m.holds)
+
+pub findings_are_due : FindingsAreDue
+findings_are_due print r name law file finding ran puts is_job is_file found =
+    go ran.end (way print r ran.end ran.ends) (said r ran.end ran.says) where
+      no_stack : IsSomeAnd (job_of_words r.words) ReadsStack → ⊥
+      no_stack reads = stack_job r (audit name law) is_job reads
+
+      no_fault : (other : AuditFault) → RefusesReport r other → ⊥
+      no_fault other i =
+          let m = met r _ i.refused in
+          let job : m.job ≡ audit name law = some_once m.job (audit name law) (sym m.is_job ∙ is_job) in
+          let same : m.file ≡ file = some_once m.file file (sym m.is_file ∙ is_file) in
+          let refused : audit_of law file ≡ Err other = subst {A = Job × List ℕ} (λ x. IsNoReport x.0 x.1 other) (λ k. (job k, same k)) m.holds in
+          let both : ◌≡◌ {A = Result Finding AuditFault} (Ok finding) (Err other) = sym found ∙ refused in cc
+
+      no_second : (b : SecondFault) → RefusesSecond r b → ⊥
+      no_second b i = let n = met r _ i.refused in
+          let job : n.job ≡ audit name law = some_once n.job (audit name law) (sym n.is_job ∙ is_job) in
+          subst ReadsStack job (reads_stack n.job i.stack n.second b n.holds.1)
+
+      stops : (end : Ended) → Stops r end → ⊥
+      stops words_refused h = named r (audit name law) is_job h
+      stops (file_refused other) h = no_stack h.job
+      stops (report_refused other) h = no_fault other h
+      stops (second_refused other) h = no_second other h
+      stops read_failed h = read_or_audited r name law file is_job is_file h
+      stops _ h = h
+
+      goes : (end : Ended) → GoesOn print r end → end ≡ end_found (Ok finding)
+      goes done h = audit_ended print r name law file finding done is_job is_file found h
+      goes breached h = audit_ended print r name law file finding breached is_job is_file found h
+      goes write_failed h = absurd (puts h)
+      goes link_failed h = absurd (no_links r (audit name law) is_job (λ text second fails. fails) h.1)
+      goes _ h = absurd h
+
+      go : (end : Ended) → Way print r end → Came r (status_number end) → Came r (status_number (end_found (Ok finding)))
+      go end (stopped h) came = absurd (stops end h)
+      go end (went_on h m) came = subst (λ e. Came r (status_number e)) (goes end h) came
+      go end (wanted is) came = want_of r end (status_number (end_found (Ok finding))) is came
+
+pub checks_are_due : ChecksAreDue
+checks_are_due print r name file stack ran puts is_job is_file means =
+    go ran.end (way print r ran.end ran.ends) (said r ran.end ran.says) where
+      reads : IsSomeAnd (job_of_words r.words) ReadsStack
+      reads = subst (λ o. IsSomeAnd o ReadsStack) (sym is_job) tt
+
+      at_file : (other : FileFault) → RefusesFile r other → ⊥
+      at_file other h = known r.file (λ text. Refuses text other) ⊥ h.refused (λ text is x.
+          let same : text ≡ file = some_once text file (sym is ∙ is_file) in
+          good_or_refused file stack other means (subst (λ t. Refuses t other) same x))
+
+      no_report : (b : AuditFault) → RefusesReport r b → ⊥
+      no_report b i = let m = met r _ i.refused in no_report_or_stack m.job m.file b m.holds (stack_job r m.job m.is_job reads)
+
+      no_second : (b : SecondFault) → RefusesSecond r b → ⊥
+      no_second b i = let n = met r _ i.refused in
+          let job : n.job ≡ check name = some_once n.job (check name) (sym n.is_job ∙ is_job) in
+          let refused : ◌≡◌ {A = Option SecondFault} None (Some b) = subst (λ j. second_fault j i.stack n.second ≡ Some b) job n.holds.1 in cc
+
+      unread : ReadsFailed r → ⊥
+      unread h = which (subst (λ o. IsSomeAnd o Unread) is_job h.unread) where
+        Unread : Job → Type 0
+        Unread job = (r.file ≡ None) ⊎ ((second_for job r.second ≡ None) × IsSomeAnd r.file IsGood)
+
+        which : (r.file ≡ None) ⊎ ((second_for (check name) r.second ≡ None) × IsSomeAnd r.file IsGood) → ⊥
+        which (inl none) = let both : ◌≡◌ {A = Option (List ℕ)} None (Some file) = sym none ∙ is_file in cc
+        which (inr x) = let both : ◌≡◌ {A = Option (List ℕ)} (Some []) None = x.0 in cc
+
+      stops : (end : Ended) → Stops r end → ⊥
+      stops words_refused h = named r (check name) is_job h
+      stops (file_refused other) h = at_file other h
+      stops (report_refused other) h = no_report other h
+      stops (second_refused other) h = no_second other h
+      stops read_failed h = unread h
+      stops _ h = h
+
+      ended : (end : Ended) → WritesWhole print r end → end ≡ done
+      ended end h =
+          let m = met r _ h.0 in
+          sym m.holds.1 ∙ ap (λ j. whole_end j m.file) (some_once m.job (check name) (sym m.is_job ∙ is_job))
+
+      goes : (end : Ended) → GoesOn print r end → end ≡ done
+      goes done h = refl
+      goes breached h = ended breached h
+      goes write_failed h = absurd (puts h)
+      goes link_failed h = absurd (no_links r (check name) is_job (λ text second fails. fails) h.1)
+      goes _ h = absurd h
+
+      go : (end : Ended) → Way print r end → Came r (status_number end) → Came r 0
+      go end (stopped h) came = absurd (stops end h)
+      go end (went_on h m) came = subst (λ e. Came r (status_number e)) (goes end h) came
+      go end (wanted is) came = want_of r end 0 is came
+
+pub misses_are_due : MissesAreDue
+misses_are_due print r job ran is_job none = go ran.end (way print r ran.end ran.ends) (said r ran.end ran.says) where
+  at_file : (P : List ℕ → Type 0) → IsSomeAnd r.file P → ⊥
+  at_file P h = subst (λ o. IsSomeAnd o P) none h
+
+  met_none : (P : Job → (file second : List ℕ) → Type 0) → Met r P → ⊥
+  met_none P m = let both : ◌≡◌ {A = Option (List ℕ)} None (Some m.file) = sym none ∙ m.is_file in cc
+
+  stops : (end : Ended) → Stops r end → Came r (status_number end) → Came r 4
+  stops words_refused h came = absurd (named r job is_job h)
+  stops (file_refused other) h came = absurd (at_file _ h.refused)
+  stops (report_refused other) h came = absurd (met_none _ (met r _ h.refused))
+  stops (second_refused other) h came = absurd (met_none _ (met r _ h.refused))
+  stops read_failed h came = came
+  stops _ h came = absurd h
+
+  go : (end : Ended) → Way print r end → Came r (status_number end) → Came r 4
+  go end (stopped h) came = stops end h came
+  go end (went_on h m) came = absurd (met_none Good m)
+  go end (wanted is) came = want_of r end 4 is came
+
+pub seconds_are_due : SecondsAreDue
+seconds_are_due print r job file second stack fault ran is_job is_file is_second means refuses =
+    go ran.end (way print r ran.end ran.ends) (said r ran.end ran.says) where
+      reads : IsSomeAnd (job_of_words r.words) ReadsStack
+      reads = subst (λ o. IsSomeAnd o ReadsStack) (sym is_job) (reads_stack job stack second fault refuses)
+
+      reached : Reached r → ⊥
+      reached m =
+          let same_job : m.job ≡ job = some_once m.job job (sym m.is_job ∙ is_job) in
+          let same_file : m.file ≡ file = some_once m.file file (sym m.is_file ∙ is_file) in
+          let same_second : m.second ≡ second =
+          some_once m.second second (sym m.is_second ∙ ap (λ j. second_for j r.second) same_job ∙ is_second) in
+          second_or_good job file second stack fault means refuses
+          (subst {A = Job × List ℕ × List ℕ} (λ x. Good x.0 x.1 x.2) (λ k. (same_job k, same_file k, same_second k)) m.holds)
+
+      at_file : (other : FileFault) → RefusesFile r other → ⊥
+      at_file other h = known r.file (λ text. Refuses text other) ⊥ h.refused (λ text is x.
+          let same : text ≡ file = some_once text file (sym is ∙ is_file) in
+          good_or_refused file stack other means (subst (λ t. Refuses t other) same x))
+
+      no_report : (b : AuditFault) → RefusesReport r b → ⊥
+      no_report b i = let m = met r _ i.refused in no_report_or_stack m.job m.file b m.holds (stack_job r m.job m.is_job reads)
+
+      unread : ReadsFailed r → ⊥
+      unread h = known (job_of_words r.words) _ ⊥ h.unread (λ other too x. which other too x) where
+        which : (other : Job) → job_of_words r.words ≡ Some other →
+            ((r.file ≡ None) ⊎ ((second_for other r.second ≡ None) × IsSomeAnd r.file IsGood)) → ⊥
+        which other too (inl none) = let both : ◌≡◌ {A = Option (List ℕ)} None (Some file) = sym none ∙ is_file in cc
+        which other too (inr x) =
+            let same : other ≡ job = some_once other job (sym too ∙ is_job) in
+            let both : ◌≡◌ {A = Option (List ℕ)} None (Some second) = sym x.0 ∙ ap (λ j. second_for j r.second) same ∙ is_second in cc
+
+      stops : (end : Ended) → Stops r end → Came r (status_number end) → Came r 3
+      stops words_refused h came = absurd (named r job is_job h)
+      stops (file_refused other) h came = absurd (at_file other h)
+      stops (report_refused other) h came = absurd (no_report other h)
+      stops (second_refused other) h came = came
+      stops read_failed h came = absurd (unread h)
+      stops _ h came = absurd h
+
+      go : (end : Ended) → Way print r end → Came r (status_number end) → Came r 3
+      go end (stopped h) came = stops end h came
+      go end (went_on h m) came = absurd (reached m)
+      go end (wanted is) came = want_of r end 3 is came

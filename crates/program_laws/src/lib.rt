@@ -2,12 +2,16 @@
 #![tactic(auto)]
 
 ghost use Rattle.program_laws.specs.OneEnd.{
+  ChecksAreDue,
   FilesAreDue,
+  FindingsAreDue,
   GoodOrRefused,
+  MissesAreDue,
   OneEnd,
   OneFile,
   OneMeaning,
   OneRefusal,
+  ReportsAreDue,
   SecondsAreDue,
   WordsAreDue,
 };
@@ -45,6 +49,26 @@ pub fn words_are_due()
 /// A file that is refused ends with status 1, or memory ran out.
 pub fn files_are_due()
     ensures { FilesAreDue }
+{}
+
+/// An audit's file that is no report ends with status 1, or memory ran out.
+pub fn reports_are_due()
+    ensures { ReportsAreDue }
+{}
+
+/// A file that isn't there ends with status 4, or memory ran out.
+pub fn misses_are_due()
+    ensures { MissesAreDue }
+{}
+
+/// A check of a good file of which no write failed ends with status 0, or memory ran out.
+pub fn checks_are_due()
+    ensures { ChecksAreDue }
+{}
+
+/// An audit of a report of which no write failed ends with status 0 or 8, by what it finds, or memory ran out.
+pub fn findings_are_due()
+    ensures { FindingsAreDue }
 {}
 
 /// A second file that is refused ends with status 3, or memory ran out.

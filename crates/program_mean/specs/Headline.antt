@@ -1,16 +1,19 @@
 -- The program as a whole: from the words and the bytes of the files to what it writes, what it says and its status.
-use Rattle.std.specs.Prelude.{◌≡◌, ℕ, ◌+◌, List, [], ◌++◌, length, Option, Some, None, IsSomeAnd, ◌⊎◌, false}
+use Rattle.std.specs.Prelude.{◌≡◌, ℕ, ◌+◌, List, [], ◌++◌, length, Option, Some, None, IsSomeAnd, Result, Ok, Err, ◌⊎◌, false}
 use Rattle.clap.specs.Walk.{Text}
 use Rattle.outside.specs.Count.{last_count, Rose}
 use Rattle.layer_mean.specs.Tree.{LayerTree}
 use Rattle.stack_mean.specs.Plan.{Plan}
 use Rattle.script_mean.specs.declared.script.Script.{Script}
-use Rattle.job_mean.specs.Job.{Mode, layered, bypass, Job, check, synth, replay, load, node, job_of_words}
-use Rattle.job_mean.specs.Status.{FileFault, SecondFault, Ended, done, file_refused, words_refused, second_refused, read_failed, write_failed, link_failed, no_memory, status_number, error_line}
+use Rattle.audit_mean.specs.Finding.{AuditFault, audit_of}
+use Rattle.audit_mean.specs.declared.law.Finding.{Finding}
+use Rattle.audit_mean.specs.declared.law.Finding.TheVariants.{Breach}
+use Rattle.job_mean.specs.Job.{Mode, layered, bypass, Job, check, synth, replay, load, node, audit, job_of_words}
+use Rattle.job_mean.specs.Status.{FileFault, SecondFault, Ended, done, breached, file_refused, report_refused, words_refused, second_refused, read_failed, write_failed, link_failed, no_memory, status_number, error_line}
 use Rattle.run_mean.specs.Journal.{Heard, Handed}
 use Rattle.run_mean.specs.Report.{report_lines, output_in}
 use Rattle.program_mean.specs.Judged.{Means, IsGood, Refuses}
-use Rattle.program_mean.specs.Output.{Checks, Replays, Loads, Surroundings, NodeWords, failures, Serves, CannotListen, GoesDeaf}
+use Rattle.program_mean.specs.Output.{Checks, Replays, Loads, Surroundings, NodeWords, failures, Serves, CannotListen, GoesDeaf, Audits}
 use Rattle.program_mean.specs.Second.{second_fault}
 
 -- A count of faults before and after a run.
@@ -75,6 +78,16 @@ WritesOf print (load name seed events members raw mode) r file second out =
     Loads file seed events members raw mode out × HandsNothing r
 WritesOf print (node name plan turns me patience mode) r file second out =
     Serves file second (node_words turns me patience mode) r.surroundings out r.sent
+WritesOf print (audit name law) r file second out = Audits file law out × HandsNothing r
+
+-- How a job ends whose whole output was written: that an audit found a breach is an end of its own.
+abbrev pub end_found : Result Finding AuditFault → Ended
+end_found (Ok (Breach first second)) = breached
+end_found _ = done
+
+abbrev pub whole_end : Job → (file : List ℕ) → Ended
+whole_end (audit name law) file = end_found (audit_of law file)
+whole_end _ file = done
 
 -- The words are a job, both its files were read without a fault, and something holds of these.
 abbrev pub OfJob : Run → (Job → (file second : List ℕ) → Type 0) → Type 0
@@ -85,16 +98,21 @@ OfJob r Holds = IsSomeAnd (job_of_words r.words) (λ job. IsSound r.reads × IsS
 abbrev pub Writes : (List LayerTree → List ℕ) → Run → List ℕ → Type 0
 Writes print r out = OfJob r (λ job file second. WritesOf print job r file second out)
 
+-- Of the network's listens and receives none failed but those receives that are told.
+abbrev pub HeardAll : Run → Type 0
+HeardAll r = RoseBy r.links (failures r.surroundings.heard)
+
+-- What was written is the whole output of a run's job, whose end this is, and no write failed.
+abbrev pub WritesWhole : (List LayerTree → List ℕ) → Run → Ended → Type 0
+WritesWhole print r end =
+    OfJob r (λ job file second. WritesOf print job r file second r.written × (whole_end job file ≡ end)) × IsSound r.puts × HeardAll r
+
 -- A run whose clock and network told more, and to whose network more was handed.
 abbrev pub gone_on : Run → List ℕ → List Heard → List Handed → Run
 gone_on r clock heard sent = record r {
   surroundings = record r.surroundings { clock = r.surroundings.clock ++ clock; heard = r.surroundings.heard ++ heard };
   sent = r.sent ++ sent;
 }
-
--- Of the network's listens and receives none failed but those receives that are told.
-abbrev pub HeardAll : Run → Type 0
-HeardAll r = RoseBy r.links (failures r.surroundings.heard)
 
 -- A run was broken off: what was written is a prefix of a whole output, and what was handed to the network one of what is handed on then,
 -- where a node's clock and network, had they been asked further, told this.
@@ -112,11 +130,26 @@ pub record WroteNothing (r : Run) : Type 0 where
   pub sent : r.sent ≡ []
   pub sound : IsSound r.links
 
--- The words are a job whose file was read without a fault and is refused.
+-- The file of a job is a stack file, but for an audit's, which is a report.
+abbrev pub ReadsStack : Job → Type 0
+ReadsStack (audit name law) = ⊥
+ReadsStack _ = Unit {0}
+
+-- The words are a job whose stack file was read without a fault and is refused.
 pub record RefusesFile (r : Run) (fault : FileFault) : Type 0 where
   pub sound : IsSound r.reads
-  pub job : IsSomeAnd (job_of_words r.words) (λ job. Unit {0})
+  pub job : IsSomeAnd (job_of_words r.words) ReadsStack
   pub refused : IsSomeAnd r.file (λ file. Refuses file fault)
+  pub nothing : WroteNothing r
+
+-- A job is an audit, and its file is no report.
+abbrev pub IsNoReport : Job → (file : List ℕ) → AuditFault → Type 0
+IsNoReport (audit name law) file fault = audit_of law file ≡ Err fault
+IsNoReport _ file fault = ⊥
+
+-- The words are an audit whose file was read without a fault and is refused.
+pub record RefusesReport (r : Run) (fault : AuditFault) : Type 0 where
+  pub refused : OfJob r (λ job file second. IsNoReport job file fault)
   pub nothing : WroteNothing r
 
 -- The words are a job whose file is good; its second file, if it has one, was read without a fault; and that or the job's members are
@@ -142,8 +175,10 @@ LinksFail _ r file second = ⊥
 
 -- How a run may end, with the cause of each status: what went well before stands with each. Want of memory is free.
 abbrev pub Ends : (List LayerTree → List ℕ) → Run → Ended → Type 0
-Ends print r done = Writes print r r.written × IsSound r.puts × HeardAll r
+Ends print r done = WritesWhole print r done
+Ends print r breached = WritesWhole print r breached
 Ends print r (file_refused fault) = RefusesFile r fault
+Ends print r (report_refused fault) = RefusesReport r fault
 Ends print r words_refused = (job_of_words r.words ≡ None) × IsSound r.reads × WroteNothing r
 Ends print r (second_refused fault) = RefusesSecond r fault
 Ends print r read_failed = ReadsFailed r

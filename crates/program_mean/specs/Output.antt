@@ -1,6 +1,11 @@
 -- What each job writes, over the bytes of its files: the headline is the case of a replay.
-use Rattle.std.specs.Prelude.{◌≡◌, ℕ, ◌+◌, ◌*◌, ◌==◌, ◌<◌, ◌≤◌, All, Bool, true, false, List, [], ◌∷◌, ◌++◌, count_by, length, Ok}
+use Rattle.std.specs.Prelude.{◌≡◌, ℕ, ◌+◌, ◌*◌, ◌==◌, ◌<◌, ◌≤◌, All, Bool, true, false, List, [], ◌∷◌, ◌++◌, codes, count_by, length, Ok}
+use Rattle.std.specs.Fmt.{decimal}
 use Rattle.std.specs.List.{concat}
+use Rattle.audit_mean.specs.Finding.{audit_of}
+use Rattle.audit_mean.specs.declared.law.Law.{Law}
+use Rattle.audit_mean.specs.declared.law.Finding.{Finding}
+use Rattle.audit_mean.specs.declared.law.Finding.TheVariants.{Holds, Breach}
 use Rattle.layer_mean.specs.Tree.{LayerTree}
 use Rattle.script_mean.specs.Generate.{generate}
 use Rattle.script_mean.specs.NodePlan.{node_plan}
@@ -124,3 +129,14 @@ pub record GoesDeaf (file plan_text : List ℕ) (words : NodeWords) (s : Surroun
   pub written :
       out ≡ concat (note_lines node.stack (plans_of node.stack) (failed s) (noted node.plan words s) (played node.stack node.plan words s))
   pub handed_on : sent ≡ handed_by node.stack node.plan words s
+
+-- The line of an audit's finding.
+abbrev pub finding_line : Finding → List ℕ
+finding_line Holds = codes "holds\n"
+finding_line (Breach first second) = codes "breach " ++ decimal first ++ codes " " ++ decimal second ++ codes "\n"
+
+-- `audit`: the file is a report, and what is written is what a law of the group comes to on it.
+pub record Audits (file : List ℕ) (law : Law) (out : List ℕ) : Type 0 where
+  pub finding : Finding
+  pub found : audit_of law file ≡ Ok finding
+  pub written : out ≡ finding_line finding

@@ -7,7 +7,7 @@ use Rattle.script_mean.specs.Script.{ScriptFault, no_member, script_of}
 use Rattle.script_mean.specs.declared.plan.NodePlan.{NodePlan}
 use Rattle.script_mean.specs.declared.script.Script.{Script}
 use Rattle.stack_mean.specs.Acceptance.{rows_of}
-use Rattle.job_mean.specs.Job.{Job, check, synth, replay, load, node}
+use Rattle.job_mean.specs.Job.{Job, check, synth, replay, load, node, audit}
 use Rattle.job_mean.specs.Status.{SecondFault, misspelled, too_many_rows}
 use Rattle.program_mean.specs.Output.{most_rows}
 
@@ -33,3 +33,4 @@ second_fault (synth file) stack text = None
 second_fault (replay file script mode wire count) stack text = after_script stack (script_of text)
 second_fault (load file seed events members raw mode) stack text = crowded stack members
 second_fault (node file plan turns me patience mode) stack text = after_plan stack me (node_plan text)
+second_fault (audit file law) stack text = None

@@ -3,7 +3,8 @@ use Rattle.std.specs.Prelude.{ℕ, List, ◌++◌, codes, true, false}
 use Rattle.job_mean.specs.Job.{layered, bypass}
 use Rattle.file_mean.specs.CounterFile as counter
 use Rattle.library_trees.specs.WholeStack as whole
-use Rattle.program_mean.specs.Output.{Checks, Replays}
+use Rattle.audit_mean.specs.declared.law.Law.TheVariants.{Sender, Total}
+use Rattle.program_mean.specs.Output.{Checks, Replays, Audits}
 use Rattle.program_rows.specs.FlipFile as flip
 
 -- A script of a cast and a delivery.
@@ -43,3 +44,11 @@ flip_report =
 
 abbrev pub ReplaysFlips : Type 0
 ReplaysFlips = Replays flip.text flips bypass true true flip_report
+
+-- A report in which two members deliver two casts in another order: that is a breach of the one order of all casts, and none of each
+-- peer's.
+abbrev pub crossed : List ℕ
+crossed = codes "deliver 0 cast 0 61\n" ++ codes "deliver 1 cast 1 62\n" ++ codes "deliver 1 cast 0 61\n" ++ codes "end 3\n"
+
+abbrev pub AuditsCrossed : Type 0
+AuditsCrossed = Audits crossed Total (codes "breach 1 2\n") × Audits crossed Sender (codes "holds\n")

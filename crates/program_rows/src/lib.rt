@@ -3,7 +3,7 @@
 
 ghost use Rattle.program_rows.specs.Refused.{RefusesBadByte, RefusesCycle, RefusesEmpty, RefusesUnknown, RefusesWeight};
 ghost use Rattle.program_rows.specs.Node.{EndsThere, GoesOn};
-ghost use Rattle.program_rows.specs.Written.{ChecksLibrary, ReplaysCounter, ReplaysFlips, ReplaysShort};
+ghost use Rattle.program_rows.specs.Written.{AuditsCrossed, ChecksLibrary, ReplaysCounter, ReplaysFlips, ReplaysShort};
 
 /// Files that are refused, with their causes.
 pub fn refuses()
@@ -42,4 +42,9 @@ pub fn node_goes_deaf()
 /// The judging of the whole library.
 pub fn checks_library()
     ensures { ChecksLibrary }
+{}
+
+/// An audit with a breach, and one without.
+pub fn audits_crossed()
+    ensures { AuditsCrossed }
 {}

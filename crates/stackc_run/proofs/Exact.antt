@@ -265,7 +265,7 @@ both_were_read words a (Err Write) ended three = absurd (omega (arith, three))
 both_were_read words a (Err Memory) ended three = absurd (omega (arith, three))
 
 -- each refusal comes exactly where it is due
-exact : (words : Option Replay) (a : Around) (e : Errors) (end : Result (Unit {0}) Fault) → Ended words a end → Said end e → Exact words a e.status
+pub exact : (words : Option Replay) (a : Around) (e : Errors) (end : Result (Unit {0}) Fault) → Ended words a end → Said end e → Exact words a e.status
 exact words a e end ended said = record {
   words_due = λ none. ⊎_elim (λ own. ⊎_elim (λ two. inl (own ∙ two)) (λ seven. inr (own ∙ seven)) (words_are_due words a end ended none)) inr (status_said end e said);
   words_only = λ two. words_are_cause words a end ended (status_ended end e 2 said two (omega arith));
@@ -284,11 +284,3 @@ exact words a e end ended said = record {
         (λ own. subst (Verdict shelf job) (sym own) (verdict words a job shelf asks end ended))
         out_of_memory
         (status_said end e said)
-
--- what `run` answers where a replay was done
-pub exact_done : (words : Option Replay) (a : Around) (err : Tells) → Done words a → Exact words a 0
-exact_done words a err done = exact words a (record { before = err; after = err; status = 0 }) (Ok tt) done (record { status = refl; silent = refl })
-
--- what `run` answers where a replay ended early
-pub exact_early : (words : Option Replay) (a : Around) (e : Errors) (fault : Fault) → Ended words a (Err fault) → Says fault e → Exact words a e.status
-exact_early words a e fault ended says = exact words a e (Err fault) ended says

@@ -7,7 +7,7 @@ use Rattle.script_mean.specs.declared.event.ScriptEvent.{ScriptEvent}
 use Rattle.script_mean.specs.declared.script.Script.{Script}
 use Rattle.first_run.specs.World.{World, happens, members_below, new_member, first_world}
 use Rattle.first_run.specs.Report.{story, told, event_lines, report_lines, end_line}
-use Rattle.world_core.specs.Play.{Play}
+use Rattle.first_members.specs.Play.{Play}
 use Rattle.stackc_run.specs.declared.fault.Fault.{Fault}
 use Rattle.stackc_run.specs.declared.fault.Fault.TheVariants.{Words, FileTooLarge, FileLater, ScriptTooLong, ScriptLater, Read, Write, Memory}
 use Rattle.stackc_run.specs.Tells.{Tells}

@@ -4,3 +4,4 @@ pub mod Held
 pub mod Complete
 pub mod Exact
 pub mod Through
+pub mod Performed

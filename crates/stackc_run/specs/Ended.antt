@@ -6,21 +6,14 @@ use Rattle.first_mean.specs.Tree.{LayerTree}
 use Rattle.script_mean.specs.declared.script.Script.{Script}
 use Rattle.first_run.specs.Report.{report, report_lines}
 use Rattle.stackc_run.specs.Job.{Replay}
+pub use Rattle.sink_lines.specs.Said.{Errors, SaysLine, whole, failed, no_memory, Silent}
+pub use Rattle.file_jobs.specs.Comes.{Around}
 use Rattle.stackc_run.specs.Tells.{Tells}
 use Rattle.stackc_run.specs.Wrote.{Begins, Gains, Fails}
 use Rattle.stackc_run.specs.Fetched.{FindsNone, IsScript, IsTooLong, IsNoScript}
 use Rattle.stackc_run.specs.File.{IsStack, IsTooLarge, IsNoStack}
 use Rattle.stackc_run.specs.declared.fault.Fault.{Fault}
 use Rattle.stackc_run.specs.declared.fault.Fault.TheVariants.{Words, FileTooLarge, FileLater, ScriptTooLong, ScriptLater, Read, Write, Memory}
-
--- What a job began with and what it left: what the shelf told, its count of faults before and after, and
--- what the output told before and after.
-pub record Around : Type 0 where
-  pub told : Option Shelved
-  pub reads : ℕ
-  pub reads_after : ℕ
-  pub output : Tells
-  pub output_after : Tells
 
 -- Nothing was put on the output.
 abbrev pub Untouched : Around → Type 0
@@ -152,23 +145,9 @@ fault_line Read = codes "read fault\n"
 fault_line Write = codes "write fault\n"
 fault_line Memory = codes "no memory\n"
 
--- What the standard error told before and after, and the status.
-pub record Errors : Type 0 where
-  pub before : Tells
-  pub after : Tells
-  pub status : ℕ
-
--- The line of a fault was said whole, in one put, with the fault's status; or a prefix of it, since the standard
--- error failed; or a prefix of it with status 7, since memory ran out.
-pub data Says (fault : Fault) (e : Errors) : Type 0 where
-  whole : Gains e.before e.after (fault_line fault ∷ []) → e.status ≡ status fault → Says fault e
-  failed : Fails e.before e.after (fault_line fault ∷ []) → e.status ≡ status fault → Says fault e
-  no_memory : Begins e.before e.after (fault_line fault) → e.status ≡ 7 → Says fault e
-
--- Nothing was said, and the status is 0.
-pub record Silent (e : Errors) : Type 0 where
-  pub status : e.status ≡ 0
-  pub silent : e.after ≡ e.before
+-- What is said of a fault.
+abbrev pub Says : Fault → Errors → Type 0
+Says fault e = SaysLine (fault_line fault) (status fault) e
 
 abbrev pub Said : Result (Unit {0}) Fault → Errors → Type 0
 Said (Ok done) e = Silent e

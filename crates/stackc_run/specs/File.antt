@@ -5,7 +5,7 @@ use Rattle.layer_ast.specs.Spells.{Spells}
 use Rattle.first_mean.specs.Tree.{LayerTree}
 use Rattle.first_mean.specs.View.{layer_tree}
 use Rattle.first_mean.specs.declared.layer.Layer.{Layer}
-use Rattle.layer_resolve.specs.Stack.{stack_of}
+use Rattle.first_resolve.specs.Stack.{stack_of}
 use Rattle.outside.specs.Shelf.{Shelved}
 use Rattle.stackc_run.specs.Fetched.{Finds, FindsMore, FindsNone}
 use Rattle.stackc_run.specs.declared.fault.Fault.{Fault}

@@ -11,4 +11,4 @@ pub mod Exact
 pub mod Through
 pub mod Sample
 pub mod Run
-pub mod Words
+pub mod Performed

@@ -5,7 +5,7 @@ use Rattle.first_mean.specs.Tree.{LayerTree}
 use Rattle.script_mean.specs.declared.event.ScriptEvent.{ScriptEvent}
 use Rattle.first_run.specs.World.{happens}
 use Rattle.first_run.specs.Report.{event_lines}
-use Rattle.world_core.specs.Play.{Play}
+use Rattle.first_members.specs.Play.{Play}
 use Rattle.stackc_run.specs.Tells.{Tells}
 use Rattle.stackc_run.specs.Wrote.{Begins, Gains, Fails}
 use Rattle.stackc_run.specs.declared.fault.Fault.{Fault}

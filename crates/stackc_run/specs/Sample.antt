@@ -2,7 +2,9 @@
 use Rattle.std.specs.Prelude.{ℕ, List, [], ◌∷◌, codes, Option, Some, None, if◌then◌else◌}
 use Rattle.std.specs.Str.{bytes_eq}
 use Rattle.outside.specs.Shelf.{Shelved}
-use Rattle.stackc_run.specs.Job.{job}
+use Rattle.script_mean.specs.Words.{◌>>=◌}
+use Rattle.job_mean.specs.Job.{job_of_words}
+use Rattle.stackc_run.specs.Job.{replay_of}
 use Rattle.stackc_run.specs.Complete.{IsGood}
 
 -- The words of the job.
@@ -23,6 +25,6 @@ sample_shelf = record { files = sample_files; failures = [] }
 -- The job is good, for the stack of this one layer and the script of no event.
 abbrev pub SampleIsGood : Type 0
 SampleIsGood =
-    IsGood (job sample_words) (Some sample_shelf)
+    IsGood (job_of_words sample_words >>= replay_of) (Some sample_shelf)
     (record { name = codes "a"; cells = []; headers = []; handlers = [] } ∷ [])
     (record { group = 1; stamp = 7; members = 3; events = [] })

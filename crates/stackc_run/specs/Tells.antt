@@ -1,11 +1,2 @@
 -- What a sink tells.
-use Rattle.std.specs.Prelude.{ℕ, List, Option}
-
--- Its contents, which of the puts to come are to fail and after how many bytes, and its count of faults.
-pub record Tells : Type 0 where
-  pub contents : Option (List ℕ)
-  pub failures : Option (List (Option ℕ))
-  pub faults : ℕ
-
-abbrev pub tells : Option (List ℕ) → Option (List (Option ℕ)) → ℕ → Tells
-tells contents failures faults = record { contents = contents; failures = failures; faults = faults }
+pub use Rattle.sink_lines.specs.Tells.{Tells, tells}

@@ -10,8 +10,8 @@ ghost use Rattle.stackc_run.specs.File.{ReadsStack, JudgesStack, shown_layer, mo
 
 use crate::fault::Fault;
 use first_mean::Layer;
+use first_resolve::{ResolveError, resolve};
 use layer_parse::{ParseError, parse};
-use layer_resolve::{ResolveError, resolve};
 use outside::{Got, Shelf, ShelfError};
 use script_mean::{Script, ScriptEvent};
 use script_text::{ScriptError, read_script};

@@ -2,25 +2,24 @@
 
 ghost use Rattle.std.specs.Prelude.{◌≡◌, map};
 ghost use Rattle.std.specs.String.{string_bytes};
-ghost use Rattle.stackc_run.specs.Job.{job};
-ghost use Rattle.stackc_run.specs.Complete.{Completes};
-ghost use Rattle.stackc_run.specs.Exact.{Exact};
 ghost use Rattle.stackc_run.specs.Ended as ended;
 ghost use Rattle.stackc_run.specs.Tells.{tells};
+ghost use Rattle.stackc_run.specs.Performed.{Does, SaidOf};
 ghost use Rattle.stackc_run.specs.Run.{around, errors};
 
 use crate::fault::Fault;
-use crate::replay::replay;
-use outside::{Shelf, Sink, SinkError};
+use crate::perform::{End, perform};
+use outside::{Shelf, Sink};
+use sink_lines::say_line;
 use std::alloc::Global;
 
 /// Does the job that the words name, the program's own name left out, and answers the program's
-/// status. The report goes to `out`; where the job ends early, one line on `err` says why.
+/// status. What the job writes goes to `out`; where it ends with another status than 0, one line on `err` says why.
 ///
-/// With status 0 `out` gained the report of the definitions, byte for byte; 1, 2 and 3 come exactly
-/// where the file, the words or the script are refused, 4 and 5 only where the shelf or `out` counted a
-/// fault in this call, and 7 where memory ran out. A job that is good by what the shelf tells, on which
-/// no put of `out` failed, ends with 0 or 7.
+/// With status 0 `out` gained the whole output of the definitions, byte for byte, and with 8 the breach that an audit
+/// found; 1, 2 and 3 come exactly where the file, the words or the script are refused, 4 and 5 only where the shelf or
+/// `out` counted a fault in this call, and 7 where memory ran out. A replay that is good by what the shelf tells, on
+/// which no put of `out` failed, ends with 0 or 7.
 pub fn run<S: Shelf, O: Sink, E: Sink>(
     alloc: Global,
     words: &[String],
@@ -28,38 +27,37 @@ pub fn run<S: Shelf, O: Sink, E: Sink>(
     out: &mut O,
     err: &mut E,
 ) -> u8
-    ensures replayed { ended.Replayed (job (map string_bytes words.now))
+    ensures { Does (map string_bytes words.now)
         (around (S.told shelf.old) (S.faults shelf.old) (S.faults shelf.new)
         (tells (O.contents out.old) (O.failures out.old) (O.faults out.old))
         (tells (O.contents out.new) (O.failures out.new) (O.faults out.new)))
         (errors (tells (E.contents err.old) (E.failures err.old) (E.faults err.old))
         (tells (E.contents err.new) (E.failures err.new) (E.faults err.new)) result) }
-    ensures complete { Completes (job (map string_bytes words.now))
-        (around (S.told shelf.old) (S.faults shelf.old) (S.faults shelf.new)
-        (tells (O.contents out.old) (O.failures out.old) (O.faults out.old))
-        (tells (O.contents out.new) (O.failures out.new) (O.faults out.new))) result }
-    ensures exact { Exact (job (map string_bytes words.now))
-        (around (S.told shelf.old) (S.faults shelf.old) (S.faults shelf.new)
-        (tells (O.contents out.old) (O.failures out.old) (O.faults out.old))
-        (tells (O.contents out.new) (O.failures out.new) (O.faults out.new))) result }
 {
-    match replay(alloc, words, shelf, out) {
-        Ok(()) => 0,
-        Err(fault) => say(fault, err),
+    let end = perform(alloc, words, shelf, out);
+    conclude(alloc, end, err)
+}
+
+/// Says how a job ended, and answers the program's status.
+pub(crate) fn conclude<E: Sink>(alloc: Global, end: End, err: &mut E) -> u8
+    ensures { SaidOf end
+        (errors (tells (E.contents err.old) (E.failures err.old) (E.faults err.old))
+        (tells (E.contents err.new) (E.failures err.new) (E.faults err.new)) result) }
+{
+    match end {
+        End::Judged(ending) => file_jobs::say(alloc, ending, err),
+        End::Played(Ok(())) => 0,
+        End::Played(Err(fault)) => say(fault, err),
     }
 }
 
-/// Says why a job ended early, and answers the program's status.
-pub fn say<E: Sink>(fault: Fault, err: &mut E) -> u8
+/// Says why a replay ended early, and answers the program's status.
+fn say<E: Sink>(fault: Fault, err: &mut E) -> u8
     ensures { ended.Says fault
         (errors (tells (E.contents err.old) (E.failures err.old) (E.faults err.old))
         (tells (E.contents err.new) (E.failures err.new) (E.faults err.new)) result) }
 {
-    match err.put(fault_line(fault)) {
-        Ok(()) => status(fault),
-        Err(SinkError::Failed) => status(fault),
-        Err(SinkError::Memory) => 7,
-    }
+    say_line(fault_line(fault), status(fault), err)
 }
 
 fn status(fault: Fault) -> u8

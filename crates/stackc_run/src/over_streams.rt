@@ -3,21 +3,24 @@
 ghost use Rattle.std.specs.Prelude.{◌≡◌, map};
 ghost use Rattle.std.specs.String.{string_bytes};
 ghost use Rattle.outside.specs.Stream.{stream_of};
-ghost use Rattle.stackc_run.specs.Job.{job};
+ghost use Rattle.job_mean.specs.Job.{job_of_words};
+ghost use Rattle.stackc_run.specs.Performed.{closed};
 ghost use Rattle.stackc_run.specs.Tells.{tells};
-ghost use Rattle.stackc_run.specs.Through.{RunsThrough, Delivers, HandsOn, Closes, stream};
+ghost use Rattle.stackc_run.specs.Through.{RunsThrough, Delivers, HandsOn, IsWhole, stream};
 
 use crate::fault::Fault;
-use crate::over_sinks::{run, say};
+use crate::over_sinks::conclude;
+use crate::perform::{End, perform};
+use file_jobs::Ending;
 use outside::{Shelf, Sink, StdSink};
 use std::alloc::Global;
 use std::io::Write;
 
 /// Does the job that the words name, hands on what was put to both streams, and answers the program's status.
 ///
-/// The status is 0 only where `run` answered 0 and the output's stream got all that was put. Where `run` answered 0 and
-/// the stream did not, that is said as a fault of writing; any other status of `run` stays. What was said is handed on
-/// to the stream of `err`, or that sink counted a fault.
+/// The status is 0, or 8, only where the job's whole output was put and the output's stream got all of it. Where the
+/// stream did not, that is said as a fault of writing; how a job ended else stays. What was said is handed on to the
+/// stream of `err`, or that sink counted a fault.
 pub fn run_through<S: Shelf, O: Write + Drop, E: Write + Drop>(
     alloc: Global,
     words: &[String],
@@ -25,21 +28,21 @@ pub fn run_through<S: Shelf, O: Write + Drop, E: Write + Drop>(
     out: &mut StdSink<O>,
     err: &mut StdSink<E>,
 ) -> u8
-    ensures through { RunsThrough (job (map string_bytes words.now)) (S.told shelf.old) (S.faults shelf.old) (S.faults shelf.new)
+    ensures through { RunsThrough (map string_bytes words.now) (S.told shelf.old) (S.faults shelf.old) (S.faults shelf.new)
         (stream (tells (⟦<StdSink<O> as Sink>⟧.contents out.old) (⟦<StdSink<O> as Sink>⟧.failures out.old) (⟦<StdSink<O> as Sink>⟧.faults out.old))
         (tells (⟦<StdSink<O> as Sink>⟧.contents out.new) (⟦<StdSink<O> as Sink>⟧.failures out.new) (⟦<StdSink<O> as Sink>⟧.faults out.new))
         (O.contents (stream_of out.new)))
         (stream (tells (⟦<StdSink<E> as Sink>⟧.contents err.old) (⟦<StdSink<E> as Sink>⟧.failures err.old) (⟦<StdSink<E> as Sink>⟧.faults err.old))
         (tells (⟦<StdSink<E> as Sink>⟧.contents err.new) (⟦<StdSink<E> as Sink>⟧.failures err.new) (⟦<StdSink<E> as Sink>⟧.faults err.new))
         (E.contents (stream_of err.new))) result }
-    ensures delivered { result ≡ 0 → Delivers (job (map string_bytes words.now)) (S.told shelf.old) (S.faults shelf.old) (S.faults shelf.new)
+    ensures delivered { IsWhole result → Delivers (job_of_words (map string_bytes words.now)) (S.told shelf.old) (S.faults shelf.old) (S.faults shelf.new)
         (stream (tells (⟦<StdSink<O> as Sink>⟧.contents out.old) (⟦<StdSink<O> as Sink>⟧.failures out.old) (⟦<StdSink<O> as Sink>⟧.faults out.old))
         (tells (⟦<StdSink<O> as Sink>⟧.contents out.new) (⟦<StdSink<O> as Sink>⟧.failures out.new) (⟦<StdSink<O> as Sink>⟧.faults out.new))
         (O.contents (stream_of out.new))) }
 {
-    let own = run(alloc, words, shelf, out, err);
+    let end = perform(alloc, words, shelf, out);
     let whole = hand_on(out);
-    let status = close(own, whole, err);
+    let status = conclude(alloc, closed(whole, end), err);
     let _ = hand_on(err);
     status
 }
@@ -57,16 +60,18 @@ fn hand_on<W: Write + Drop>(sink: &mut StdSink<W>) -> bool
     }
 }
 
-/// The status where the run answered its own, and the output's stream got all that was put or didn't.
-fn close<E: Sink>(own: u8, whole: bool, err: &mut E) -> u8
-    ensures { Closes own whole (tells (E.contents err.old) (E.failures err.old) (E.faults err.old))
-        (tells (E.contents err.new) (E.failures err.new) (E.faults err.new)) result }
+/// How a job ended whose stream got all that was put or didn't: then a whole output is a fault of writing.
+fn closed(whole: bool, end: End) -> End
+    ensures { result ≡ closed whole end }
 {
     if whole {
-        return own;
+        return end;
     }
-    if own != 0 {
-        return own;
+    match end {
+        End::Judged(Ending::Done) => End::Judged(Ending::Write),
+        End::Judged(Ending::Breached) => End::Judged(Ending::Write),
+        End::Judged(ending) => End::Judged(ending),
+        End::Played(Ok(())) => End::Played(Err(Fault::Write)),
+        End::Played(Err(fault)) => End::Played(Err(fault)),
     }
-    say(Fault::Write, err)
 }

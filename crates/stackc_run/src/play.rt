@@ -12,15 +12,15 @@ ghost use Rattle.stackc_run.specs.Wrote.{Wrote};
 ghost use Rattle.stackc_run.specs.Played.{Played, Lined, Stands};
 
 use crate::fault::Fault;
+use first_eval::Emits;
 use first_mean::Layer;
-use layer_eval::Emits;
+use first_members::World;
+use first_report::{Line, end_line, event_lines, member_of};
 use msg_core::Memory;
 use outside::{Sink, SinkError};
-use report_text::{Line, end_line, event_lines, member_of};
 use script_mean::{Script, ScriptEvent};
 use std::alloc::Global;
 use std::rc::Rc;
-use world_core::World;
 
 /// What a run keeps from event to event, so that no memory is taken anew: the outputs and the lines of
 /// the last one.
@@ -125,7 +125,7 @@ fn put_line<O: Sink>(line: &Line, out: &mut O) -> Result<(), Fault>
     ensures { Wrote (line.now ∷ []) (tells (O.contents out.old) (O.failures out.old) (O.faults out.old))
         (tells (O.contents out.new) (O.failures out.new) (O.faults out.new)) result }
 {
-    match out.put(line.slice()) {
+    match sink_lines::put_line(line.slice(), out) {
         Ok(()) => Ok(()),
         Err(SinkError::Failed) => Err(Fault::Write),
         Err(SinkError::Memory) => Err(Fault::Memory),

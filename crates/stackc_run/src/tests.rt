@@ -170,12 +170,14 @@ fn refuses_what_is_too_large(rt: HostRuntime) -> Result<(), Fail> {
 #[test]
 fn refuses_other_words(rt: HostRuntime) -> Result<(), Fail> {
     let alloc = rt.alloc();
-    let cases: [&[&str]; 5] = [
+    let cases: [&[&str]; 7] = [
         &[],
         &["replay", "a"],
         &["play", "f", "s", "--run", "layered"],
         &["replay", "f", "s", "--run", "bypass"],
         &["replay", "f", "s", "--run", "layered", "--wire"],
+        &["synth", "f"],
+        &["audit", "f"],
     ];
     for texts in cases {
         let mut shelf = MemShelf::of(Vec::new(alloc), Vec::new(alloc));
@@ -192,6 +194,60 @@ fn refuses_other_words(rt: HostRuntime) -> Result<(), Fail> {
     let mut err = MemSink::of(alloc, Vec::new(alloc));
     assert_eq!(rt; run(alloc, &words, &mut shelf, &mut out, &mut err), 4);
     assert_eq!(rt; err.contents(), b"read fault\n".as_slice());
+    Ok(())
+}
+
+/// A job of one file, with the puts that are to fail.
+fn judged(
+    alloc: Global,
+    texts: &[&str],
+    file: &[u8],
+    puts: Vec<Option<u64>>,
+) -> Result<Left, AllocError> {
+    let words = words(alloc, texts)?;
+    let files = vec![in alloc; named(alloc, "f", file)?]?;
+    let mut shelf = MemShelf::of(files, Vec::new(alloc));
+    let mut out = MemSink::of(alloc, puts);
+    let mut err = MemSink::of(alloc, Vec::new(alloc));
+    let status = run(alloc, &words, &mut shelf, &mut out, &mut err);
+    Ok(Left {
+        status,
+        out: Vec::from_slice(alloc, out.contents())?,
+        err: Vec::from_slice(alloc, err.contents())?,
+    })
+}
+
+/// A report in which two members deliver two casts in another order.
+const CROSSED: &[u8] = b"deliver 0 cast 0 61\ndeliver 1 cast 1 62\ndeliver 1 cast 0 61\nend 3\n";
+
+#[test]
+fn audits_reports(rt: HostRuntime) -> Result<(), Fail> {
+    let alloc = rt.alloc();
+    let total: &[&str] = &["audit", "f", "--law", "total"];
+    let sender: &[&str] = &["audit", "--law=sender", "f"];
+    let cases: [(&[&str], &[u8], u8, &[u8], &[u8]); 5] = [
+        (total, CROSSED, 8, b"breach 1 2\n", b"breach\n"),
+        (sender, CROSSED, 0, b"holds\n", b""),
+        (total, b"end 0\nend 0\n", 1, b"", b"file: line 2\n"),
+        (total, b"", 1, b"", b"file: line 1\n"),
+        (
+            &["audit", "g", "--law=same"],
+            CROSSED,
+            4,
+            b"",
+            b"read fault\n",
+        ),
+    ];
+    for (texts, file, status, out, err) in cases {
+        let left = judged(alloc, texts, file, Vec::new(alloc))?;
+        assert_eq!(rt; left.status, status);
+        assert_eq!(rt; left.out.as_slice(), out);
+        assert_eq!(rt; left.err.as_slice(), err);
+    }
+    let left = judged(alloc, total, CROSSED, vec![in alloc; Some(6)]?)?;
+    assert_eq!(rt; left.status, 5);
+    assert_eq!(rt; left.out.as_slice(), b"breach".as_slice());
+    assert_eq!(rt; left.err.as_slice(), b"write fault\n".as_slice());
     Ok(())
 }
 

@@ -46,3 +46,15 @@ returns-clause-loads_datagrams c = refl
 pub returns-clause-runs_a_patient_node : goal.returns-clause-runs_a_patient_node
 unfolding clap_on_literals
 returns-clause-runs_a_patient_node c = refl
+
+pub returns-clause-audits_peers : goal.returns-clause-audits_peers
+unfolding clap_on_literals
+returns-clause-audits_peers c = refl
+
+pub returns-clause-audits_order : goal.returns-clause-audits_order
+unfolding clap_on_literals
+returns-clause-audits_order c = refl
+
+pub returns-clause-audits_views : goal.returns-clause-audits_views
+unfolding clap_on_literals
+returns-clause-audits_views c = refl

@@ -58,3 +58,19 @@ returns-clause-raw_for_node c = refl
 pub returns-clause-patience_for_load : goal.returns-clause-patience_for_load
 unfolding clap_on_literals
 returns-clause-patience_for_load c = refl
+
+pub returns-clause-no_law : goal.returns-clause-no_law
+unfolding clap_on_literals
+returns-clause-no_law c = refl
+
+pub returns-clause-another_law : goal.returns-clause-another_law
+unfolding clap_on_literals
+returns-clause-another_law c = refl
+
+pub returns-clause-script_for_audit : goal.returns-clause-script_for_audit
+unfolding clap_on_literals
+returns-clause-script_for_audit c = refl
+
+pub returns-clause-law_for_check : goal.returns-clause-law_for_check
+unfolding clap_on_literals
+returns-clause-law_for_check c = refl

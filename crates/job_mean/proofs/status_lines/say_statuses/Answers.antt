@@ -35,3 +35,11 @@ returns-clause-link c = (refl, refl)
 pub returns-clause-memory : goal.returns-clause-memory
 unfolding digits kinds
 returns-clause-memory c = (refl, refl)
+
+pub returns-clause-report : goal.returns-clause-report
+unfolding digits kinds
+returns-clause-report c = refl
+
+pub returns-clause-breach : goal.returns-clause-breach
+unfolding digits kinds
+returns-clause-breach c = (refl, refl)

@@ -8,7 +8,7 @@ use Rattle.layer_ast.specs.Stops.{StopsBad, StopsInside, StopsAtEnd}
 use Rattle.layer_ast.specs.View.{file_tree}
 use Rattle.layer_machine.specs.Verdict.{Verdict, a_file, bad, inside, at_end, Holds}
 use Rattle.layer_machine.proofs.Texts.{each_decided}
-use Rattle.layer_resolve.specs.Stack.{stack_of}
+use Rattle.first_resolve.specs.Stack.{stack_of}
 use Rattle.first_mean.specs.Tree.{LayerTree}
 use Rattle.form_laws.proofs.Forms.{spelled_means_one}
 use Rattle.stackc_run.specs.File.{Means}

@@ -1,16 +1,17 @@
 -- By computation.
 use Rattle.std.proofs.Common.{refl, arith}
+use Rattle.clap.proofs.OnLiterals.{clap_on_literals}
 use Rattle.layer_ast.specs.Cut.{piece}
 use Rattle.layer_ast.specs.Spelling.{reserved, kinds, word_token, symbols, symbol_at}
 use Rattle.layer_ast.specs.Spells.{Fits}
-use Rattle.layer_resolve.specs.Names.{declared}
-use Rattle.layer_resolve.specs.Stack.{stack_of, layer_of}
+use Rattle.first_resolve.specs.Names.{declared}
+use Rattle.first_resolve.specs.Stack.{stack_of, layer_of}
 use Rattle.std.specs.Prelude.{codes, [], ◌∷◌}
 use Rattle.stackc_run.specs.Sample.{sample_shelf}
 use Rattle.stackc_run.proofs.sample.sample_is_good.Goals as goal
 
 pub returns : goal.returns
-unfolding piece reserved kinds word_token symbols symbol_at Fits stack_of layer_of declared
+unfolding clap_on_literals piece reserved kinds word_token symbols symbol_at Fits stack_of layer_of declared
 returns c = record {
   job = record { file = codes "f"; script = codes "s" };
   is_job = refl;

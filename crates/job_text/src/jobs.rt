@@ -1,0 +1,178 @@
+//! The job of what was given.
+
+ghost use Rattle.std.specs.Prelude.{◌≡◌, IfOk, option_map};
+ghost use Rattle.job_mean.specs.Job as spec;
+ghost use Rattle.job_text.specs.Shown.{node_of, shown_given, shown_job, shown_mode, text};
+
+use crate::given::Given;
+use crate::named::{Audit, Job, Load, Mode, Node, Replay};
+use crate::numbers::{a_number, a_number_or_zero, some_members};
+use audit_mean::Law;
+use std::alloc::{AllocError, Global};
+
+/// The most events of a generated script, members of a group, turns of a node and failed receives that it bears.
+const MOST_EVENTS: u32 = 99_999;
+
+const MOST_MEMBERS: u32 = 32;
+
+const MOST_TURNS: u32 = 1_000_000;
+
+const MOST_PATIENCE: u32 = 1_000;
+
+/// The job of what was given, if it is one.
+pub(crate) fn job_of<'w>(alloc: Global, given: &Given<'w>) -> Result<Option<Job<'w>>, AllocError>
+    ensures { IfOk result (λ job. option_map shown_job job ≡ spec.job (shown_given given.now)) }
+{
+    if given.job == "check" {
+        Ok(check(given))
+    } else if given.job == "synth" {
+        Ok(synth(given))
+    } else if given.job == "replay" {
+        Ok(replay(given))
+    } else if given.job == "load" {
+        Ok(load(given))
+    } else if given.job == "node" {
+        node(alloc, given)
+    } else if given.job == "audit" {
+        Ok(audit(given))
+    } else {
+        Ok(None)
+    }
+}
+
+/// `check FILE`
+fn check<'w>(given: &Given<'w>) -> Option<Job<'w>>
+    ensures { option_map shown_job result ≡ spec.check_job (shown_given given.now) }
+{
+    if given.has_only(&[]) {
+        Some(Job::Check(given.file))
+    } else {
+        None
+    }
+}
+
+/// `synth FILE`
+fn synth<'w>(given: &Given<'w>) -> Option<Job<'w>>
+    ensures { option_map shown_job result ≡ spec.synth_job (shown_given given.now) }
+{
+    if given.has_only(&[]) {
+        Some(Job::Synth(given.file))
+    } else {
+        None
+    }
+}
+
+/// `replay FILE SCRIPT`, may have `--run MODE`, `--wire` and `--count`.
+fn replay<'w>(given: &Given<'w>) -> Option<Job<'w>>
+    ensures { option_map shown_job result ≡ spec.replay_job (shown_given given.now) }
+{
+    if !given.has_only(&["second", "run", "wire", "count"]) {
+        return None;
+    }
+    let script = given.second?;
+    let mode = mode_of(given.run)?;
+    Some(Job::Replay(Replay {
+        file: given.file,
+        script,
+        mode,
+        wire: given.wire,
+        count: given.count,
+    }))
+}
+
+/// `load FILE --seed S --events E --members N`, may have `--run MODE` and `--raw`.
+fn load<'w>(given: &Given<'w>) -> Option<Job<'w>>
+    ensures { option_map shown_job result ≡ spec.load_job (shown_given given.now) }
+{
+    if !given.has_only(&["seed", "events", "members", "run", "raw"]) {
+        return None;
+    }
+    let seed = a_number(0, u32::MAX, given.seed)?;
+    let events = a_number(0, MOST_EVENTS, given.events)?;
+    let members = a_number(1, MOST_MEMBERS, given.members)?;
+    let mode = mode_of(given.run)?;
+    Some(Job::Load(Load {
+        file: given.file,
+        seed,
+        events,
+        members,
+        raw: given.raw,
+        mode,
+    }))
+}
+
+/// `node FILE PLAN --turns T --me IDS`, may have `--run MODE` and `--patience P`.
+fn node<'w>(alloc: Global, given: &Given<'w>) -> Result<Option<Job<'w>>, AllocError>
+    ensures { IfOk result (λ job. option_map shown_job job ≡ spec.node_job (shown_given given.now)) }
+{
+    if !given.has_only(&["second", "turns", "me", "run", "patience"]) {
+        return Ok(None);
+    }
+    let members = some_members(alloc, given.me)?;
+    Ok(node_of(given, members))
+}
+
+/// The job of a node whose own members are read.
+fn node_of<'w>(given: &Given<'w>, members: Option<Vec<u32>>) -> Option<Job<'w>>
+    ensures { option_map shown_job result ≡ node_of (shown_given given.now) (option_map (λ m. m.items) members) }
+{
+    let plan = given.second?;
+    let turns = a_number(0, MOST_TURNS, given.turns)?;
+    let members = members?;
+    let mode = mode_of(given.run)?;
+    let patience = a_number_or_zero(MOST_PATIENCE, given.patience)?;
+    Some(Job::Node(Node {
+        file: given.file,
+        plan,
+        turns,
+        members,
+        patience,
+        mode,
+    }))
+}
+
+/// `audit FILE --law L`
+fn audit<'w>(given: &Given<'w>) -> Option<Job<'w>>
+    ensures { option_map shown_job result ≡ spec.audit_job (shown_given given.now) }
+{
+    if !given.has_only(&["law"]) {
+        return None;
+    }
+    let law = law_of(given.law)?;
+    Some(Job::Audit(Audit {
+        file: given.file,
+        law,
+    }))
+}
+
+/// The mode of `--run`; without it, the bypasses.
+fn mode_of(given: Option<&str>) -> Option<Mode>
+    ensures { option_map shown_mode result ≡ spec.mode_of (text given.entry) }
+{
+    let Some(name) = given else {
+        return Some(Mode::Bypass);
+    };
+    if name == "layered" {
+        Some(Mode::Layered)
+    } else if name == "bypass" {
+        Some(Mode::Bypass)
+    } else {
+        None
+    }
+}
+
+/// The law of `--law`, which has to be given.
+fn law_of(given: Option<&str>) -> Option<Law>
+    ensures { result ≡ spec.law_of (text given.entry) }
+{
+    let name = given?;
+    if name == "sender" {
+        Some(Law::Sender)
+    } else if name == "total" {
+        Some(Law::Total)
+    } else if name == "same" {
+        Some(Law::Same)
+    } else {
+        None
+    }
+}

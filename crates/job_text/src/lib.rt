@@ -1,0 +1,19 @@
+//! Reads the words of the command line: the job that they name, if they name one.
+//!
+//! `clap` reads the words at one command for all jobs, and each job then says which of them it takes. What the words
+//! mean is `job_of_words` of `job_mean`.
+#![tactic(auto)]
+
+mod command;
+mod given;
+mod jobs;
+mod named;
+mod numbers;
+mod reading;
+#[cfg(test)]
+mod tests;
+
+pub use crate::named::{Audit, Job, Load, Mode, Node, Replay};
+pub use crate::reading::job;
+pub use audit_mean::Law;
+pub use msg_core::Memory;

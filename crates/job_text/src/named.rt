@@ -1,0 +1,72 @@
+//! The jobs of the program.
+
+use audit_mean::Law;
+
+/// How members run a stack.
+#[derive(Clone, Copy, Debug, PartialEq, Eq)]
+pub enum Mode {
+    /// Layer by layer.
+    Layered,
+    /// By the bypasses of the stack, where they hold.
+    Bypass,
+}
+
+/// What the program is to do. Files are named as in the words.
+#[derive(Drop)]
+pub enum Job<'w> {
+    /// Judges this stack file.
+    Check(&'w str),
+    /// Prints the bypasses of this stack file.
+    Synth(&'w str),
+    Replay(Replay<'w>),
+    Load(Load<'w>),
+    Node(Node<'w>),
+    Audit(Audit<'w>),
+}
+
+/// Replays a script over a stack file.
+#[derive(Clone, Copy)]
+pub struct Replay<'w> {
+    pub file: &'w str,
+    pub script: &'w str,
+    pub mode: Mode,
+    /// Whether each packet's bytes are written.
+    pub wire: bool,
+    /// Whether the number of visits is written.
+    pub count: bool,
+}
+
+/// Replays a script that is made from a seed, and counts the lines of its report.
+#[derive(Clone, Copy)]
+pub struct Load<'w> {
+    pub file: &'w str,
+    pub seed: u32,
+    /// How many events the script has, at most 99,999.
+    pub events: u32,
+    /// How many members the group has, 1 to 32.
+    pub members: u32,
+    /// Whether the script has datagrams.
+    pub raw: bool,
+    pub mode: Mode,
+}
+
+/// Runs members of a group over a network.
+#[derive(Drop)]
+pub struct Node<'w> {
+    pub file: &'w str,
+    pub plan: &'w str,
+    /// How many turns are made, at most 1,000,000.
+    pub turns: u32,
+    /// The ids of the own members, 0 to 31, ascending.
+    pub members: Vec<u32>,
+    /// How many failed receives are borne, at most 1,000.
+    pub patience: u32,
+    pub mode: Mode,
+}
+
+/// Judges a law of the group on a report.
+#[derive(Clone, Copy)]
+pub struct Audit<'w> {
+    pub file: &'w str,
+    pub law: Law,
+}

@@ -1,0 +1,3 @@
+pub mod Tells
+pub mod Lines
+pub mod Said
