@@ -18,7 +18,7 @@ pub struct Stack {
 }
 
 impl Stack {
-    ghost use Rattle.std.specs.Prelude.{Ok, ◌<◌, length, slice_index_or};
+    ghost use Rattle.std.specs.Prelude.{Ok, ◌<◌, ◌≤◌, All, length, slice_index_or};
     ghost use Rattle.std.specs.Rc.{rc_value};
     ghost use Rattle.layer_mean.specs.Tree.{no_layer};
     ghost use Rattle.stack_mean.specs.Acceptance.{rows_of, held_at_most};
@@ -28,6 +28,12 @@ impl Stack {
     /// That it is accepted.
     pub fn is_accepted(&self)
         ensures { accepted (stack_tree self.now) ≡ Ok (stack_tree self.now) }
+    {}
+
+    /// That it has at most 24 places, and each header that its layers declare at most four numbers.
+    pub fn is_within_limits(&self)
+        ensures places { length (stack_tree self.now) ≤ 24 }
+        ensures fields { All (λ layer. All (λ header. header.fields ≤ 4) layer.headers) (stack_tree self.now) }
     {}
 
     /// How many tasks follow at most from an entry, itself counted.

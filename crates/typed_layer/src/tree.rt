@@ -1,5 +1,7 @@
 //! The trees that members run.
 
+ghost use Rattle.std.specs.Prelude.{◌≤◌};
+
 use crate::handlers::Handlers;
 use layer_ast::{Dir, Function, Kind, Likely, Operator, Shape, Word};
 use std::marker::Model;
@@ -66,13 +68,14 @@ pub struct Blank {
     pub count: u8,
 }
 
-/// A header that a layer declares.
+/// A header that a layer declares, with at most four numbers.
 #[derive(Drop)]
 pub struct HeaderForm {
     pub name: Word,
     pub fields: u8,
     /// Whether it closes the chain; else the headers of the layers above follow.
     pub ends: bool,
+    ghost few: { fields ≤ 4 },
 }
 
 /// What a layer does on an event of one direction, kind and popped header. Its scope has the event's numbers, the header's
