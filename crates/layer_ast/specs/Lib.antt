@@ -2,8 +2,6 @@ pub mod Cut
 pub mod Depth
 pub mod Print
 pub mod Printed
-pub mod ResolvedTree
-pub mod ResolvedView
 pub mod Samples
 pub mod Spelling
 pub mod Spells

@@ -1,9 +1,8 @@
-//! The syntax of layer files: its words and signs, its trees with their places in the text, what it
-//! is that a text spells a file, and the trees in which numbers stand in place of names.
+//! The syntax of layer files: its words and signs, its trees with their places in the text, and what it
+//! is that a text spells a file.
 #![tactic(auto)]
 
 mod names;
-pub mod resolved;
 pub mod samples;
 mod syntax;
 mod tokens;
