@@ -1,6 +1,7 @@
 //! The first fault so far.
 
-ghost use Rattle.std.specs.Prelude.{◌≡◌, true, ◌∷◌, [], List, Some, None, map, option_map};
+ghost use Rattle.std.specs.Prelude.{◌≡◌, true, false, not, ◌∷◌, [], List, Some, None, map, option_map};
+ghost use Rattle.std.specs.Option.{option_map_or};
 ghost use Rattle.file_faults.specs.Earliest.{precedes, unless};
 ghost use Rattle.first_fault.specs.Found.{Finds, anywhere, fault_key, first_rank, moved_to};
 
@@ -79,7 +80,8 @@ impl Found {
     /// Whether it is known that a fault changes nothing: it is found already, or one that comes before it.
     #[tactic(auto, unfolding(crate::specs::Found::Finds))]
     pub fn is_past(&self, fault: Fault) -> bool
-        ensures { result ≡ true → Finds self.now (fault ∷ []) self.now }
+        ensures known { result ≡ true → Finds self.now (fault ∷ []) self.now }
+        ensures is { result ≡ option_map_or (λ first. not (precedes fault_key (moved_to self.now.moved fault) first)) self.now.first false }
     {
         let fault = Fault {
             at: self.moved.unwrap_or(fault.at),
