@@ -80,7 +80,7 @@ pub fn own_costs(
 ) -> Result<Vec<u32>, AllocError>
     ensures { IfOk result (λ costs. costs.items ≡ map (own_of measure) (map vertex_tree vertices.now)) }
 {
-    let mut costs = Vec::new(alloc);
+    let mut costs = Vec::with_capacity(alloc, vertices.len())?;
     for vertex in vertices {
         costs.push(own_cost(measure, vertex))?;
     }

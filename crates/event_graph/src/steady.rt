@@ -10,10 +10,11 @@ ghost use Rattle.event_graph.specs.Steady.{is_steady_at, falls_at, is_often};
 use crate::edges::{Edge, Node, number_at};
 use crate::rounds::{Measure, cost_at, own_costs, vertex_cost};
 use crate::table::Vertex;
+use layer_ast::Dir;
 use std::alloc::{AllocError, Global};
 
 /// How many sweeps there and back are made at most; more are of no use for most stacks.
-const MOST_SWEEPS: u8 = 32;
+const MOST_SWEEPS: u8 = 33;
 
 /// Sets the cost of a node to that of one more round. (Whatever is set, only costs that are steady are used.)
 fn improve(measure: Measure, vertices: &[Vertex], node: Node, costs: &mut Vec<u32>) {
@@ -24,13 +25,18 @@ fn improve(measure: Measure, vertices: &[Vertex], node: Node, costs: &mut Vec<u3
     }
 }
 
-/// Improves the costs of all nodes, from the lowest place to the highest and back.
+/// Improves the costs of all nodes, each mostly behind the next one on its way: those that go down from the lowest place to the
+/// highest, then those that go up from the highest to the lowest.
 fn sweep(measure: Measure, nodes: &[Node], vertices: &[Vertex], costs: &mut Vec<u32>) {
     for node in nodes {
-        improve(measure, vertices, *node, costs);
+        if node.dir == Dir::Down {
+            improve(measure, vertices, *node, costs);
+        }
     }
     for node in nodes.iter().rev() {
-        improve(measure, vertices, *node, costs);
+        if node.dir == Dir::Up {
+            improve(measure, vertices, *node, costs);
+        }
     }
 }
 
@@ -69,10 +75,10 @@ pub fn steady_costs(
 {
     let mut costs = own_costs(alloc, measure, vertices)?;
     for _sweep in 0..MOST_SWEEPS {
-        sweep(measure, nodes, vertices, &mut costs);
         if are_steady(measure, nodes, vertices, costs.as_slice()) {
             return Ok(Some(costs));
         }
+        sweep(measure, nodes, vertices, &mut costs);
     }
     Ok(None)
 }

@@ -179,8 +179,9 @@ pub fn nodes(alloc: Global, stack: &Typed) -> Result<Vec<Node>, AllocError>
 fn empty(alloc: Global, places: u8) -> Result<Vec<Vertex>, AllocError>
     ensures { IfOk result (λ vertices. map vertex_tree vertices.items ≡ empty_table places) }
 {
-    let mut vertices = Vec::new(alloc);
-    for _number in 0..(usize::from(places) + 2) * NUMBERS {
+    let count = (usize::from(places) + 2) * NUMBERS;
+    let mut vertices = Vec::with_capacity(alloc, count)?;
+    for _number in 0..count {
         vertices.push(Vertex {
             joins: 0,
             edges: Vec::new(alloc),

@@ -2,6 +2,7 @@
 
 use crate::{FileError, judge};
 use layer_ast::{At, Kind};
+use std::alloc::{AllocError, Global};
 use std::test::Fail;
 
 #[test]
@@ -253,5 +254,173 @@ fn library_layers_are_accepted(rt: HostRuntime) -> Result<(), Fail> {
         b"stack { bottom; mnak; pt2pt; pt2ptw; mflow; frag; collect; stable; local; total; suspect; elect; sync; intra; top; }";
     let stack = judge(rt.alloc(), text)?;
     assert_eq!(rt; stack.places(), 15);
+    Ok(())
+}
+
+/// A text of so many lines, each with two digits in it, behind a first line and in front of a last one.
+fn lines(alloc: Global, parts: [&[u8]; 4], count: u8) -> Result<Vec<u8>, AllocError> {
+    let [first, front, back, last] = parts;
+    let mut text = Vec::new(alloc);
+    text.extend_from_slice(first)?;
+    for k in 0..count {
+        text.push(b'\n')?;
+        text.extend_from_slice(front)?;
+        text.push(b'0' + k / 10)?;
+        text.push(b'0' + k % 10)?;
+        text.extend_from_slice(back)?;
+    }
+    text.push(b'\n')?;
+    text.extend_from_slice(last)?;
+    Ok(text)
+}
+
+/// A layer of so many handlers, a line each, of which no two are of one event.
+fn handlers(alloc: Global, count: usize) -> Result<Vec<u8>, AllocError> {
+    let kinds: [&[u8]; 10] = [
+        b"Timer", b"Suspect", b"Elect", b"Block", b"BlockOk", b"Flushed", b"View", b"Leave",
+        b"Cast", b"Send",
+    ];
+    let mut text = Vec::new(alloc);
+    text.extend_from_slice(b"layer a {")?;
+    for header in b"0123456" {
+        text.extend_from_slice(b" header h")?;
+        text.push(*header)?;
+        text.extend_from_slice(b"() passes;")?;
+    }
+    let mut left = count;
+    for kind in kinds {
+        for header in b"0123456" {
+            if left > 0 {
+                left -= 1;
+                text.extend_from_slice(b"\nup ")?;
+                text.extend_from_slice(kind)?;
+                text.extend_from_slice(b"(x) with h")?;
+                text.push(*header)?;
+                text.extend_from_slice(b"() { }")?;
+            }
+        }
+    }
+    text.extend_from_slice(b" } stack { a; }")?;
+    Ok(text)
+}
+
+#[test]
+fn each_count_has_its_edge(rt: HostRuntime) -> Result<(), Fail> {
+    // The parts of a text, the most lines that it may have, and the column of the first that is too many.
+    let rows: [([&[u8]; 4], u8, u32); 8] = [
+        ([b"", b"layer a", b" { }", b"stack { a00; }"], 64, 7),
+        (
+            [b"layer a {", b"param p", b" = 1;", b"} stack { a; }"],
+            16,
+            7,
+        ),
+        (
+            [b"layer a {", b"state int c", b";", b"} stack { a; }"],
+            16,
+            11,
+        ),
+        (
+            [b"layer a {", b"header h", b"() ends;", b"} stack { a; }"],
+            7,
+            8,
+        ),
+        (
+            [
+                b"layer a { header h(x",
+                b", x",
+                b"",
+                b") ends; } stack { a; }",
+            ],
+            3,
+            3,
+        ),
+        (
+            [
+                b"layer a { state queue q[64] of (x: int",
+                b", x",
+                b": int",
+                b", m: msg); } stack { a; }",
+            ],
+            3,
+            3,
+        ),
+        (
+            [
+                b"layer a { up Timer(t) {",
+                b"let x",
+                b" = t;",
+                b"} } stack { a; }",
+            ],
+            63,
+            5,
+        ),
+        ([b"layer a00 { } stack {", b"a00;  #", b"", b"}"], 24, 1),
+    ];
+    for (parts, most, col) in rows {
+        assert_eq!(rt;
+            judge(rt.alloc(), &lines(rt.alloc(), parts, most)?).err(),
+            None
+        );
+        let error = FileError::OverLimit(At {
+            line: u32::from(most) + 2,
+            col,
+        });
+        assert_eq!(rt;
+            judge(rt.alloc(), &lines(rt.alloc(), parts, most + 1)?).err(),
+            Some(error)
+        );
+    }
+    let direction = FileError::Direction(At { line: 2, col: 1 });
+    assert_eq!(rt;
+        judge(rt.alloc(), &handlers(rt.alloc(), 64)?).err(),
+        Some(direction)
+    );
+    let over = FileError::OverLimit(At { line: 66, col: 1 });
+    assert_eq!(rt;
+        judge(rt.alloc(), &handlers(rt.alloc(), 65)?).err(),
+        Some(over)
+    );
+    Ok(())
+}
+
+#[test]
+fn each_size_has_its_edge(rt: HostRuntime) -> Result<(), Fail> {
+    let rows: [(&[u8], Option<FileError>); 7] = [
+        (
+            b"layer a23456789b123456789c123456789d12 { } stack { a23456789b123456789c123456789d12; }",
+            None,
+        ),
+        (
+            b"layer a23456789b123456789c123456789d123 { } stack { a; }",
+            Some(FileError::BadToken(At { line: 1, col: 7 })),
+        ),
+        (b"layer a { param x = 4294967295; } stack { a; }", None),
+        (
+            b"layer a { param x = 4294967296; } stack { a; }",
+            Some(FileError::BadToken(At { line: 1, col: 21 })),
+        ),
+        (
+            b"layer a { state int k; down Cast(p, m) { each i below 32 max 32 { each j below 32 max 32 { set k = size(join(nothing, m)); } } } } stack { a; }",
+            None,
+        ),
+        (
+            b"layer f { up Cast(o, m) { each i below 16 max 16 { up Cast(o, m); } } } layer g { up Cast(o, m) { each i below 15 max 15 { up Cast(o, m); } } } stack { g; f; f; f; }",
+            None,
+        ),
+        (
+            b"layer f { up Cast(o, m) { each i below 16 max 16 { up Cast(o, m); } } } layer g { up Cast(o, m) { each i below 15 max 15 { up Cast(o, m); } } } stack { f; g; f; f; }",
+            Some(FileError::TooMany(65_537)),
+        ),
+    ];
+    for (text, error) in rows {
+        assert_eq!(rt; judge(rt.alloc(), text).err(), error);
+    }
+    let mut text = Vec::from_slice(rt.alloc(), b"stack { bottom; }")?;
+    for _blank in 17..1_048_576 {
+        text.push(b' ')?;
+    }
+    assert_eq!(rt; judge(rt.alloc(), &text).err(), None);
+    text.push(b' ')?;
+    assert_eq!(rt; judge(rt.alloc(), &text).err(), Some(FileError::TooLarge));
     Ok(())
 }

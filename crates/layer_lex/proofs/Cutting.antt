@@ -1,9 +1,18 @@
 -- Piece after piece, a text is cut.
-use Rattle.std.proofs.Common.{◌≡◌, ℕ, nat_eq, cond, true, false, zero, suc, ◌+◌, ◌≤◌, Bool, List, [], ◌∷◌, ◌++◌, length, take, drop, Option, Some, refl, sym, ap, ◌∙◌, subst, arith, append_assoc, length-drop, length-take-le}
+use Rattle.std.proofs.Common.{◌≡◌, ℕ, nat_eq, cond, true, false, zero, suc, ◌+◌, ◌≤◌, Bool, List, [], ◌∷◌, ◌++◌, length, take, drop, Option, Some, None, refl, sym, ap, ◌∙◌, subst, arith, append_assoc, length-drop, length-take-le}
 use Rattle.layer_ast.specs.declared.names.At.{At}
 use Rattle.layer_ast.specs.declared.tokens.Lexed.{Lexed}
-use Rattle.layer_ast.specs.Cut.{Piece, gap, one, bad, Tokens, piece, with_piece, cut_from, cut, place_behind}
-use Rattle.layer_lex.specs.Pieces.{GoesOn, more_of, is_number, past}
+use Rattle.std.specs.Prelude.{not, if◌then◌else◌}
+use Rattle.std.specs.Char.{is_ascii_alphabetic, is_ascii_digit}
+use Rattle.std.specs.List.{prefix_len}
+use Rattle.std.specs.Option.{option_map_or}
+use Rattle.layer_ast.specs.declared.tokens.Kind.{Kind}
+use Rattle.layer_ast.specs.declared.tokens.Sign.{Sign}
+use Rattle.layer_ast.specs.declared.tokens.Token.TheVariants as token
+use Rattle.layer_ast.specs.Cut.{is_numeral, Piece, gap, one, bad, Tokens, piece, word_piece, number_piece, symbol_piece, with_piece, cut_from, cut, place_behind}
+use Rattle.layer_ast.specs.Spelling.{is_blank, word_token, beside, reserved, kinds}
+use Rattle.layer_lex.specs.Pieces.{GoesOn, more_of, is_number, is_flat, past}
+use Rattle.layer_lex.proofs.Flat.{past_flat}
 
 -- these tokens and then others
 abbrev pub in_front : List Lexed → Tokens → Tokens
@@ -72,18 +81,53 @@ more_is (gap behind) at old new n h = cc
 more_is (one token behind) at old new n h = cc
 more_is bad at old new n h = cc
 
--- a turn of the loop
-pub turn : (text rest : List ℕ) (first : ℕ) (behind inside after : List ℕ) (behind_number number : Bool) (at next past_it : At)
+-- the token of a word is no number
+pub no_numeral : (word : List ℕ) → false ≡ is_numeral (word_token word)
+unfolding word_token
+no_numeral word = by_tables (beside reserved word) (beside kinds word)
+  where
+    by_tables : (sign : Option Sign) (kind : Option Kind) →
+        false ≡ is_numeral (option_map_or token.Sign sign (option_map_or token.Kind kind (token.Name word)))
+    by_tables None None = refl
+    by_tables None (Some kind) = refl
+    by_tables (Some sign) kind = refl
+
+-- a blank is a gap of one byte
+blank_is : (number : Bool) (b : ℕ) (bs : List ℕ) → is_blank b ≡ true → gap 0 ≡ piece number b bs
+unfolding piece
+blank_is number b bs is =
+    ap (λ t. if t then gap 0
+    else if nat_eq b 35 then gap (prefix_len (λ c. not (nat_eq c 10)) bs)
+    else if is_ascii_alphabetic b then (if number then bad else word_piece b bs)
+    else if is_ascii_digit b then number_piece b bs
+    else symbol_piece (b ∷ bs)) (sym is)
+
+-- a turn of the loop at a blank
+pub past_blank : (text rest : List ℕ) (first : ℕ) (behind : List ℕ) (behind_number : Bool) (at next : At) (old : List Lexed) →
+    Cutting text rest behind_number at old → rest ≡ first ∷ behind → is_blank first ≡ true → next ≡ place_behind first at →
+    Cutting text behind false next old
+past_blank text rest first behind behind_number at next old c split blank next_is =
+    let c' : Cutting text (first ∷ behind) behind_number at old = rw split at c in
+    rw next_is (
+    goes_on text first behind behind_number at old old (gap 0) (blank_is behind_number first behind blank) c' 0 (omega arith) (refl, refl)
+    )
+
+-- a turn of the loop at another piece, which stands in one line
+pub turn : (text rest : List ℕ) (first : ℕ) (behind after : List ℕ) (behind_number number : Bool) (at next past_it : At)
     (old new : List Lexed) (p : Piece) (more : Option ℕ) (n : ℕ) →
     Cutting text rest behind_number at old → rest ≡ first ∷ behind → p ≡ piece behind_number first behind →
-    more_of p ≤ length behind → number ≡ is_number p → GoesOn p at old new more → more ≡ Some n →
-    next ≡ place_behind first at → inside ≡ take n behind → past_it ≡ past inside next → after ≡ drop n behind →
+    more_of p ≤ length behind → is_flat (take (more_of p) behind) ≡ true → number ≡ is_number p → GoesOn p at old new more →
+    more ≡ Some n → next ≡ place_behind first at → past_it ≡ record next { col = next.col + n } → after ≡ drop n behind →
     Cutting text after number past_it new
-turn text rest first behind inside after behind_number number at next past_it old new p more n c split is within number_is goes
-    some next_is inside_is past_is after_is =
+turn text rest first behind after behind_number number at next past_it old new p more n c split is within flat number_is goes
+    some next_is past_is after_is =
     let c' : Cutting text (first ∷ behind) behind_number at old = rw split at c in
     let h : GoesOn p at old new (Some n) = rw some at goes in
-    let le : n ≤ length behind = subst (λ m. m ≤ length behind) (sym (more_is p at old new n h)) within in
-    rw (after_is, number_is, past_is, inside_is, next_is) (
+    let own : n ≡ more_of p = more_is p at old new n h in
+    let le : n ≤ length behind = subst (λ m. m ≤ length behind) (sym own) within in
+    let straight : past (take n behind) next ≡ past_it =
+    past_flat (take n behind) next (subst (λ m. is_flat (take m behind) ≡ true) (sym own) flat)
+    ∙ (ap (λ m. record next { col = next.col + m }) (length-take-le n behind le) ∙ sym past_is) in
+    rw (after_is, number_is, sym straight, next_is) (
     goes_on text first behind behind_number at old new p is c' n le h
     )

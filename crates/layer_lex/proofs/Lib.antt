@@ -1,4 +1,6 @@
 pub mod Cutting
+pub mod Flat
 pub mod Groups
 pub mod Numbers
+pub mod Rows
 pub mod Tables

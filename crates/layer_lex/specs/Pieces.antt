@@ -1,17 +1,27 @@
 -- What the lexer's values say.
-use Rattle.std.specs.Prelude.{◌≡◌, ℕ, Bool, false, List, [], ◌∷◌, ◌++◌, fold, Option, Some, None}
+use Rattle.std.specs.Prelude.{◌≡◌, ◌<◌, ℕ, suc, length, take, Bool, false, not, nat_eq, List, [], ◌∷◌, ◌++◌, fold, Option, Some, None}
+use Rattle.std.specs.List.{list_all}
 use Rattle.layer_ast.specs.declared.names.At.{At}
 use Rattle.layer_ast.specs.declared.tokens.Lexed.{Lexed}
+use Rattle.layer_ast.specs.declared.tokens.Token.TheVariants as token
+use Rattle.layer_ast.specs.Spelling.{word_token}
 use Rattle.layer_ast.specs.Cut.{Piece as Found, gap, one, bad, Tokens as Parts, is_numeral, place_behind}
 use Rattle.layer_lex.specs.declared.Tokens.{Tokens}
 use Rattle.layer_lex.specs.declared.pieces.Piece.{Piece}
-use Rattle.layer_lex.specs.declared.pieces.Piece.TheVariants.{Gap, One, Bad}
+use Rattle.layer_lex.specs.declared.pieces.Piece.TheVariants.{Gap, Word, Number, Symbol, Bad}
 
--- the piece that the lexer found
-abbrev pub found : Piece → Found
-found (Gap behind) = gap behind
-found (One token behind) = one token behind
-found Bad = bad
+-- the piece that the lexer found at the front of a text
+abbrev pub found : List ℕ → Piece → Found
+found text (Gap behind) = gap behind
+found text (Word behind) = one (word_token (take (suc behind) text)) behind
+found text (Number value behind) = one (token.Number value) behind
+found text (Symbol sign behind) = one (token.Sign sign) behind
+found text Bad = bad
+
+-- a word is at most 32 bytes of the text
+abbrev pub IsFront : List ℕ → Piece → Type 0
+IsFront text (Word behind) = (behind < 32) × (behind < length text)
+IsFront text _ = Unit
 
 -- the tokens that the lexer cut
 abbrev pub tokens_of : Tokens → Parts
@@ -37,3 +47,7 @@ abbrev pub GoesOn : Found → At → List Lexed → List Lexed → Option ℕ �
 GoesOn (gap behind) at old new more = (new ≡ old) × (more ≡ Some behind)
 GoesOn (one token behind) at old new more = (new ≡ old ++ record { token = token; at = at } ∷ []) × (more ≡ Some behind)
 GoesOn bad at old new more = (new ≡ old) × (more ≡ None)
+
+-- whether bytes stand in one line
+abbrev pub is_flat : List ℕ → Bool
+is_flat bytes = list_all (λ b. not (nat_eq b 10)) bytes

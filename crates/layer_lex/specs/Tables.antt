@@ -1,5 +1,5 @@
 -- Tables of spellings, as the lexer keeps them.
-use Rattle.std.specs.Prelude.{ℕ, nat_eq, List, [], ◌∷◌, map, find, Option, None}
+use Rattle.std.specs.Prelude.{ℕ, suc, Bool, true, ◌&&◌, nat_eq, List, [], ◌∷◌, map, find, Option, None}
 use Rattle.std.specs.Borrow.{Bor}
 use Rattle.std.specs.Option.{option_and_then}
 use Rattle.layer_ast.specs.Spelling.{beside}
@@ -11,6 +11,11 @@ shown table = map (λ entry. (entry.0.now, entry.1)) table
 -- a grouped table in the same way
 abbrev pub shown_groups : {X : Type 0} → List (ℕ × Bor (List (Bor (List ℕ) × X))) → List (ℕ × List (List ℕ × X))
 shown_groups groups = map (λ group. (group.0, shown group.1.now)) groups
+
+-- whether the bytes of groups follow one another, from this one on
+abbrev pub are_in_row : {X : Type 0} → ℕ → List (ℕ × X) → Bool
+are_in_row b [] = true
+are_in_row b (group ∷ groups) = nat_eq group.0 b && are_in_row (suc b) groups
 
 -- what stands beside a word in the group of its first byte
 unfoldable pub beside_in_group : {X : Type 0} → List (ℕ × List (List ℕ × X)) → List ℕ → Option X

@@ -1,17 +1,21 @@
 //! The lexer of layer files: a text is cut into its tokens, each with its place.
 #![tactic(auto)]
 
-ghost use Rattle.std.specs.Prelude.{◌≡◌, ◌+◌, ◌<◌, ◌≤◌, length, IfOk};
+ghost use Rattle.std.specs.Prelude.{◌≡◌, ℕ, List, ◌+◌, ◌<◌, ◌≤◌, length, IfOk};
 ghost use Rattle.layer_ast.specs.Cut.{cut as cut_of, place_behind as next_place};
 ghost use Rattle.layer_ast.specs.Stops.{end_of as end};
-ghost use Rattle.layer_lex.specs.Pieces.{found, tokens_of, is_number as is_number_piece, past, GoesOn};
+ghost use Rattle.layer_lex.specs.Pieces.{found, tokens_of, is_number as is_number_piece, past, GoesOn, IsFront};
 
 mod pieces;
 mod words;
 
 use layer_ast::{At, Lexed, Token};
-use pieces::{Piece, piece_at};
+use pieces::{Piece, front, is_blank, piece_at};
 use std::alloc::{AllocError, Global};
+use words::push_word;
+
+/// How many bytes of a text most have for each token; where there are more tokens, their room grows.
+const BYTES_A_TOKEN: usize = 2;
 
 /// The tokens of a text in front of its first bad one, and the place of that one.
 #[derive(Drop)]
@@ -25,21 +29,31 @@ pub fn cut(alloc: Global, text: &[u8]) -> Result<Tokens, AllocError>
     requires { length text.now < 4294967295 }
     ensures { IfOk result (λ c. tokens_of c ≡ cut_of text.now) }
 {
-    let mut tokens = Vec::new(alloc);
+    let mut tokens = Vec::with_capacity(alloc, text.len() / BYTES_A_TOKEN + 1)?;
     let mut at = At { line: 1, col: 1 };
     let mut behind_number = false;
     let mut rest = text;
     while let Some((first, behind)) = rest.split_first() {
+        let next = place_behind(*first, at);
+        if is_blank(*first) {
+            behind_number = false;
+            at = next;
+            rest = behind;
+            continue;
+        }
         let piece = piece_at(behind_number, *first, behind, rest);
         behind_number = is_number(&piece);
-        let Some(more) = take_piece(&mut tokens, piece, at)? else {
+        let Some(more) = take_piece(&mut tokens, piece, at, rest)? else {
             return Ok(Tokens {
                 tokens,
                 bad_at: Some(at),
             });
         };
-        let (inside, after) = behind.split_at(more);
-        at = place_past(inside, place_behind(*first, at));
+        at = At {
+            line: next.line,
+            col: next.col + more as u32,
+        };
+        let (_, after) = behind.split_at(more);
         rest = after;
     }
     Ok(Tokens {
@@ -48,14 +62,30 @@ pub fn cut(alloc: Global, text: &[u8]) -> Result<Tokens, AllocError>
     })
 }
 
-/// Adds the token of a piece to the tokens. The result is how many bytes of the piece stand behind its first, or
-/// none where the piece is bad.
-fn take_piece(tokens: &mut Vec<Lexed>, piece: Piece, at: At) -> Result<Option<usize>, AllocError>
-    ensures { IfOk result (λ more. GoesOn (found piece) at tokens.old.items tokens.new.items more) }
+/// Adds the token of a piece at the front of a text to the tokens. The result is how many bytes of the piece stand behind its
+/// first, or none where the piece is bad.
+fn take_piece(
+    tokens: &mut Vec<Lexed>,
+    piece: Piece,
+    at: At,
+    text: &[u8],
+) -> Result<Option<usize>, AllocError>
+    requires { IsFront text.now piece }
+    ensures { IfOk result (λ more. GoesOn (found text.now piece) at tokens.old.items tokens.new.items more) }
 {
     match piece {
         Piece::Gap { behind } => Ok(Some(behind)),
-        Piece::One { token, behind } => {
+        Piece::Word { behind } => {
+            push_word(tokens, front(text, behind), at)?;
+            Ok(Some(behind))
+        }
+        Piece::Number { value, behind } => {
+            let token = Token::Number(value);
+            tokens.push(Lexed { token, at })?;
+            Ok(Some(behind))
+        }
+        Piece::Symbol { sign, behind } => {
+            let token = Token::Sign(sign);
             tokens.push(Lexed { token, at })?;
             Ok(Some(behind))
         }
@@ -64,16 +94,17 @@ fn take_piece(tokens: &mut Vec<Lexed>, piece: Piece, at: At) -> Result<Option<us
 }
 
 /// Whether a piece is a number.
+#[tactic(auto, using(crate::proofs::Cutting::no_numeral))]
 fn is_number(piece: &Piece) -> bool
-    ensures { result ≡ is_number_piece (found piece.now) }
+    ensures { (text : List ℕ) → result ≡ is_number_piece (found text piece.now) }
 {
-    matches!(
-        piece,
-        Piece::One {
-            token: Token::Number(_),
-            ..
-        }
-    )
+    match piece {
+        Piece::Number { .. } => true,
+        Piece::Gap { .. } => false,
+        Piece::Word { .. } => false,
+        Piece::Symbol { .. } => false,
+        Piece::Bad => false,
+    }
 }
 
 /// The place behind bytes.

@@ -1,32 +1,33 @@
 //! The pieces of a text: gaps and tokens.
-ghost use Rattle.std.specs.Prelude.{◌≡◌, ◌+◌, ◌<◌, ◌≤◌, ◌∷◌, length, MatchOption, suc, take, not, nat_eq};
+ghost use Rattle.std.specs.Prelude.{◌≡◌, ℕ, List, ◌+◌, ◌<◌, ◌≤◌, ◌∷◌, true, false, length, MatchOption, suc, take, not, nat_eq};
 ghost use Rattle.std.specs.Char.{is_ascii_digit};
 ghost use Rattle.std.specs.List.{prefix_len};
 ghost use Rattle.layer_ast.specs.Cut.{piece as piece_of, word_piece, number_piece, symbol_piece};
 ghost use Rattle.layer_ast.specs.Spelling.{number_of, is_blank as is_gap, is_word_byte as goes_on_word};
-ghost use Rattle.layer_lex.specs.Pieces.{found, more_of};
+ghost use Rattle.layer_lex.specs.Pieces.{found, more_of, is_flat, IsFront};
 
-use crate::words::word_token;
-use layer_ast::{Sign, Token, Word};
+use layer_ast::{Sign, Word};
 
 /// What a text begins with, and how many bytes of it stand behind its first.
 #[derive(Clone, Copy)]
 pub enum Piece {
     Gap { behind: usize },
-    One { token: Token, behind: usize },
+    Word { behind: usize },
+    Number { value: u32, behind: usize },
+    Symbol { sign: Sign, behind: usize },
     Bad,
 }
 
-/// The piece that a text begins with, given also as its first byte and the bytes behind that.
-#[tactic(auto, unfolding(layer_ast::specs::Cut::piece))]
+/// The piece that a text begins with, given also as its first byte, which is no blank, and the bytes behind that. It stands in one line.
+#[tactic(auto, unfolding(layer_ast::specs::Cut::piece), using(crate::proofs::Flat::line_flat))]
 pub fn piece_at(behind_number: bool, first: u8, behind: &[u8], text: &[u8]) -> Piece
-    requires { text.now ≡ first ∷ behind.now }
-    ensures piece { found result ≡ piece_of behind_number first behind.now }
-    ensures within { more_of (found result) ≤ length behind.now }
+    requires text { text.now ≡ first ∷ behind.now }
+    requires no_blank { is_gap first ≡ false }
+    ensures piece { found text.now result ≡ piece_of behind_number first behind.now }
+    ensures front { IsFront text.now result }
+    ensures within { more_of (found text.now result) ≤ length behind.now }
+    ensures flat { is_flat (take (more_of (found text.now result)) behind.now) ≡ true }
 {
-    if is_blank(first) {
-        return Piece::Gap { behind: 0 };
-    }
     if first == b'#' {
         return Piece::Gap {
             behind: line_length(behind),
@@ -45,7 +46,7 @@ pub fn piece_at(behind_number: bool, first: u8, behind: &[u8], text: &[u8]) -> P
     symbol(first, behind)
 }
 
-fn is_blank(byte: u8) -> bool
+pub fn is_blank(byte: u8) -> bool
     ensures { result ≡ is_gap byte }
 {
     matches!(byte, b' ' | b'\t' | b'\r' | b'\n')
@@ -91,40 +92,43 @@ fn digits_length(bytes: &[u8]) -> usize
 }
 
 /// The first byte of a text and so many behind it.
-fn front(text: &[u8], more: usize) -> &[u8]
+pub fn front(text: &[u8], more: usize) -> &[u8]
     requires { more < length text.now }
     ensures { result.now ≡ take (suc more) text.now }
 {
     &text[..more + 1]
 }
 
+#[tactic(auto, using(crate::proofs::Flat::word_flat))]
 fn word(first: u8, behind: &[u8], text: &[u8]) -> Piece
     requires { text.now ≡ first ∷ behind.now }
-    ensures piece { found result ≡ word_piece first behind.now }
-    ensures within { more_of (found result) ≤ length behind.now }
+    ensures piece { found text.now result ≡ word_piece first behind.now }
+    ensures front { IsFront text.now result }
+    ensures within { more_of (found text.now result) ≤ length behind.now }
+    ensures flat { is_flat (take (more_of (found text.now result)) behind.now) ≡ true }
 {
     let more = word_length(behind);
     if more >= Word::LONGEST {
         return Piece::Bad;
     }
-    Piece::One {
-        token: word_token(front(text, more)),
-        behind: more,
-    }
+    Piece::Word { behind: more }
 }
 
+#[tactic(auto, using(crate::proofs::Flat::number_flat))]
 fn number(first: u8, behind: &[u8], text: &[u8]) -> Piece
     requires { text.now ≡ first ∷ behind.now }
-    ensures piece { found result ≡ number_piece first behind.now }
-    ensures within { more_of (found result) ≤ length behind.now }
+    ensures piece { found text.now result ≡ number_piece first behind.now }
+    ensures front { IsFront text.now result }
+    ensures within { more_of (found text.now result) ≤ length behind.now }
+    ensures flat { is_flat (take (more_of (found text.now result)) behind.now) ≡ true }
 {
     let more = digits_length(behind);
     if first == b'0' && more > 0 {
         return Piece::Bad;
     }
     match value(front(text, more)) {
-        Some(value) => Piece::One {
-            token: Token::Number(value),
+        Some(value) => Piece::Number {
+            value,
             behind: more,
         },
         None => Piece::Bad,
@@ -148,8 +152,10 @@ fn value(digits: &[u8]) -> Option<u32>
 
 #[tactic(auto, unfolding(layer_ast::specs::Spelling::symbol_at, layer_ast::specs::Spelling::symbols))]
 fn symbol(first: u8, behind: &[u8]) -> Piece
-    ensures piece { found result ≡ symbol_piece (first ∷ behind.now) }
-    ensures within { more_of (found result) ≤ length behind.now }
+    ensures piece { (text : List ℕ) → found text result ≡ symbol_piece (first ∷ behind.now) }
+    ensures front { (text : List ℕ) → IsFront text result }
+    ensures within { (text : List ℕ) → more_of (found text result) ≤ length behind.now }
+    ensures flat { (text : List ℕ) → is_flat (take (more_of (found text result)) behind.now) ≡ true }
 {
     let doubled = behind.starts_with(b"=");
     match first {
@@ -181,10 +187,7 @@ fn symbol(first: u8, behind: &[u8]) -> Piece
 }
 
 fn symbol_of(sign: Sign, behind: usize) -> Piece
-    ensures { result ≡ Piece.One (Token.Sign sign) behind }
+    ensures { result ≡ Piece.Symbol sign behind }
 {
-    Piece::One {
-        token: Token::Sign(sign),
-        behind,
-    }
+    Piece::Symbol { sign, behind }
 }

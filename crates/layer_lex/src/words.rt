@@ -1,14 +1,15 @@
 //! Words: reserved ones and names.
-ghost use Rattle.std.specs.Prelude.{◌≡◌, ◌≤◌, nat_eq, length, find};
+ghost use Rattle.std.specs.Prelude.{◌≡◌, ◌≤◌, ◌++◌, ◌∷◌, [], OnOk, true, nat_eq, length, find};
 ghost use Rattle.std.specs.Option.{option_map};
 ghost use Rattle.std.specs.Str.{bytes_eq};
 ghost use Rattle.layer_ast.specs.Spelling.{word_token as token_of, beside, reserved, kinds};
-ghost use Rattle.layer_lex.specs.Tables.{shown, shown_groups, beside_in_group};
+ghost use Rattle.layer_lex.specs.Tables.{shown, shown_groups, beside_in_group, are_in_row};
 
-use layer_ast::{Kind, Sign, Token, Word};
+use layer_ast::{At, Kind, Lexed, Sign, Token, Word};
+use std::alloc::AllocError;
 
-/// Each reserved word that isn't a kind, under its first letter.
-static RESERVED: [(u8, &[(&[u8], Sign)]); 19] = [
+/// Each reserved word that isn't a kind, under its first letter; the letters follow one another.
+static RESERVED: [(u8, &[(&[u8], Sign)]); 23] = [
     (b'a', &[(b"at", Sign::AtRow), (b"and", Sign::And)]),
     (b'b', &[(b"below", Sign::Below), (b"bit", Sign::Bit)]),
     (
@@ -28,9 +29,12 @@ static RESERVED: [(u8, &[(&[u8], Sign)]); 19] = [
             (b"each", Sign::Each),
         ],
     ),
+    (b'f', &[]),
+    (b'g', &[]),
     (b'h', &[(b"header", Sign::Header), (b"held", Sign::Held)]),
     (b'i', &[(b"int", Sign::Int), (b"if", Sign::If)]),
     (b'j', &[(b"join", Sign::Join)]),
+    (b'k', &[]),
     (
         b'l',
         &[
@@ -85,20 +89,33 @@ static RESERVED: [(u8, &[(&[u8], Sign)]); 19] = [
         ],
     ),
     (b'u', &[(b"up", Sign::Up)]),
+    (b'v', &[]),
     (b'w', &[(b"with", Sign::With)]),
 ];
 
-/// The word of each kind, under its first letter.
-static KINDS: [(u8, &[(&[u8], Kind)]); 9] = [
+/// The word of each kind, under its first letter; the letters follow one another.
+static KINDS: [(u8, &[(&[u8], Kind)]); 22] = [
     (b'A', &[(b"Ack", Kind::Ack)]),
     (
         b'B',
         &[(b"Block", Kind::Block), (b"BlockOk", Kind::BlockOk)],
     ),
     (b'C', &[(b"Cast", Kind::Cast)]),
+    (b'D', &[]),
     (b'E', &[(b"Elect", Kind::Elect)]),
     (b'F', &[(b"Flushed", Kind::Flushed)]),
+    (b'G', &[]),
+    (b'H', &[]),
+    (b'I', &[]),
+    (b'J', &[]),
+    (b'K', &[]),
     (b'L', &[(b"Leave", Kind::Leave)]),
+    (b'M', &[]),
+    (b'N', &[]),
+    (b'O', &[]),
+    (b'P', &[]),
+    (b'Q', &[]),
+    (b'R', &[]),
     (
         b'S',
         &[
@@ -108,61 +125,82 @@ static KINDS: [(u8, &[(&[u8], Kind)]); 9] = [
         ],
     ),
     (b'T', &[(b"Timer", Kind::Timer)]),
+    (b'U', &[]),
     (b'V', &[(b"View", Kind::View)]),
 ];
 
-/// The token of a word.
+/// Adds the token of a word at its place.
 #[tactic(auto, unfolding(layer_ast::specs::Spelling::word_token))]
-pub fn word_token(word: &[u8]) -> Token
+pub fn push_word(tokens: &mut Vec<Lexed>, word: &[u8], at: At) -> Result<(), AllocError>
     requires { 1 ≤ length word.now × length word.now ≤ 32 }
-    ensures { result ≡ token_of word.now }
+    ensures { OnOk result (tokens.new.items ≡ tokens.old.items ++ record { token = token_of word.now; at = at } ∷ []) }
 {
     if let Some(sign) = reserved_sign(word) {
-        return Token::Sign(sign);
+        let token = Token::Sign(sign);
+        tokens.push(Lexed { token, at })?;
+        return Ok(());
     }
     match kind(word) {
-        Some(kind) => Token::Kind(kind),
-        None => Token::Name(Word::of(word)),
+        Some(kind) => {
+            let token = Token::Kind(kind);
+            tokens.push(Lexed { token, at })?;
+        }
+        None => {
+            let token = Token::Name(Word::of(word));
+            tokens.push(Lexed { token, at })?;
+        }
     }
+    Ok(())
 }
 
 fn reserved_sign(word: &[u8]) -> Option<Sign>
     requires { 1 ≤ length word.now }
     ensures { result ≡ beside reserved word.now }
 {
-    found_among(&RESERVED, word)
+    found_among(b'a', &RESERVED, word)
 }
 
 fn kind(word: &[u8]) -> Option<Kind>
     requires { 1 ≤ length word.now }
     ensures { result ≡ beside kinds word.now }
 {
-    found_among(&KINDS, word)
+    found_among(b'A', &KINDS, word)
 }
 
-/// What stands beside a word in a table whose entries stand under their first bytes.
-fn found_among<T: Copy>(groups: &[(u8, &[(&[u8], T)])], word: &[u8]) -> Option<T>
+/// What stands beside a word in a table whose entries stand under their first bytes, which follow one another.
+fn found_among<T: Copy>(base: u8, groups: &[(u8, &[(&[u8], T)])], word: &[u8]) -> Option<T>
+    requires { are_in_row base groups.now ≡ true }
     ensures { result ≡ beside_in_group (shown_groups groups.now) word.now }
 {
     let Some((first, _)) = word.split_first() else {
         return None;
     };
-    match group_of(groups, *first) {
+    match group_of(base, groups, *first) {
         Some(group) => found_in(group, word),
         None => None,
     }
 }
 
-/// The entries that stand under a byte.
+/// The entries that stand under a byte, at its distance from the first.
+#[tactic(auto)]
 fn group_of<'a, T: Copy>(
+    base: u8,
     groups: &[(u8, &'a [(&'a [u8], T)])],
     first: u8,
 ) -> Option<&'a [(&'a [u8], T)]>
+    requires { are_in_row base groups.now ≡ true }
     ensures { option_map (λ group. group.now) result
         ≡ option_map (λ group. group.1.now) (find (λ group. nat_eq first group.0) groups.now) }
 {
-    let group = groups.iter().find(|group| first == group.0)?;
-    Some(group.1)
+    if first < base {
+        return None;
+    }
+    let place = usize::from(first - base);
+    if place < groups.len() {
+        Some(groups[place].1)
+    } else {
+        None
+    }
 }
 
 /// What stands beside a word in a table.

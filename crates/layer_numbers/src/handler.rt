@@ -53,7 +53,7 @@ fn with_fields(
     ensures { IfOk result (λ all. all.items ≡ numbers.now ++ scope.popped_names (option_map written.popped_tree popped.now)) }
 {
     let fields = popped_names(alloc, popped)?;
-    let mut all = Vec::new(alloc);
+    let mut all = Vec::with_capacity(alloc, numbers.len())?;
     all.extend_from_slice(numbers)?;
     all.extend_from_slice(&fields)?;
     Ok(all)
@@ -144,7 +144,7 @@ pub fn handlers(
     ensures is { IfOk result (λ made. map handler_tree made.items ≡ map (spec.handler_of (placed_of place.now)) (map written.handler_tree all.now)) }
     ensures tagged { IfOk result (λ made. All IsTagged made.items) }
 {
-    let mut made = Vec::new(alloc);
+    let mut made = Vec::with_capacity(alloc, all.len())?;
     for h in all {
         made.push(handler(alloc, place, h)?)?;
     }

@@ -127,7 +127,7 @@ fn statements(
     ensures is { IfOk result (λ made. trees (map statement_tree made.items) ≡ spec.statements_of (names_of names.old) (written.statement_trees all.now)) }
     ensures names { OnOk result (names_of names.new ≡ spec.behind_all (written.statement_trees all.now) (names_of names.old)) }
 {
-    let mut made = Vec::new(alloc);
+    let mut made = Vec::with_capacity(alloc, all.len())?;
     for s in all {
         made.push(statement(alloc, names, s)?)?;
     }

@@ -9,7 +9,7 @@ ghost use Rattle.layer_parse.specs.Parts.{arguments_within, some_arguments_withi
 ghost use Rattle.layer_parse.specs.Reading.{Parses, ParsesAll, SeesPart, SeesOneOf};
 
 use crate::expressions::{built, expression};
-use crate::readers::{Fault, close, open, past};
+use crate::readers::{Fault, close, open, past, push_item};
 use layer_ast::{Argument, Arguments, Lexed, Sign, Token};
 use std::alloc::Global;
 
@@ -94,7 +94,7 @@ fn more_arguments(
     let mut rest = tokens;
     while let Some(behind) = past(Sign::Comma, rest) {
         let (next, behind) = argument(alloc, room, behind)?;
-        all.push(next)?;
+        push_item(&mut all, next)?;
         rest = behind;
     }
     Ok((all, rest))

@@ -8,7 +8,7 @@ ghost use Rattle.std.specs.Prelude.{[], ◌∷◌};
 ghost use Rattle.layer_parse.specs.Parts.{names_within, some_names_within};
 ghost use Rattle.layer_parse.specs.Reading.{ParsesAll, ParsesFlat, ParsesAllFlat, SeesPart};
 
-use crate::readers::{Fault, close, name, open, past, read};
+use crate::readers::{Fault, close, name, open, past, push_item, read};
 use layer_ast::{Lexed, Name, Names, Sign, Token};
 use std::alloc::Global;
 
@@ -20,7 +20,7 @@ fn more_names(alloc: Global, tokens: &[Lexed]) -> Result<(Vec<Name>, &[Lexed]), 
     let mut rest = tokens;
     while let Some(behind) = past(Sign::Comma, rest) {
         let (next, behind) = read!(name(behind));
-        all.push(next)?;
+        push_item(&mut all, next)?;
         rest = behind;
     }
     Ok((all, rest))

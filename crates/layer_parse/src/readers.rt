@@ -1,5 +1,5 @@
 //! Readers of single tokens, and what every reader says.
-ghost use Rattle.std.specs.Prelude.{◌≡◌, suc};
+ghost use Rattle.std.specs.Prelude.{◌≡◌, ◌++◌, ◌∷◌, [], OnOk, suc};
 ghost use Rattle.layer_ast.specs.Print.{size as size_token};
 ghost use Rattle.layer_ast.specs.Printed.{plain, plain_numeral, name as name_token, kind as kind_token, operator_sign, sort_sign, ending_sign};
 ghost use Rattle.layer_ast.specs.View.{size_tree};
@@ -239,4 +239,15 @@ pub fn ending(tokens: &[Lexed]) -> Result<(Ending, &[Lexed]), Fault>
         Token::Sign(Sign::Ends) => Ok((Ending::Ends, rest)),
         _ => Err(Fault::Refused(tokens.len())),
     }
+}
+
+/// Adds an item to a list. The first gets room for itself alone, as many lists have no other.
+pub fn push_item<T: Drop>(all: &mut Vec<T>, item: T) -> Result<(), AllocError>
+    ensures { OnOk result (all.new.items ≡ all.old.items ++ item ∷ []) }
+{
+    if all.is_empty() {
+        all.reserve_exact(1)?;
+    }
+    all.push(item)?;
+    Ok(())
 }

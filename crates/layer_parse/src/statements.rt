@@ -12,7 +12,7 @@ ghost use Rattle.layer_parse.specs.Reading.{Parses, ParsesAll, ReadsFlat, SeesPa
 use crate::arguments::{arguments_in_parentheses, some_arguments_in_parentheses};
 use crate::expressions::{Element, expression, indices, queue};
 use crate::names::names_in_parentheses;
-use crate::readers::{Fault, close, kind, name, open, past, read, sign, size};
+use crate::readers::{Fault, close, kind, name, open, past, push_item, read, sign, size};
 use layer_ast::{At, Block, Dir, Expression, Lexed, Likely, Name, Pushed, Sign, Statement, Token};
 use std::alloc::Global;
 
@@ -40,7 +40,7 @@ fn statements(
     let mut rest = tokens;
     while begins_statement(rest) {
         let (next, behind) = statement(alloc, room, rest)?;
-        all.push(next)?;
+        push_item(&mut all, next)?;
         rest = behind;
     }
     Ok((all, rest))

@@ -55,7 +55,7 @@ fn each_number(
 ) -> Result<Vec<Expression>, AllocError>
     ensures { IfOk result (λ all. map expression_tree all.items ≡ map (spec.argument_number (names_of names.now)) (written.argument_tree first.now ∷ map written.argument_tree rest.now)) }
 {
-    let mut all = Vec::new(alloc);
+    let mut all = Vec::with_capacity(alloc, rest.len() + 1)?;
     all.push(argument_number(alloc, names, first)?)?;
     for argument in rest {
         all.push(argument_number(alloc, names, argument)?)?;

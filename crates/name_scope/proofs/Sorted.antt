@@ -1,5 +1,5 @@
 -- Names as locals, one name further.
-use Rattle.std.proofs.Common.{◌≡◌, ℕ, zero, suc, ◌+◌, ◌<◌, ◌≤◌, List, [], ◌∷◌, ◌++◌, take, length, get_or, map, slice_index_or, refl, sym, ap, ap₂, ◌∙◌, arith}
+use Rattle.std.proofs.Common.{◌≡◌, ℕ, zero, suc, ◌+◌, ◌<◌, ◌≤◌, List, [], ◌∷◌, ◌++◌, take, length, get_or, map, slice_index_or, refl, sym, ap, ap₂, ◌∙◌, arith, append_assoc, length-take-le}
 use Rattle.std.proofs.lemmas.List.{map-append, take_more, length-map}
 use Rattle.layer_ast.specs.Tree.{ItemTree, ItemsTree}
 use Rattle.layer_ast.specs.View.{item_tree, items_tree}
@@ -38,6 +38,30 @@ local_more sorts xs i x all sort n within is so_far count is_sort =
     (is_sort ∙ ap (λ k. slice_index_or sorts k Int) (count ∙ counted))
     ∙ (sym (locals_more sorts (take i xs) x)
     ∙ ap (names.locals_as sorts) (sym (take_more xs i x within ∙ ap (λ y. take i xs ++ y ∷ []) (sym is))))))
+
+-- names as locals behind others: the first, and the next
+pub first_added : (sorts : List Sort) (x : Name) (old : List Local) (sort : Sort) → sort ≡ slice_index_or sorts 0 Int →
+    locals_of (old ++ record { name = x; sort = sort } ∷ []) ≡ locals_of old ++ names.locals_as sorts (x ∷ [])
+first_added [] x old sort is =
+    map-append local_of old (record { name = x; sort = sort } ∷ []) ∙ ap (λ s. locals_of old ++ record { name = x; sort = s } ∷ []) is
+first_added (s ∷ sorts) x old sort is =
+    map-append local_of old (record { name = x; sort = sort } ∷ []) ∙ ap (λ s. locals_of old ++ record { name = x; sort = s } ∷ []) is
+
+pub next_added : (sorts : List Sort) (first : Name) (rest : List Name) (k : ℕ) (x : Name) (old all : List Local) (sort : Sort) (n : ℕ) →
+    k < length rest → x ≡ get_or rest k x → n ≡ k + 1 →
+    locals_of all ≡ locals_of old ++ names.locals_as sorts (first ∷ take k rest) → sort ≡ slice_index_or sorts n Int →
+    locals_of (all ++ record { name = x; sort = sort } ∷ []) ≡ locals_of old ++ names.locals_as sorts (first ∷ take (k + 1) rest)
+next_added sorts first rest k x old all sort n within is count so_far is_sort =
+    let counted : n ≡ length (first ∷ take k rest) =
+    let l = length-take-le k rest (omega (arith, within)) in let e : suc (length (take k rest)) ≡ n = omega (arith, l, count) in sym e in
+    map-append local_of all (record { name = x; sort = sort } ∷ [])
+    ∙ (ap (λ l. l ++ record { name = x; sort = sort } ∷ []) so_far
+    ∙ (append_assoc (locals_of old) (names.locals_as sorts (first ∷ take k rest)) (record { name = x; sort = sort } ∷ [])
+    ∙ ap (λ l. locals_of old ++ l)
+    (ap (λ s. names.locals_as sorts (first ∷ take k rest) ++ record { name = x; sort = s } ∷ [])
+    (is_sort ∙ ap (λ i. slice_index_or sorts i Int) counted)
+    ∙ (sym (locals_more sorts (first ∷ take k rest) x)
+    ∙ ap (λ xs. names.locals_as sorts (first ∷ xs)) (sym (take_more rest k x within ∙ ap (λ y. take k rest ++ y ∷ []) (sym is)))))))
 
 -- the locals of the arguments with those of the fields behind them
 pub behind : (arguments fields : List Local) (first second : List names.Local) →

@@ -1,14 +1,16 @@
 -- Tables of words, one word further.
-use Rattle.std.proofs.Common.{◌≡◌, ℕ, suc, ◌-◌, ◌<◌, Bool, true, false, ◌&&◌, ◌==◌, if◌then◌else◌, cond, is_some, List, [], ◌∷◌, ◌++◌, length, take, bytes_eq, Option, Some, None, option_map, refl, sym, ap, ◌∙◌, arith}
+use Rattle.std.proofs.Common.{◌≡◌, ℕ, suc, ◌+◌, ◌-◌, ◌<◌, get_or, Bool, true, false, ◌&&◌, ◌==◌, if◌then◌else◌, cond, is_some, Result, Ok, Err, OnErr, List, [], ◌∷◌, ◌++◌, length, take, bytes_eq, Option, Some, None, option_map, refl, sym, ap, ◌∙◌, subst, arith, length-take-le}
+use Rattle.std.specs.List.{position, position_from}
 use Rattle.std.specs.Option.{option_or}
 use Rattle.std.proofs.Math.Seq.{take-append_seam}
 use Rattle.std.proofs.lemmas.Bool.{eqb-false, eqb-true}
-use Rattle.std.proofs.lemmas.List.{length-append, take-take}
+use Rattle.std.proofs.lemmas.List.{length-append, take-take, take_more}
+use Rattle.std.proofs.lemmas.Iterator.Adapters.{position_from-zero}
 use Rattle.std.proofs.lemmas.Slice.Eq.{bytes_eq-Decides}
 use Rattle.std.specs.HashMap.{Updates}
 use Rattle.indexmap.specs.IndexMap.{IndexMap, get}
 use Rattle.name_scope.proofs.Lookups.{place_within}
-use Rattle.name_scope.specs.Words.{Forgets, IsTable, NotesFirst, is_at, place_of}
+use Rattle.name_scope.specs.Words.{Forgets, HasTable, IsSameTable, IsTable, NotesFirst, is_at, place_of}
 
 place_more : (word : List ℕ) (xs : List (List ℕ)) (x : List ℕ) →
     place_of word (xs ++ x ∷ []) ≡ option_or (place_of word xs) (if bytes_eq x word then Some (length xs) else None)
@@ -32,6 +34,48 @@ table_more old new words more word place is at table notes w =
     ∙ (ap (λ k. option_or (get bytes_eq old w) (if bytes_eq word w then Some k else None)) at
     ∙ (ap (λ p. option_or p (if bytes_eq word w then Some (length words) else None)) (table w)
     ∙ (sym (place_more w words word) ∙ ap (place_of w) (sym is))))
+
+-- the first place by a test is that of the word
+place_from : (word : List ℕ) (i : ℕ) (words : List (List ℕ)) →
+    position_from (λ w. bytes_eq w word) i words ≡ option_map (λ k. i + k) (place_of word words)
+place_from word i [] = refl
+place_from word i (w ∷ words) = go (bytes_eq w word) (place_of word words) (place_from word (i + 1) words) where
+  go : (b : Bool) (p : Option ℕ) → position_from (λ w. bytes_eq w word) (i + 1) words ≡ option_map (λ k. (i + 1) + k) p →
+      cond b (Some i) (position_from (λ w. bytes_eq w word) (i + 1) words)
+      ≡ option_map (λ k. i + k) (if b then Some 0 else option_map (λ k. suc k) p)
+  go true p rest = ap Some (omega arith)
+  go false None rest = rest
+  go false (Some k) rest = rest ∙ ap Some (omega arith)
+
+pub place_is : (word : List ℕ) (words : List (List ℕ)) (found : Option ℕ) → found ≡ position (λ w. bytes_eq w word) words →
+    found ≡ place_of word words
+place_is word words found is = is ∙ (position_from-zero (λ w. bytes_eq w word) words ∙ (place_from word 0 words ∙ go (place_of word words))) where
+  go : (p : Option ℕ) → option_map (λ k. 0 + k) p ≡ p
+  go None = refl
+  go (Some k) = ap Some (omega arith)
+
+-- what follows of an error
+pub on_err_weaker : {T E : Type 0} {P Q : Type 0} (r : Result T E) → (P → Q) → OnErr r P → OnErr r Q
+on_err_weaker (Ok x) goes p = p
+on_err_weaker (Err e) goes p = goes p
+
+-- words that are the same have the same table
+pub told : {S : Type 0} (first : Option (IndexMap (List ℕ) ℕ S)) (words same : List (List ℕ)) → words ≡ same → HasTable first words →
+    HasTable first same
+told first words same is table = subst (HasTable first) is table
+
+-- a table that tells the same is one of the same words
+pub table_same : {S : Type 0} (old new : IndexMap (List ℕ) ℕ S) (words : List (List ℕ)) → IsTable old words → IsSameTable old new →
+    IsTable new words
+table_same old new words table same w = same w ∙ table w
+
+-- a table of the first words knows one more
+pub table_next : {S : Type 0} (old new : IndexMap (List ℕ) ℕ S) (words : List (List ℕ)) (k : ℕ) (word : List ℕ) → k < length words →
+    word ≡ get_or words k word → IsTable old (take k words) → NotesFirst old word k new → IsTable new (take (k + 1) words)
+table_next old new words k word within is table notes =
+    table_more old new (take k words) (take (k + 1) words) word k
+    (take_more words k word within ∙ ap (λ w. take k words ++ w ∷ []) (sym is))
+    (let l = length-take-le k words (omega (arith, within)) in omega (arith, l)) table notes
 
 pub noted_before : {S : Type 0} (table : IndexMap (List ℕ) ℕ S) (word : List ℕ) (place : ℕ) →
     is_some (get bytes_eq table word) ≡ true → NotesFirst table word place table

@@ -1,5 +1,5 @@
 -- Tables of words.
-use Rattle.std.specs.Prelude.{◌≡◌, ℕ, suc, Bool, false, ◌&&◌, ◌==◌, if◌then◌else◌, List, [], ◌∷◌, bytes_eq, Option, Some, None, option_map, map}
+use Rattle.std.specs.Prelude.{◌≡◌, ℕ, suc, Bool, false, ◌&&◌, ◌==◌, if◌then◌else◌, List, [], ◌∷◌, bytes_eq, IfSome, Option, Some, None, option_map, map}
 use Rattle.std.specs.Option.{option_or}
 use Rattle.layer_ast.specs.Tree.{LayerTree}
 use Rattle.file_faults.specs.Declared.{declared_name}
@@ -13,6 +13,10 @@ place_of word (w ∷ words) = if bytes_eq w word then Some 0 else option_map (λ
 -- A table tells of each word where it is first among these.
 abbrev pub IsTable : {S : Type 0} → IndexMap (List ℕ) ℕ S → List (List ℕ) → Type 0
 IsTable table words = (word : List ℕ) → get bytes_eq table word ≡ place_of word words
+
+-- Words may have a table.
+abbrev pub HasTable : {S : Type 0} → Option (IndexMap (List ℕ) ℕ S) → List (List ℕ) → Type 0
+HasTable first words = IfSome first (λ table. IsTable table words)
 
 -- A table tells what another does, and of a word that this doesn't know that it is at a place.
 abbrev pub NotesFirst : {S : Type 0} → IndexMap (List ℕ) ℕ S → List ℕ → ℕ → IndexMap (List ℕ) ℕ S → Type 0

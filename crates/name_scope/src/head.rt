@@ -1,12 +1,12 @@
 //! The head of a handler: the names of its arguments, and those of the header that it takes off.
 
-ghost use Rattle.std.specs.Prelude.{◌≡◌, option_map, IfOk};
+ghost use Rattle.std.specs.Prelude.{◌≡◌, ◌++◌, [], option_map, OnOk, IfOk};
 ghost use Rattle.layer_ast.specs.View.{handler_tree, popped_tree};
 ghost use Rattle.file_faults.specs.Scope as spec;
 ghost use Rattle.name_scope.specs.Scope.{locals_of, scope_of};
 
 use crate::forms::declares_end;
-use crate::locals::{locals_as, number_locals};
+use crate::locals::add_sorted;
 use crate::names::{listed, written};
 use crate::scope::{Local, Scope};
 use layer_ast::{Handler, Kind, Name, Popped, Sort};
@@ -62,8 +62,20 @@ pub fn head_names(alloc: Global, handler: &Handler) -> Result<Vec<Name>, AllocEr
     Ok(names)
 }
 
+/// Adds the names of the fields of a popped header as locals, which are numbers.
+fn add_fields(locals: &mut Vec<Local>, popped: &Option<Popped>) -> Result<(), AllocError>
+    ensures { OnOk result (locals_of locals.new.items ≡ locals_of locals.old.items ++ spec.locals_as [] (spec.popped_names (option_map popped_tree popped.now))) }
+{
+    match popped {
+        None => Ok(()),
+        Some(popped) => match &popped.fields {
+            None => Ok(()),
+            Some(names) => add_sorted(locals, &[], names),
+        },
+    }
+}
+
 /// The locals that the head of a handler declares.
-#[tactic(auto, using(crate::proofs::Sorted::behind))]
 pub fn head_locals(
     alloc: Global,
     scope: &Scope,
@@ -72,9 +84,8 @@ pub fn head_locals(
     ensures { IfOk result (λ all. locals_of all.items ≡ (spec.head_scope (scope_of scope.now).layer (handler_tree handler.now)).locals) }
 {
     let sorts = argument_sorts(alloc, scope, handler)?;
-    let mut locals = locals_as(alloc, &sorts, &handler.names)?;
-    let names = popped_names(alloc, &handler.popped)?;
-    let fields = number_locals(alloc, &names)?;
-    locals.extend_from_slice(&fields)?;
+    let mut locals = Vec::new(alloc);
+    add_sorted(&mut locals, &sorts, &handler.names)?;
+    add_fields(&mut locals, &handler.popped)?;
     Ok(locals)
 }

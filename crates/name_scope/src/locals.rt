@@ -1,6 +1,6 @@
 //! Names as locals.
 
-ghost use Rattle.std.specs.Prelude.{◌≡◌, [], map, IfOk, Some, slice_index_or};
+ghost use Rattle.std.specs.Prelude.{◌≡◌, ◌++◌, [], map, OnOk, IfOk, Some, slice_index_or};
 ghost use Rattle.layer_ast.specs.View.{declaration_tree, items_tree, names_tree, queue_tree};
 ghost use Rattle.layer_ast.specs.declared.syntax.Sort.TheVariants.{Int};
 ghost use Rattle.file_faults.specs.Declared.{items_in, names_in};
@@ -22,6 +22,25 @@ fn sort_at(sorts: &[Sort], place: usize) -> Sort
     } else {
         Sort::Int
     }
+}
+
+/// Adds the names of a list as locals of these sorts in order; further names are numbers.
+#[tactic(auto, using(crate::proofs::Sorted::first_added, crate::proofs::Sorted::next_added))]
+pub fn add_sorted(locals: &mut Vec<Local>, sorts: &[Sort], names: &Names) -> Result<(), AllocError>
+    ensures { OnOk result (locals_of locals.new.items ≡ locals_of locals.old.items ++ spec.locals_as sorts.now (names_in (Some (names_tree names.now)))) }
+{
+    locals.reserve(names.rest.len() + 1)?;
+    locals.push(Local {
+        name: names.first,
+        sort: sort_at(sorts, 0),
+    })?;
+    for k in 0..names.rest.len() {
+        locals.push(Local {
+            name: names.rest[k],
+            sort: sort_at(sorts, k + 1),
+        })?;
+    }
+    Ok(())
 }
 
 /// Names as locals of these sorts in order; further names are numbers.
@@ -48,8 +67,9 @@ pub fn number_locals(alloc: Global, names: &[Name]) -> Result<Vec<Local>, AllocE
 pub fn locals_as(alloc: Global, sorts: &[Sort], names: &Names) -> Result<Vec<Local>, AllocError>
     ensures { IfOk result (λ all. locals_of all.items ≡ spec.locals_as sorts.now (names_in (Some (names_tree names.now)))) }
 {
-    let names = written(alloc, names)?;
-    sorted(alloc, sorts, &names)
+    let mut all = Vec::new(alloc);
+    add_sorted(&mut all, sorts, names)?;
+    Ok(all)
 }
 
 /// The sort of an item of a row by its place; behind the last item are numbers.

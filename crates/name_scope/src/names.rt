@@ -22,7 +22,7 @@ pub fn listed(alloc: Global, names: &Option<Names>) -> Result<Vec<Name>, AllocEr
 pub fn written(alloc: Global, names: &Names) -> Result<Vec<Name>, AllocError>
     ensures { IfOk result (λ all. all.items ≡ spec.names_in (Some (names_tree names.now))) }
 {
-    let mut all = Vec::new(alloc);
+    let mut all = Vec::with_capacity(alloc, names.rest.len() + 1)?;
     all.push(names.first)?;
     all.extend_from_slice(&names.rest)?;
     Ok(all)
@@ -32,7 +32,7 @@ pub fn written(alloc: Global, names: &Names) -> Result<Vec<Name>, AllocError>
 pub fn items(alloc: Global, row: &Items) -> Result<Vec<Item>, AllocError>
     ensures { IfOk result (λ all. map item_tree all.items ≡ spec.items_in (items_tree row.now)) }
 {
-    let mut all = Vec::new(alloc);
+    let mut all = Vec::with_capacity(alloc, row.rest.len() + 1)?;
     all.push(row.first)?;
     all.extend_from_slice(&row.rest)?;
     Ok(all)

@@ -1,8 +1,9 @@
 //! Words that are found without a search.
 
-ghost use Rattle.std.specs.Prelude.{◌≡◌, ◌-◌, ◌++◌, ◌∷◌, [], OnOk, OnErr, bytes_eq, length, take};
+ghost use Rattle.std.specs.Prelude.{◌≡◌, ◌-◌, ◌++◌, ◌∷◌, [], IfOk, OnOk, OnErr, bytes_eq, length, take};
+ghost use Rattle.std.specs.List.{position};
 ghost use Rattle.indexmap.specs.IndexMap.{get};
-ghost use Rattle.name_scope.specs.Words.{Forgets, IsSameTable, NotesFirst, is_at, place_of};
+ghost use Rattle.name_scope.specs.Words.{Forgets, HasTable, IsSameTable, IsTable, NotesFirst, is_at, place_of};
 
 use indexmap::IndexMap;
 use layer_ast::Word;
@@ -56,22 +57,25 @@ impl Hash for Spelling {
     }
 }
 
-/// Words in order, with a table of where each is first.
+/// How many words are looked through one by one; more have a table.
+const FEW: usize = 8;
+
+/// Words in order, and once they are more than a few a table of where each is first.
 #[derive(Drop)]
 pub struct Words {
     words: Vec<Word>,
-    first: IndexMap<Spelling, usize>,
+    first: Option<IndexMap<Spelling, usize>>,
 }
 
 impl Model for Words {
     ghost use Rattle.std.specs.Prelude.{List, ℕ};
-    ghost use Rattle.name_scope.specs.Words.{IsTable};
+    ghost use Rattle.name_scope.specs.Words.{HasTable};
 
     ghost Value = { List (List ℕ) };
 
     ghost view = { λ w. w.words.items };
 
-    ghost invariant = { λ w. IsTable w.first w.words.items };
+    ghost invariant = { λ w. HasTable w.first w.words.items };
 }
 
 impl Words {
@@ -81,7 +85,7 @@ impl Words {
     {
         Words {
             words: Vec::new(alloc),
-            first: IndexMap::new(alloc),
+            first: None,
         }
     }
 
@@ -96,17 +100,20 @@ impl Words {
     pub fn position(&self, word: &Word) -> Option<usize>
         ensures { result ≡ place_of word.now self.now }
     {
-        self.first.get(&Spelling(*word)).copied()
+        match &self.first {
+            Some(first) => first.get(&Spelling(*word)).copied(),
+            None => place_among(self.words.as_slice(), word),
+        }
     }
 
     /// Adds a word at the end, where there is memory.
-    #[tactic(auto, using(crate::proofs::Tables::table_more))]
+    #[tactic(auto, using(crate::proofs::Tables::told))]
     pub fn push(&mut self, word: &Word) -> Result<(), AllocError>
         ensures pushed { OnOk result (self.new ≡ self.old ++ word.now ∷ []) }
         ensures failed { OnErr result (self.new ≡ self.old) }
     {
         self.words.reserve(1)?;
-        note_first(&mut self.first, word, self.words.len())?;
+        note_next(&mut self.first, &self.words, word)?;
         self.words.push(*word)?;
         Ok(())
     }
@@ -122,12 +129,61 @@ impl Words {
     }
 
     /// Takes the last word away, where there is one.
-    #[tactic(auto, using(crate::proofs::Tables::table_less, crate::proofs::Tables::all_but_last))]
+    #[tactic(auto, using(crate::proofs::Tables::told, crate::proofs::Tables::all_but_last))]
     fn drop_last(&mut self)
         ensures { self.new ≡ take (length self.old - 1) self.old }
     {
         if let Some(word) = self.words.pop() {
-            forget_at(&mut self.first, &word, self.words.len());
+            forget_last(&mut self.first, &self.words, &word);
+        }
+    }
+}
+
+/// Where a word is first among others.
+#[tactic(auto, using(crate::proofs::Tables::place_is))]
+fn place_among(words: &[Word], word: &Word) -> Option<usize>
+    ensures { result ≡ place_of word.now words.now }
+{
+    position_among(words, word)
+}
+
+fn position_among(words: &[Word], word: &Word) -> Option<usize>
+    ensures { result ≡ position (λ w. bytes_eq w word.now) words.now }
+{
+    words.iter().position(|w| w.bytes() == word.bytes())
+}
+
+/// A table of where each of these words is first.
+fn table_of(alloc: Global, words: &[Word]) -> Result<IndexMap<Spelling, usize>, AllocError>
+    ensures { IfOk result (λ table. IsTable table words.now) }
+{
+    let mut table = IndexMap::new(alloc);
+    for place in 0..words.len() {
+        note_first(&mut table, &words[place], place)?;
+    }
+    Ok(table)
+}
+
+/// Notes where a word is first that is to come behind these, if they have a table or are to have one.
+fn note_next(
+    first: &mut Option<IndexMap<Spelling, usize>>,
+    words: &Vec<Word>,
+    word: &Word,
+) -> Result<(), AllocError>
+    requires { HasTable first.now words.now.items }
+    ensures noted { OnOk result (HasTable first.new (words.now.items ++ word.now ∷ [])) }
+    ensures failed { OnErr result (HasTable first.new words.now.items) }
+{
+    match first {
+        Some(table) => note_first(table, word, words.len()),
+        None => {
+            if words.len() < FEW {
+                return Ok(());
+            }
+            let mut table = table_of(*words.allocator(), words.as_slice())?;
+            note_first(&mut table, word, words.len())?;
+            *first = Some(table);
+            Ok(())
         }
     }
 }
@@ -146,6 +202,16 @@ fn note_first(
         first.insert(Spelling(*word), place)?;
     }
     Ok(())
+}
+
+/// Forgets where a word is first that stood behind these, if they have a table.
+fn forget_last(first: &mut Option<IndexMap<Spelling, usize>>, words: &Vec<Word>, word: &Word)
+    requires { HasTable first.now (words.now.items ++ word.now ∷ []) }
+    ensures { HasTable first.new words.now.items }
+{
+    if let Some(table) = first {
+        forget_at(table, word, words.len());
+    }
 }
 
 /// Whether a word is noted to be at a place.

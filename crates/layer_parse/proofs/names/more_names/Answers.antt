@@ -3,6 +3,6 @@ use Rattle.layer_parse.proofs.names.more_names.Goals as goal
 
 pub loop-behind-preserved : goal.loop-behind-preserved
 loop-behind-preserved c =
-    rw c.in_ok-push.ensures.items (
+    rw c.in_ok-push_item.ensures (
     name_gathered _ _ _ _ _ _ c.loop-behind.invariant c.in-Some.ensures c.in-Ok.ensures
     )
