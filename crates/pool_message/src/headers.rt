@@ -1,0 +1,38 @@
+//! Headers in place: copies, and those of places whose layers have nothing to say.
+
+ghost use Rattle.std.specs.Prelude.{◌≡◌, ℕ, ◌+◌, ◌≤◌, map};
+ghost use Rattle.std.specs.List.{range_with_len};
+ghost use Rattle.msg_core.specs.Headers.{most_headers};
+ghost use Rattle.layer_mean.specs.Visit.{none_header};
+
+use msg_core::{Fields, Header, Headers};
+
+/// The same headers once more.
+pub(crate) fn copied(headers: &Headers) -> Headers
+    ensures { result ≡ headers.now }
+{
+    let mut copy = Headers::none();
+    for k in (0..headers.len()).rev() {
+        if let Some(header) = headers.at(k) {
+            copy.push_front(header);
+        }
+    }
+    copy
+}
+
+/// The header `none` of each of `count` places from `first` on.
+pub(crate) fn none_headers(first: u8, count: u8) -> Headers
+    requires few { count ≤ most_headers }
+    requires places { first + count ≤ 256 }
+    ensures { result ≡ map none_header (range_with_len first count) }
+{
+    let mut headers = Headers::none();
+    for k in (0..count).rev() {
+        headers.push_front(Header {
+            layer: first + k,
+            tag: 0,
+            fields: Fields::none(),
+        });
+    }
+    headers
+}

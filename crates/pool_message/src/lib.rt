@@ -1,0 +1,24 @@
+//! Messages, rows and events whose bodies stand in a pool: headers in place, and a body that is a range of a slot's bytes.
+//! Nothing here takes memory.
+#![tactic(auto)]
+
+mod event;
+mod events;
+mod headers;
+mod join;
+mod laws;
+mod message;
+mod optional;
+mod part;
+mod row;
+#[cfg(test)]
+mod tests;
+
+pub use event::PoolEvent;
+pub use events::Events;
+pub use join::LONGEST_BODY;
+pub use laws::what_lies_stays;
+pub use message::PoolMessage;
+pub use optional::{give_back_if_any, keep_if_any};
+pub use part::Part;
+pub use row::PoolRow;

@@ -1,0 +1,200 @@
+//! Messages whose bodies stand in a pool.
+
+use crate::headers::{copied, none_headers};
+use crate::join::join_bodies;
+use crate::part::Part;
+use msg_core::{Header, Headers};
+use slot_pool::Pool;
+
+/// At most 24 headers, in place, before a body that is nothing or a part of a slot. It can't be let go: its reference goes back
+/// to the pool.
+pub struct PoolMessage {
+    pub(crate) headers: Headers,
+    pub(crate) body: Option<Part>,
+}
+
+impl PoolMessage {
+    ghost use Rattle.std.specs.Prelude.{◌≡◌, ℕ, ◌+◌, ◌<◌, ◌≤◌, ◌↔◌, List, [], ◌∷◌, ◌++◌, map, length, IfSome, IfNone, IsNone};
+    ghost use Rattle.std.specs.List.{range_with_len};
+    ghost use Rattle.slot_pool.specs.Held.{IsFull};
+    ghost use Rattle.slot_pool.specs.References.{Covers};
+    ghost use Rattle.msg_core.specs.Chain.{first_of, rest_of};
+    ghost use Rattle.msg_core.specs.Headers.{most_headers};
+    ghost use Rattle.msg_core.specs.Parts as parts;
+    ghost use Rattle.msg_core.specs.Parts.{longest_body};
+    ghost use Rattle.layer_mean.specs.Visit.{none_header};
+    ghost use Rattle.pool_message.specs.Seen.{refs, seen, Lies, bodiless};
+    ghost use Rattle.pool_message.specs.Moves.{CanKeep, Kept, Returned, Derived, Made, Counts, Joined};
+
+    /// A message without headers and without bytes.
+    pub fn nothing() -> PoolMessage
+        ensures { result ≡ bodiless [] }
+    {
+        PoolMessage {
+            headers: Headers::none(),
+            body: None,
+        }
+    }
+
+    /// A message without bytes, with the header `none` of each of `count` places from `first` on.
+    pub fn blank(first: u8, count: u8) -> PoolMessage
+        requires few { count ≤ most_headers }
+        requires places { first + count ≤ 256 }
+        ensures { result ≡ bodiless (map none_header (range_with_len first count)) }
+    {
+        PoolMessage {
+            headers: none_headers(first, count),
+            body: None,
+        }
+    }
+
+    /// A message with these headers and a copy of these bytes, in a slot that was unused. There is none where the pool is full.
+    pub fn put(headers: Headers, bytes: &[u8], pool: &mut Pool) -> Option<PoolMessage>
+        requires { length bytes.now ≤ longest_body }
+        ensures full { IsNone result ↔ IsFull pool.old }
+        ensures none { IfNone result (pool.new ≡ pool.old) }
+        ensures some { IfSome result (Made pool.old pool.new [] (record { headers = headers; body = bytes.now })) }
+    {
+        let slot = pool.put(bytes)?;
+        let part = Part {
+            slot,
+            from: 0,
+            len: bytes.len() as u32,
+        };
+        Some(PoolMessage {
+            headers,
+            body: Some(part),
+        })
+    }
+
+    /// Its headers, the lowest layer's first.
+    pub fn headers(&self) -> &Headers
+        ensures { result.now ≡ self.now.headers }
+    {
+        &self.headers
+    }
+
+    /// How many bytes it has.
+    pub fn len(&self) -> u32
+        ensures { Counts self.now result }
+    {
+        match &self.body {
+            Some(part) => part.len,
+            None => 0,
+        }
+    }
+
+    /// Its bytes.
+    pub fn body<'p>(&'p self, pool: &'p Pool) -> &'p [u8]
+        requires { Lies pool.now self.now }
+        ensures { result.now ≡ (seen pool.now self.now).body }
+    {
+        match &self.body {
+            Some(part) => part.bytes(pool),
+            None => &[],
+        }
+    }
+
+    /// The same message once more. The two share their bytes, to which there is one more reference.
+    pub fn keep(&self, pool: &mut Pool) -> PoolMessage
+        requires there { Covers pool.old (refs self.now) }
+        requires room { CanKeep pool.old (refs self.now) }
+        ensures same { result ≡ self.now }
+        ensures kept { Kept pool.old pool.new (refs self.now) }
+    {
+        let headers = copied(&self.headers);
+        match &self.body {
+            Some(part) => PoolMessage {
+                headers,
+                body: Some(part.keep(pool)),
+            },
+            None => PoolMessage {
+                headers,
+                body: None,
+            },
+        }
+    }
+
+    /// Gives its reference back.
+    pub fn give_back(self, pool: &mut Pool)
+        requires { Covers pool.old (refs self) }
+        ensures { Returned pool.old pool.new (refs self) }
+    {
+        let PoolMessage { headers: _, body } = self;
+        if let Some(part) = body {
+            part.give_back(pool);
+        }
+    }
+
+    /// At most `count` of its bytes, from `from` on, and none of its headers.
+    pub fn cut(self, from: u32, count: u32) -> PoolMessage
+        ensures { Derived (λ m. parts.cut m from count) self result }
+    {
+        let PoolMessage { body, headers: _ } = self;
+        let headers = Headers::none();
+        match body {
+            Some(part) => PoolMessage {
+                headers,
+                body: Some(part.cut(from, count)),
+            },
+            None => PoolMessage {
+                headers,
+                body: None,
+            },
+        }
+    }
+
+    /// Its bytes from `from` on, and its headers.
+    pub fn tail(self, from: u32) -> PoolMessage
+        ensures { Derived (λ m. parts.tail m from) self result }
+    {
+        let PoolMessage { headers, body } = self;
+        match body {
+            Some(part) => PoolMessage {
+                headers,
+                body: Some(part.tail(from)),
+            },
+            None => PoolMessage {
+                headers,
+                body: None,
+            },
+        }
+    }
+
+    /// Puts `header` in front of the others.
+    pub fn push_header(&mut self, header: Header)
+        requires { length self.old.headers < most_headers }
+        ensures { self.new ≡ record self.old { headers = header ∷ self.old.headers } }
+    {
+        self.headers.push_front(header);
+    }
+
+    /// Takes the first header off.
+    pub fn pop_header(&mut self) -> Option<Header>
+        ensures first { result ≡ first_of self.old.headers }
+        ensures rest { self.new ≡ record self.old { headers = rest_of self.old.headers } }
+    {
+        self.headers.pop_front()
+    }
+
+    /// The bytes of `first` in front of those of `second`, behind the headers of `second`; `second` alone where they would be more
+    /// than a body has. A slot is taken only where both have bytes, and there is none where the pool is full then: both are given
+    /// back.
+    pub fn join(first: PoolMessage, second: PoolMessage, pool: &mut Pool) -> Option<PoolMessage>
+        requires there { Covers pool.old (refs first ++ refs second) }
+        requires front { Lies pool.old first }
+        requires back { Lies pool.old second }
+        ensures { Joined pool.old pool.new first second result }
+    {
+        let PoolMessage {
+            headers: _,
+            body: front,
+        } = first;
+        let PoolMessage {
+            headers,
+            body: back,
+        } = second;
+        let body = join_bodies(front, back, pool)?;
+        Some(PoolMessage { headers, body })
+    }
+}
