@@ -1,0 +1,9 @@
+pub mod Empty
+pub mod Written
+pub mod Laid
+pub mod Changed
+pub mod Rows
+pub mod Begun
+pub mod Sizeless
+pub mod Seen
+pub mod Undone

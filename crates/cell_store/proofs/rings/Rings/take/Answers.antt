@@ -1,0 +1,16 @@
+use Rattle.std.proofs.Common.{◌∙◌, drop, ap, arith}
+use Rattle.cell_store.proofs.Written.{ring_within, rows_read, still_rings, shown_written}
+use Rattle.cell_store.proofs.rings.Rings.take.Goals as goal
+
+pub invariant_of-self : goal.invariant_of-self
+invariant_of-self g c =
+    still_rings _ _ _ _ _ _ c.self.invariant (omega arith) c.index_mut-ring.ensures.value c.pop_front.ensures.capacity
+
+pub returns-then-index-self-clause-rest : goal.returns-then-index-self-clause-rest
+returns-then-index-self-clause-rest g c =
+    let rows = rows_read _ _ _ _ _ _ c.self.view_is c.self.invariant (omega arith) c.index_mut-ring.ensures.value in
+    shown_written _ _ _ _ _ _ _ c.self.view_is (c.pop_front.ensures.rest ∙ ap (drop 1) rows)
+
+pub returns-then-index-self-clause-within : goal.returns-then-index-self-clause-within
+returns-then-index-self-clause-within g c =
+    ring_within _ _ _ _ _ _ c.self.view_is c.self.invariant (omega arith) c.index_mut-ring.ensures.value

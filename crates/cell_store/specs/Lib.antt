@@ -1,0 +1,7 @@
+pub mod Kept
+pub mod Coded
+pub mod Fresh
+pub mod Rings
+pub mod Frames
+pub mod Slots
+pub mod Laws

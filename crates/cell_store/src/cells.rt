@@ -1,0 +1,286 @@
+//! The store.
+
+ghost use Rattle.std.specs.Prelude.{◌≡◌, ◌≤◌, [], ◌++◌, true, length, map, IfOk, IfNone, IfSome, option_copied, option_to_list, All, vec_capacity};
+ghost use Rattle.std.specs.List.{sum_by};
+ghost use Rattle.layer_mean.specs.State.{flat_index};
+ghost use Rattle.typed_layer.specs.View.{layer_tree, form_tree};
+ghost use Rattle.cell_store.specs.Kept.{kept_number, kept_rows, kept_row, kept_capacity, keeps_room, with_kept_number, with_last, with_first, without_first, without_last, first_row, last_row, rows_in, emptied};
+ghost use Rattle.cell_store.specs.Fresh.{kept_first, kept_fresh, IsFor};
+
+use crate::slot::{self, Slot, slot_at};
+use std::alloc::{AllocError, Global};
+use std::marker::Model;
+use typed_layer::TypedLayer;
+
+/// The most members of a view.
+pub const MOST_MEMBERS: u32 = 32;
+
+/// The cells of one layer of one member, with the own rank, the number of members and the view's ltime. Rows are only moved in and out,
+/// so they may be of a type that can't be let go.
+pub struct Cells<R> {
+    me: u32,
+    count: u32,
+    ltime: u32,
+    /// The most members that there is room for.
+    most: u32,
+    block: Vec<u32>,
+    slots: Vec<Slot<R>>,
+}
+
+impl<R> Model for Cells<R> {
+    ghost use Rattle.std.specs.Prelude.{map, vec_capacity};
+    ghost use Rattle.cell_store.specs.Kept.{Kept};
+    ghost use Rattle.cell_store.specs.Coded.{kept_code};
+    ghost use Rattle.cell_store.specs.Slots.{slot_kept, AreSlots};
+
+    ghost Value = { Kept R };
+
+    ghost coded = { kept_code R.code };
+
+    ghost view = { λ c. record {
+      me = c.me;
+      count = c.count;
+      ltime = c.ltime;
+      most = c.most;
+      cells = map (slot_kept c.block.items) c.slots.items;
+    } };
+
+    ghost invariant = { λ c. AreSlots c.count c.most (vec_capacity c.block) c.block.items c.slots.items };
+}
+
+impl<R> Cells<R> {
+    /// The cells of `layer` before the first event, at the member of rank `me` of `count`. All memory is taken here.
+    pub fn fresh(
+        alloc: Global,
+        layer: &TypedLayer,
+        me: u32,
+        count: u32,
+        ltime: u32,
+    ) -> Result<Cells<R>, AllocError>
+        requires { count ≤ 32 }
+        ensures { IfOk result (λ c. c ≡ kept_fresh (layer_tree layer.now) me count ltime count) }
+    {
+        let (block, slots) = slot::begin_all(alloc, &layer.cells, me, count, ltime)?;
+        Ok(Cells {
+            me,
+            count,
+            ltime,
+            most: count,
+            block,
+            slots,
+        })
+    }
+
+    /// Begins again, at the member of rank `me` of `count`, of whom there are no more than there were at first. No row may be left.
+    pub fn reset(&mut self, layer: &TypedLayer, me: u32, count: u32, ltime: u32)
+        requires layer { IsFor (layer_tree layer.now) self.old }
+        requires few { count ≤ self.old.most }
+        requires empty { rows_in self.old ≡ [] }
+        ensures { self.new ≡ kept_fresh (layer_tree layer.now) me count ltime self.old.most }
+    {
+        self.me = me;
+        self.count = count;
+        self.ltime = ltime;
+        slot::restart_all(
+            &mut self.block,
+            &mut self.slots,
+            &layer.cells,
+            me,
+            count,
+            ltime,
+            self.most,
+        );
+    }
+
+    /// The own rank.
+    pub fn me(&self) -> u32
+        ensures { result ≡ self.now.me }
+    {
+        self.me
+    }
+
+    /// The number of members.
+    pub fn count(&self) -> u32
+        ensures count { result ≡ self.now.count }
+        ensures few { (result ≤ self.now.most) × (self.now.most ≤ 32) }
+    {
+        self.count
+    }
+
+    /// How many views came before.
+    pub fn ltime(&self) -> u32
+        ensures { result ≡ self.now.ltime }
+    {
+        self.ltime
+    }
+
+    /// The number at an index of a cell; 0 outside.
+    pub fn get(&self, cell: u8, index: u32) -> u32
+        ensures { result ≡ kept_number self.now cell index }
+    {
+        match slot_at(&self.slots, cell) {
+            Some(slot) => {
+                if (index as usize) < slot.count {
+                    self.block[slot.at + index as usize]
+                } else {
+                    0
+                }
+            }
+            None => 0,
+        }
+    }
+
+    /// The number at a row and a column of a square cell; 0 outside.
+    pub fn square(&self, cell: u8, row: u32, column: u32) -> u32
+        ensures { result ≡ kept_number self.now cell (flat_index self.now.count row column) }
+    {
+        let index = self.flat_index(row, column);
+        self.get(cell, index)
+    }
+
+    /// Writes the number at an index of a cell; outside nothing changes.
+    pub fn set(&mut self, cell: u8, index: u32, value: u32)
+        ensures { self.new ≡ with_kept_number self.old cell index value }
+    {
+        if let Some(slot) = slot_at(&self.slots, cell) {
+            if (index as usize) < slot.count {
+                let place = slot.at + index as usize;
+                self.block[place] = value;
+            }
+        }
+    }
+
+    /// Writes the number at a row and a column of a square cell; outside nothing changes.
+    pub fn set_square(&mut self, cell: u8, row: u32, column: u32, value: u32)
+        ensures { self.new ≡ with_kept_number self.old cell (flat_index self.old.count row column) value }
+    {
+        let index = self.flat_index(row, column);
+        self.set(cell, index, value);
+    }
+
+    fn flat_index(&self, row: u32, column: u32) -> u32
+        ensures { result ≡ flat_index self.now.count row column }
+    {
+        if row < self.count && column < self.count {
+            row * self.count + column
+        } else {
+            self.count * self.count
+        }
+    }
+
+    /// How many rows a queue has.
+    pub fn len(&self, cell: u8, index: u32) -> u32
+        ensures { result ≡ length (kept_rows self.now cell index) }
+    {
+        match slot_at(&self.slots, cell) {
+            Some(slot) => u32::from(slot.rings.len(index as usize)),
+            None => 0,
+        }
+    }
+
+    /// A row of a queue, the front being 0.
+    pub fn row(&self, cell: u8, index: u32, row: u32) -> Option<&R>
+        ensures { option_copied result ≡ kept_row self.now cell index row }
+    {
+        match slot_at(&self.slots, cell) {
+            Some(slot) => slot.rings.row(index as usize, row as usize),
+            None => None,
+        }
+    }
+
+    /// How many rows each queue of a cell keeps; 0 where it has none.
+    pub fn capacity(&self, cell: u8) -> u8
+        ensures { result ≡ kept_capacity self.now cell }
+    {
+        match slot_at(&self.slots, cell) {
+            Some(slot) => slot.capacity(),
+            None => 0,
+        }
+    }
+
+    /// Whether a queue is there and has fewer rows than a capacity.
+    pub fn has_room(&self, cell: u8, index: u32, capacity: u8) -> bool
+        ensures { result ≡ keeps_room self.now cell index capacity }
+    {
+        match slot_at(&self.slots, cell) {
+            Some(slot) => slot.has_room(index as usize, capacity),
+            None => false,
+        }
+    }
+
+    /// Puts a row at the back of a queue.
+    pub fn push(&mut self, cell: u8, index: u32, row: R)
+        requires { keeps_room self.old cell index (kept_capacity self.old cell) ≡ true }
+        ensures { self.new ≡ with_last self.old cell index row }
+    {
+        let slot = &mut self.slots[cell as usize];
+        slot.rings.push(index as usize, row);
+    }
+
+    /// Puts a row in front of a queue.
+    pub fn put_front(&mut self, cell: u8, index: u32, row: R)
+        requires { keeps_room self.old cell index (kept_capacity self.old cell) ≡ true }
+        ensures { self.new ≡ with_first self.old cell index row }
+    {
+        let slot = &mut self.slots[cell as usize];
+        slot.rings.put_front(index as usize, row);
+    }
+
+    /// Takes the front row of a queue, which has room behind it.
+    pub fn take(&mut self, cell: u8, index: u32) -> Option<R>
+        ensures row { result ≡ first_row self.old cell index }
+        ensures rest { self.new ≡ without_first self.old cell index }
+        ensures room { IfSome result (λ row. keeps_room self.new cell index (kept_capacity self.new cell) ≡ true) }
+    {
+        if (cell as usize) < self.slots.len() {
+            let slot = &mut self.slots[cell as usize];
+            slot.rings.take(index as usize)
+        } else {
+            None
+        }
+    }
+
+    /// Takes the last row of a queue, which has room behind it.
+    pub fn take_back(&mut self, cell: u8, index: u32) -> Option<R>
+        ensures row { result ≡ last_row self.old cell index }
+        ensures rest { self.new ≡ without_last self.old cell index }
+        ensures room { IfSome result (λ row. keeps_room self.new cell index (kept_capacity self.new cell) ≡ true) }
+    {
+        if (cell as usize) < self.slots.len() {
+            let slot = &mut self.slots[cell as usize];
+            slot.rings.take_back(index as usize)
+        } else {
+            None
+        }
+    }
+
+    /// Takes the front row of the first queue that has one, to empty all queues by.
+    pub fn take_any(&mut self) -> Option<R>
+        ensures rows { rows_in self.old ≡ option_to_list result ++ rows_in self.new }
+        ensures none { IfNone result (rows_in self.new ≡ []) }
+        ensures kept { emptied self.new ≡ emptied self.old }
+    {
+        match slot::first_filled(&self.slots) {
+            Some((cell, index)) => {
+                let slot = &mut self.slots[cell];
+                slot.rings.take(index)
+            }
+            None => None,
+        }
+    }
+
+    /// Gives the memory back. No row may be left.
+    pub fn destroy(self)
+        requires { rows_in self ≡ [] }
+    {
+        let Cells {
+            me: _,
+            count: _,
+            ltime: _,
+            most: _,
+            block: _,
+            slots,
+        } = self;
+        slot::destroy_all(slots);
+    }
+}
