@@ -5,11 +5,13 @@ use Rattle.layer_desk.specs.Need.{Layout, Room, Need, most_above}
 use Rattle.layer_desk.specs.declared.no_room.NoRoom.{NoRoom}
 use Rattle.layer_desk.specs.declared.no_room.NoRoom.TheVariants as lack
 
--- The pool as a visit found it, the references that the desk had then, and what the desk is made for.
+-- The pool as a visit found it, the references that the desk had then, what the desk is made for, and how many events the list keeps
+-- to which it adds those that it sends.
 pub record Begun : Type 0 where
   pub pool : List Held
   pub refs : List ℕ
   pub layout : Layout
+  pub list : ℕ
 
 -- At most this was spent of the room, and the hand has as many places as before.
 pub record SpentAtMost (old new : Room) (n : Need) : Type 0 where

@@ -30,6 +30,7 @@ impl Start for Brand {
       pool = [];
       refs = [];
       layout = record { rows = []; numbers = 0; messages = 0; hand = 0; places = 0 };
+      list = 0;
     } };
 }
 
@@ -41,6 +42,9 @@ pub trait Desk {
 
     /// What the desk is made for.
     ghost layout: { Self → Layout };
+
+    /// How many events the list keeps to which the desk adds those that it sends.
+    ghost list: { Self → ℕ };
 
     /// Since this beginning the references of the desk, and no others, have moved in the pool; and the desk is in order.
     ghost ready: { Begun → List Held → Self → Type 0 };
@@ -304,6 +308,9 @@ pub trait Desk {
 
     /// It is made for what it was made for at the beginning.
     ghost kept: { (b : Begun) (p : List Held) (desk : Self) → ready b p desk → layout desk ≡ b.layout };
+
+    /// The list is as long as at the beginning.
+    ghost listed: { (b : Begun) (p : List Held) (desk : Self) → ready b p desk → list desk ≡ b.list };
 
     /// The messages in hand and the places left make out how many its hand takes.
     ghost hand: { (b : Begun) (p : List Held) (desk : Self) → ready b p desk →

@@ -1,0 +1,75 @@
+//! Stages of a run.
+
+ghost use Rattle.std.specs.Prelude.{◌≡◌, ℕ, ◌+◌, ◌≤◌, List, ◌++◌, length};
+ghost use Rattle.slot_pool.specs.Held.{Held, spare};
+ghost use Rattle.slot_pool.specs.References.{Moved, Covers};
+ghost use Rattle.layer_mean.specs.State.{State};
+ghost use Rattle.layer_mean.specs.Tree.{LayerTree};
+ghost use Rattle.layer_mean.specs.Visit.{step};
+ghost use Rattle.layer_desk.specs.Need.{most_above};
+ghost use Rattle.layer_eval.specs.Did.{as_predicted};
+ghost use Rattle.pool_message.specs.Seen.{event_refs, event_seen, EventLies};
+ghost use Rattle.layer_stage.specs.Room.{slots_needed, places_needed, headers_met, most_counted, most_kept, CountsWithin};
+ghost use Rattle.pool_message.specs.Sent.{sent_refs, sent_seen, SentLie};
+
+use layer_ast::Dir;
+use layer_eval::Predicted;
+use pool_message::{Events, PoolEvent};
+use slot_pool::Pool;
+
+/// A layer at its place, with its state. Bodies of messages stand in the pool beside it, and a visit takes no memory.
+pub trait Stage {
+    /// Its place in the stack, the lowest being 0, and its layer.
+    ghost place: { Self → ℕ };
+
+    ghost layer: { Self → LayerTree };
+
+    /// The slots to which its state refers.
+    ghost refs: { Self → List ℕ };
+
+    /// Its state lies in the pool, and is in order.
+    ghost ready: { List Held → Self → Type 0 };
+
+    /// Its state, with the bodies that the pool holds.
+    ghost state: { List Held → Self → State };
+
+    /// The layer takes an event: its state, what it sends, behind what `out` has, and whether it decided as predicted are those of a visit.
+    fn take(
+        &mut self,
+        pool: &mut Pool,
+        direction: Dir,
+        event: PoolEvent,
+        out: &mut Events,
+    ) -> Predicted
+        requires ready { ready pool.old self.old }
+        requires event { EventLies pool.old event }
+        requires out { SentLie pool.old out.old.items }
+        requires covers { Covers pool.old (refs self.old ++ (event_refs event ++ sent_refs out.old.items)) }
+        requires counts { CountsWithin most_counted pool.old }
+        requires headers { headers_met direction (event_seen pool.old event) ≤ most_above }
+        requires slots { slots_needed (layer self.old) direction (event_seen pool.old event) ≤ spare pool.old }
+        requires places { length out.old.items + places_needed (layer self.old) direction (event_seen pool.old event) ≤ out.old.capacity }
+        ensures state { state pool.new self.new ≡
+            (step (place self.old) (layer self.old) (state pool.old self.old) direction (event_seen pool.old event)).state }
+        ensures sent { sent_seen pool.new out.new.items ≡ sent_seen pool.old out.old.items
+            ++ (step (place self.old) (layer self.old) (state pool.old self.old) direction (event_seen pool.old event)).sent }
+        ensures predicted { result ≡ as_predicted
+            (step (place self.old) (layer self.old) (state pool.old self.old) direction (event_seen pool.old event)).decided }
+
+        // Its references, and those of the event and of what was sent, have moved in the pool, and no others.
+        ensures moved { Moved pool.old pool.new
+            (refs self.old ++ (event_refs event ++ sent_refs out.old.items)) (refs self.new ++ sent_refs out.new.items) }
+        ensures spent { spare pool.old ≤ spare pool.new + slots_needed (layer self.old) direction (event_seen pool.old event) }
+        ensures capacity { out.new.capacity ≡ out.old.capacity }
+        ensures ready { ready pool.new self.new }
+        ensures out { SentLie pool.new out.new.items }
+        ensures place { place self.new ≡ place self.old }
+        ensures layer { layer self.new ≡ layer self.old };
+
+    /// Where other references move, it stays as it is.
+    ghost frame: { (p q : List Held) (a b : List ℕ) (s : Self) → Moved p q a b → Covers p (a ++ refs s) → ready p s →
+        (ready q s × (state q s ≡ state p s)) };
+
+    /// It has at most so many references.
+    ghost few: { (p : List Held) (s : Self) → ready p s → length (refs s) ≤ most_kept };
+}
