@@ -1,0 +1,79 @@
+-- The scope of a desk that has no more than it is made for.
+use Rattle.std.proofs.Common.{◌≡◌, ℕ, suc, ◌+◌, ◌≤◌, List, [], ◌∷◌, ◌++◌, Option, None, length, refl, sym, ap, subst, ◌∙◌, arith}
+use Rattle.std.specs.List.{AllByRecursion}
+use Rattle.std.proofs.lemmas.List.{length-append}
+use Rattle.slot_pool.specs.Held.{Held}
+use Rattle.layer_desk.specs.Laid.{Laid}
+use Rattle.layer_desk.specs.Need.{Layout}
+use Rattle.layer_desk.specs.Spent.{Begun}
+use Rattle.pool_message.specs.Seen.{bodiless, refs, refs_if}
+use Rattle.pool_message.specs.Moves.{Returned}
+use Rattle.pool_message.specs.declared.message.PoolMessage.{PoolMessage}
+use Rattle.file_layer.specs.Stock.{Stock, laid}
+use Rattle.file_layer.specs.Scope.{without_messages}
+use Rattle.file_layer.specs.Entered.{with_bare}
+use Rattle.file_layer.specs.Steps.{InPool}
+use Rattle.file_layer.specs.Fits.{most_bound, IsShort, StockFits}
+use Rattle.file_layer.proofs.Lists.{all-append, all-front}
+use Rattle.file_layer.proofs.Scope.{bare_bound, message_gone, arrived_gone, numbers_step}
+
+pub fits_scope : (l : Layout) (s : Stock) (ns : List ℕ) (ms : List PoolMessage) (arrived : Option PoolMessage) → StockFits l s → length ns ≤ l.numbers + most_bound → length ms ≤ l.messages + 1 →
+    AllByRecursion IsShort ms → StockFits l (record s { numbers = ns; messages = ms; arrived = arrived })
+fits_scope l s ns ms arrived fits numbers messages short = record {
+  rows = fits.rows;
+  cells = fits.cells;
+  numbers = numbers;
+  messages = messages;
+  short = short;
+  hand = fits.hand;
+  hand_short = fits.hand_short;
+  sent = fits.sent;
+  few = fits.few;
+}
+
+module _ (b : Begun) (p q : List Held) (s : Stock) (is : InPool b p s) (fits : StockFits b.layout s) where
+  -- The last message of the scope is given back.
+  pub message_back : (rest : List PoolMessage) (m : PoolMessage) → s.messages ≡ rest ++ m ∷ [] → Returned p q (refs m) →
+      InPool b q (record s { messages = rest }) × StockFits b.layout (record s { messages = rest }) ×
+      (without_messages (laid q (record s { messages = rest })) ≡ without_messages (laid p s))
+  message_back rest m at gone =
+      let step = message_gone b p q s is rest m at gone in
+      let long = ap length at in let all = fits.messages in (
+        step.0,
+        fits_scope b.layout s s.numbers rest s.arrived fits fits.numbers (omega (arith, length-append rest (m ∷ [])))
+            (all-front IsShort rest (m ∷ []) (subst (AllByRecursion IsShort) at fits.short)),
+        ap without_messages step.1,
+      )
+
+  -- The numbers go, and the message that arrived is given back.
+  pub arrived_back : (ns : List ℕ) (none : Option PoolMessage) → ns ≡ [] → none ≡ None → Returned p q (refs_if s.arrived) →
+      InPool b q (record s { numbers = ns; arrived = none }) × StockFits b.layout (record s { numbers = ns; arrived = none }) ×
+      (laid q (record s { numbers = ns; arrived = none }) ≡
+      record (laid p s) { scope = record { numbers = []; messages = (laid p s).scope.messages }; arrived = None })
+  arrived_back ns none empty is_none gone =
+      let step = arrived_gone b p q s is gone in
+      let whole = numbers_step b q (record s { arrived = None }) step.0 [] in
+      subst (λ ns. InPool b q (record s { numbers = ns; arrived = none }) × StockFits b.layout (record s { numbers = ns; arrived = none }) ×
+      (laid q (record s { numbers = ns; arrived = none }) ≡
+      record (laid p s) { scope = record { numbers = []; messages = (laid p s).scope.messages }; arrived = None })) (sym empty)
+      (subst (λ m. InPool b q (record s { numbers = []; arrived = m }) × StockFits b.layout (record s { numbers = []; arrived = m }) ×
+      (laid q (record s { numbers = []; arrived = m }) ≡
+      record (laid p s) { scope = record { numbers = []; messages = (laid p s).scope.messages }; arrived = None })) (sym is_none) (
+        whole,
+        fits_scope b.layout s [] s.messages None fits (omega arith) fits.messages fits.short,
+        ap (λ (l : Laid). record l { scope = record { numbers = []; messages = l.scope.messages } }) step.1,
+      ))
+
+-- A message without bytes comes into the scope.
+pub bare_more : (b : Begun) (p : List Held) (s : Stock) → InPool b p s → StockFits b.layout s → (m : PoolMessage) (ms : List PoolMessage) →
+    ms ≡ s.messages ++ m ∷ [] → m ≡ bodiless [] → length s.messages + 1 ≤ b.layout.messages + 1 →
+    InPool b p (record s { messages = ms }) × StockFits b.layout (record s { messages = ms }) × ((k : ℕ) → with_bare k (laid p (record s { messages = ms })) ≡ with_bare (suc k) (laid p s))
+bare_more b p s is fits m ms new bare few =
+    let step = bare_bound b p s is (bodiless []) refl tt in
+    subst (λ ms. InPool b p (record s { messages = ms }) × StockFits b.layout (record s { messages = ms }) × ((k : ℕ) → with_bare k (laid p (record s { messages = ms })) ≡ with_bare (suc k) (laid p s)))
+    (sym (new ∙ ap (λ x. s.messages ++ x ∷ []) bare)) (
+      step.0,
+      fits_scope b.layout s s.numbers (s.messages ++ bodiless [] ∷ []) s.arrived fits fits.numbers (omega (arith, length-append s.messages (bodiless [] ∷ [])))
+          (all-append IsShort s.messages (bodiless [] ∷ []) fits.short (omega arith, tt)),
+      λ k. ap (with_bare k) step.1,
+    )

@@ -1,0 +1,81 @@
+-- Steps at what is sent.
+use Rattle.std.proofs.Common.{◌≡◌, ℕ, List, [], ◌∷◌, ◌++◌, Option, Some, None, option_map, flat_map, refl, sym, ap, subst, ◌∙◌}
+use Rattle.std.specs.List.{AllByRecursion}
+use Rattle.std.proofs.lemmas.List.{append-nil, map-append}
+use Rattle.slot_pool.specs.Held.{Held}
+use Rattle.slot_pool.proofs.References.{moved-same}
+use Rattle.msg_core.specs.declared.message.Header.{Header}
+use Rattle.layer_ast.specs.declared.tokens.Dir.{Dir}
+use Rattle.layer_mean.specs.Effect.{sent_as}
+use Rattle.layer_desk.specs.Laid.{lifted, event_in, sends, sends_first, passes_on}
+use Rattle.layer_desk.specs.Spent.{Begun}
+use Rattle.layer_desk.specs.declared.envelope.Envelope.{Envelope}
+use Rattle.pool_message.specs.Seen.{refs, seen, Lies, refs_if, seen_if, LiesIf, event_refs, event_seen, EventLies}
+use Rattle.pool_message.specs.Moves.{Derived}
+use Rattle.pool_message.specs.declared.event.PoolEvent.{PoolEvent}
+use Rattle.pool_message.specs.declared.message.PoolMessage.{PoolMessage}
+use Rattle.file_layer.specs.Stock.{Stock, laid, StockLies, pool_event}
+use Rattle.file_layer.specs.Steps.{InPool, TakesOut}
+use Rattle.file_layer.proofs.Hand.{laid_top}
+use Rattle.file_layer.proofs.Lists.{all-append, all-front, all-behind}
+use Rattle.file_layer.proofs.Parts.{none_out, hand_out, arrived_out, sent_out}
+use Rattle.file_layer.proofs.Steps.{stepped}
+
+-- What was sent with one more.
+laid_sent : (p : List Held) (s : Stock) (dir : Dir) (event : PoolEvent) →
+    laid p (record s { sent = s.sent ++ (dir, event) ∷ [] }) ≡ sends dir (event_seen p event) (laid p s)
+laid_sent p s dir event =
+    ap (λ sent. record (laid p s) { sent = sent }) (map-append (λ (e : Dir × PoolEvent). (e.0, event_seen p e.1)) s.sent ((dir, event) ∷ []))
+
+module _ (b : Begun) (p : List Held) (s : Stock) (is : InPool b p s) where
+  -- An event is sent whose references were taken out.
+  sent_step : (t : Stock) (xs : List ℕ) → TakesOut s t xs → StockLies p t → (dir : Dir) (event : PoolEvent) → event_refs event ≡ xs → EventLies p event →
+      InPool b p (record t { sent = t.sent ++ (dir, event) ∷ [] }) ×
+      (laid p (record t { sent = t.sent ++ (dir, event) ∷ [] }) ≡ sends dir (event_seen p event) (laid p t))
+  sent_step t xs out left dir event same lies = (
+    stepped b p p s t (record t { sent = t.sent ++ (dir, event) ∷ [] }) xs xs is out
+        (subst (TakesOut (record t { sent = t.sent ++ (dir, event) ∷ [] }) t) same (sent_out t dir event)) (moved-same p xs)
+        (record {
+          kept = left.kept;
+          messages = left.messages;
+          arrived = left.arrived;
+          hand = left.hand;
+          sent = all-append (λ (e : Dir × PoolEvent). EventLies p e.1) t.sent ((dir, event) ∷ []) left.sent (lies, tt);
+        }),
+    laid_sent p t dir event,
+  )
+
+  -- An event without a message is sent.
+  pub sent_alone : (dir : Dir) (e : Envelope) →
+      InPool b p (record s { sent = s.sent ++ (dir, pool_event e None) ∷ [] }) ×
+      (laid p (record s { sent = s.sent ++ (dir, pool_event e None) ∷ [] }) ≡ sends dir (event_in e None) (laid p s))
+  sent_alone dir e = sent_step s [] (none_out s) is.lies dir (pool_event e None) refl tt
+
+  -- An event is sent with the message in front of the hand.
+  pub sent_first : (dir : Dir) (e : Envelope) (header : Header) (rest : List PoolMessage) (x y : PoolMessage) → s.hand ≡ rest ++ x ∷ [] →
+      Derived (sent_as dir header) x y →
+      InPool b p (record s { hand = rest; sent = s.sent ++ (dir, pool_event e (Some y)) ∷ [] }) ×
+      (laid p (record s { hand = rest; sent = s.sent ++ (dir, pool_event e (Some y)) ∷ [] }) ≡ sends_first dir e header (laid p s))
+  sent_first dir e header rest x y at made =
+      let lie = subst (AllByRecursion (Lies p)) at is.lies.hand in
+      let one : flat_map refs (x ∷ []) ≡ refs y = append-nil (refs x) ∙ sym made.slots in
+      let out : TakesOut s (record s { hand = rest }) (refs y) =
+      subst (λ hand. TakesOut (record s { hand = hand }) (record s { hand = rest }) (refs y)) (sym at)
+      (subst (TakesOut (record s { hand = rest ++ x ∷ [] }) (record s { hand = rest })) one (hand_out s rest (x ∷ []))) in
+      let left : StockLies p (record s { hand = rest }) =
+      record { kept = is.lies.kept; messages = is.lies.messages; arrived = is.lies.arrived; hand = all-front (Lies p) rest (x ∷ []) lie; sent = is.lies.sent } in
+      let step = sent_step (record s { hand = rest }) (refs y) out left dir (pool_event e (Some y)) refl (made.lies p (all-behind (Lies p) rest (x ∷ []) lie).0) in
+      let before : laid p s ≡ lifted (seen p x) (laid p (record s { hand = rest })) =
+      ap (λ hand. laid p (record s { hand = hand })) at ∙ laid_top p s rest x in
+      (step.0, step.1 ∙ ap (λ c. sends dir (event_in e (Some c)) (laid p (record s { hand = rest }))) (made.shows p) ∙ ap (sends_first dir e header) (sym before))
+
+  -- The message that arrived is sent on.
+  pub passed_on : (dir : Dir) (e : Envelope) (header : Header) (m : Option PoolMessage) → refs_if m ≡ refs_if s.arrived → LiesIf p m →
+      seen_if p m ≡ option_map (sent_as dir header) (seen_if p s.arrived) →
+      InPool b p (record s { arrived = None; sent = s.sent ++ (dir, pool_event e m) ∷ [] }) ×
+      (laid p (record s { arrived = None; sent = s.sent ++ (dir, pool_event e m) ∷ [] }) ≡ passes_on dir e header (laid p s))
+  passed_on dir e header m same lies shows =
+      let left : StockLies p (record s { arrived = None }) =
+      record { kept = is.lies.kept; messages = is.lies.messages; arrived = tt; hand = is.lies.hand; sent = is.lies.sent } in
+      let step = sent_step (record s { arrived = None }) (refs_if s.arrived) (arrived_out s s.arrived) left dir (pool_event e m) same lies in
+      (step.0, step.1 ∙ ap (λ c. sends dir (event_in e c) (laid p (record s { arrived = None }))) shows)

@@ -1,0 +1,41 @@
+use Rattle.std.proofs.Common.{◌≡◌, ◌+◌, min, vec_capacity, None, rules, arith, ap, ◌∙◌}
+use Rattle.typed_layer.specs.View.{layer_tree}
+use Rattle.layer_room.specs.Layouts as room
+use Rattle.layer_room.specs.declared.reserve.Reserve.{Reserve}
+use Rattle.file_layer.specs.declared.desk.FileDesk.{FileDesk}
+use Rattle.file_layer.proofs.Fresh.{layout_at_first}
+use Rattle.file_layer.proofs.makes.make.Goals as goal
+
+pub returns-in-Ok : goal.returns-in-Ok
+returns-in-Ok c =
+    let layout = room.layout_of (layer_tree c.args.layer.now) 0 in
+    let one = ap (λ (r : Reserve). r.numbers) c.reserve_for-reserve.ensures in
+    let two = ap (λ (r : Reserve). r.messages) c.reserve_for-reserve.ensures in
+    let three = ap (λ (r : Reserve). r.hand) c.reserve_for-reserve.ensures in
+    let four = c.from.ensures in let five = c.from-2.ensures in
+    let places = c.in_ok-numbers.ensures.exact in let room = c.in_ok-lists.ensures.room in
+    let messages = room.0 in
+    let numbers_is : vec_capacity c.in_ok-numbers.numbers ≡ layout.numbers + 6 = omega arith in
+    let messages_is : vec_capacity c.in_ok-lists.lists.messages ≡ layout.messages + 1 = omega arith in
+    let hand_is : vec_capacity c.in_ok-lists.lists.hand ≡ min layout.hand 4294967295 = room.1 ∙ three in
+    let desk : FileDesk = record {
+      cells = c.in-Ok.cells;
+      numbers = c.in_ok-numbers.numbers;
+      messages = c.in_ok-lists.lists.messages;
+      arrived = None;
+      hand = c.in_ok-lists.lists.hand;
+      sent = c.in_ok-lists.lists.sent;
+      first = 0;
+      places = 0;
+    } in
+    record {
+      cells = search rules;
+      numbers = search rules;
+      messages = search rules;
+      arrived = search rules;
+      hand = search rules;
+      sent = search rules;
+      numbers_room = omega arith;
+      messages_room = omega arith;
+      layout = layout_at_first (layer_tree c.args.layer.now) c.args.me c.args.count c.args.ltime desk c.requires.desk (search rules) numbers_is messages_is hand_is (search rules);
+    }

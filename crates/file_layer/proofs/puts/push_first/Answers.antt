@@ -1,0 +1,26 @@
+use Rattle.std.proofs.Common.{rules, vec_capacity, ap, ◌∙◌, arith}
+use Rattle.pool_message.specs.Seen.{row_seen}
+use Rattle.file_layer.specs.Ready.{layout_of, stock_of}
+use Rattle.file_layer.proofs.ReadyCells.{layout_kept, room_for_row, top_fits}
+use Rattle.file_layer.proofs.puts.push_first.Goals as goal
+
+pub returns-clause-ready : goal.returns-clause-ready
+returns-clause-ready g c =
+    let step = top_fits g.K.Start.begun c.args.pool.now (stock_of c.args.desk.now) c.requires.ready.pool c.requires.ready.fits c.args.cell c.args.index
+    (room_for_row (row_seen c.args.pool.now) c.args.desk.now.cells c.args.cell c.args.index c.args.capacity c.requires.room (omega arith))
+    c.args.numbers c.push.new.self c.pop.new.self.items c.in-Some.message c.in-Some.ensures.items c.push.ensures in
+    record {
+      pool = step.0;
+      layout = layout_kept (record (layout_of c.args.desk.now) { hand = vec_capacity c.pop.new.self }) g.K.Start.begun.layout _
+          (ap (λ n. record (layout_of c.args.desk.now) { hand = n }) c.pop.ensures.capacity ∙ c.requires.ready.layout) step.1.rows;
+      fits = step.1;
+      numbers = search rules;
+      messages = search rules;
+      sent = search rules;
+    }
+
+pub returns-clause-shown : goal.returns-clause-shown
+returns-clause-shown g c =
+    (top_fits g.K.Start.begun c.args.pool.now (stock_of c.args.desk.now) c.requires.ready.pool c.requires.ready.fits c.args.cell c.args.index
+    (room_for_row (row_seen c.args.pool.now) c.args.desk.now.cells c.args.cell c.args.index c.args.capacity c.requires.room (omega arith))
+    c.args.numbers c.push.new.self c.pop.new.self.items c.in-Some.message c.in-Some.ensures.items c.push.ensures).2

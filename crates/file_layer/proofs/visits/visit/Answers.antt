@@ -1,0 +1,11 @@
+use Rattle.std.proofs.Common.{sym, subst}
+use Rattle.typed_layer.specs.View.{layer_tree}
+use Rattle.file_layer.specs.Ready.{IsReady}
+use Rattle.file_layer.proofs.Visit.{begun_at, begins_ready}
+use Rattle.file_layer.proofs.visits.visit.Goals as goal
+
+pub take_event-predicted-requires-clause-ready : goal.take_event-predicted-requires-clause-ready
+take_event-predicted-requires-clause-ready c =
+    subst (λ e. IsReady (begun_at c.args.pool.now e) c.args.pool.now e) (sym c.begin.ensures.desk)
+    (begins_ready (layer_tree c.args.layer.now) c.args.pool.now c.args.desk.now c.requires.rest c.args.event c.args.out.now c.args.direction
+    c.begin.ensures.within c.requires.event c.requires.out c.requires.covered c.requires.counts)

@@ -1,0 +1,38 @@
+-- A desk that was made for a layer, before its first event.
+use Rattle.std.specs.Prelude.{◌≡◌, ℕ, ◌≤◌, List, [], None, vec_capacity}
+use Rattle.circular_buffer.specs.Buffer.{buffer}
+use Rattle.slot_pool.specs.Held.{Held}
+use Rattle.layer_mean.specs.Tree.{LayerTree}
+use Rattle.layer_mean.specs.Visit.{fresh}
+use Rattle.layer_room.specs.Layouts as room
+use Rattle.cell_store.specs.Kept.{state_of}
+use Rattle.cell_store.specs.Fresh.{kept_fresh}
+use Rattle.pool_message.specs.Seen.{row_seen}
+use Rattle.file_layer.specs.Stock.{kept_refs}
+use Rattle.file_layer.specs.Fits.{most_bound}
+use Rattle.file_layer.specs.Ready.{layout_of}
+use Rattle.file_layer.specs.Rest.{IsMadeFor, KeepsFew, IsAtRest}
+use Rattle.file_layer.specs.declared.desk.FileDesk.{FileDesk}
+
+-- A layer for which a desk can be made: what it needs is few, and is enough on every event.
+pub record HasDesk (layer : LayerTree) : Type 0 where
+  pub few : KeepsFew (room.layout_of layer 0)
+  pub made : IsMadeFor layer (room.layout_of layer 0)
+
+-- Nothing lies on the desk, and its cells are those of a layer that has seen no event.
+pub record IsEmpty (layer : LayerTree) (me n ltime : ℕ) (d : FileDesk) : Type 0 where
+  pub cells : d.cells ≡ kept_fresh layer me n ltime n
+  pub numbers : d.numbers.items ≡ []
+  pub messages : d.messages.items ≡ []
+  pub arrived : d.arrived ≡ None
+  pub hand : d.hand.items ≡ []
+  pub sent : d.sent ≡ buffer [] 0
+  pub numbers_room : most_bound ≤ vec_capacity d.numbers
+  pub messages_room : 1 ≤ vec_capacity d.messages
+  pub layout : layout_of d ≡ room.layout_of layer 0
+
+-- The layer at a desk has seen no event: it is at rest in any pool, refers to none, and its state is that of a layer at first.
+pub record IsFresh (layer : LayerTree) (me n ltime : ℕ) (d : FileDesk) : Type 0 where
+  pub rest : (p : List Held) → IsAtRest layer p d
+  pub refs : kept_refs d.cells ≡ []
+  pub state : (p : List Held) → state_of (row_seen p) d.cells ≡ fresh layer me n ltime

@@ -1,0 +1,14 @@
+pub mod AtRest
+pub mod Back
+pub mod Entered
+pub mod Few
+pub mod Fits
+pub mod Rest
+pub mod Scope
+pub mod Stock
+pub mod Taken
+pub mod Fresh
+pub mod Laws
+pub mod Ready
+pub mod Stays
+pub mod Steps

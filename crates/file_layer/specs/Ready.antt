@@ -1,0 +1,46 @@
+-- A desk as its fields make it out, and that it is in order.
+use Rattle.std.specs.Prelude.{◌≡◌, ◌-◌, ◌≤◌, List, map, length, vec_capacity}
+use Rattle.slot_pool.specs.Held.{Held, spare}
+use Rattle.layer_desk.specs.Need.{Layout, Room}
+use Rattle.layer_desk.specs.Spent.{Begun}
+use Rattle.cell_store.specs.Kept.{capacity_of}
+use Rattle.file_layer.specs.Stock.{Stock}
+use Rattle.file_layer.specs.Steps.{InPool}
+use Rattle.file_layer.specs.Fits.{StockFits, SentGrows, most_bound}
+use Rattle.file_layer.specs.declared.desk.FileDesk.{FileDesk}
+
+abbrev pub stock_of : FileDesk → Stock
+stock_of d = record {
+  kept = d.cells;
+  numbers = d.numbers.items;
+  messages = d.messages.items;
+  arrived = d.arrived;
+  hand = d.hand.items;
+  sent = d.sent.items;
+}
+
+-- What it is made for, and the room that is left.
+abbrev pub layout_of : FileDesk → Layout
+layout_of d = record {
+  rows = map capacity_of d.cells.cells;
+  numbers = vec_capacity d.numbers - most_bound;
+  messages = vec_capacity d.messages - 1;
+  hand = vec_capacity d.hand;
+  places = d.places;
+}
+
+abbrev pub room_of : List Held → FileDesk → Room
+room_of p d = record {
+  slots = spare p;
+  places = d.places - length d.sent.items;
+  hand = vec_capacity d.hand - length d.hand.items;
+}
+
+-- Since a beginning its references alone have moved; and it has no more than it is made for, which is as it was.
+pub record IsReady (b : Begun) (p : List Held) (d : FileDesk) : Type 0 where
+  pub pool : InPool b p (stock_of d)
+  pub layout : layout_of d ≡ b.layout
+  pub fits : StockFits b.layout (stock_of d)
+  pub numbers : most_bound ≤ vec_capacity d.numbers
+  pub messages : 1 ≤ vec_capacity d.messages
+  pub sent : SentGrows b.refs b.list d.first d.places d.sent

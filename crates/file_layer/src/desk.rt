@@ -1,0 +1,27 @@
+//! The desk.
+
+use cell_store::Cells;
+use pool_message::{Events, PoolMessage, PoolRow};
+
+/// The most headers of a message that a layer keeps: those of the places above it.
+pub(crate) const MOST_ABOVE: u32 = 23;
+
+/// The most numbers that a scope has before its block declares any: those of the event, and the fields of a header.
+pub(crate) const MOST_BOUND: usize = 6;
+
+/// The most events that one visit sends.
+pub(crate) const MOST_SENT: usize = 1_048_576;
+
+/// What a layer of a member works at: its cells, the scope of the handler's block, the message that arrived, the messages in hand,
+/// the newest last, and what it sends. Bodies of messages stand in the pool beside it.
+pub struct FileDesk {
+    pub(crate) cells: Cells<PoolRow>,
+    pub(crate) numbers: Vec<u32>,
+    pub(crate) messages: Vec<PoolMessage>,
+    pub(crate) arrived: Option<PoolMessage>,
+    pub(crate) hand: Vec<PoolMessage>,
+    pub(crate) sent: Events,
+    /// How many events had been sent when the visit began, and how many there may be behind it.
+    pub(crate) first: usize,
+    pub(crate) places: usize,
+}

@@ -1,0 +1,140 @@
+//! Blocks that are entered.
+
+ghost use Rattle.std.specs.Prelude.{◌≡◌, ◌+◌, ◌≤◌, [], ◌++◌, None, length, OnOk, vec_capacity};
+ghost use Rattle.layer_mean.specs.Event.{arguments};
+ghost use Rattle.layer_desk.specs.Laid.{event_in, enters};
+ghost use Rattle.layer_desk.specs.Need.{entry_need};
+ghost use Rattle.layer_desk.specs.Spent.{Spent};
+ghost use Rattle.file_layer.specs.Entered.{entry_numbers, with_numbers, with_arrived, with_bare};
+ghost use Rattle.file_layer.specs.Fits.{most_bound, IsShortIf};
+ghost use Rattle.file_layer.specs.Ready.{stock_of, room_of, IsReady};
+ghost use Rattle.file_layer.specs.Stock.{laid};
+
+use crate::desk::{FileDesk, MOST_ABOVE, MOST_BOUND};
+use crate::leaves::forget_messages;
+use crate::sends::arrived_headers;
+use layer_ast::Kind;
+use layer_desk::{Envelope, NoRoom, Start};
+use msg_core::Fields;
+use pool_message::PoolMessage;
+use slot_pool::Pool;
+
+/// Puts the number arguments of an event, in the order in which they are written.
+fn put_arguments(numbers: &mut Vec<u32>, envelope: Envelope)
+    requires { length numbers.old.items + 2 ≤ vec_capacity numbers.old }
+    ensures numbers { numbers.new.items ≡ numbers.old.items ++ arguments (event_in envelope None) }
+    ensures capacity { vec_capacity numbers.new ≡ vec_capacity numbers.old }
+{
+    match envelope.kind {
+        Kind::Cast | Kind::Send => numbers.push_reserved(envelope.peer),
+        Kind::Stable | Kind::Ack => {
+            numbers.push_reserved(envelope.a);
+            numbers.push_reserved(envelope.b);
+        }
+        _ => numbers.push_reserved(envelope.a),
+    }
+}
+
+/// Puts some numbers behind others.
+fn put_fields(numbers: &mut Vec<u32>, fields: &Fields)
+    requires { length numbers.old.items + 4 ≤ vec_capacity numbers.old }
+    ensures numbers { numbers.new.items ≡ numbers.old.items ++ fields.now }
+    ensures few { length numbers.new.items ≤ length numbers.old.items + 4 }
+    ensures capacity { vec_capacity numbers.new ≡ vec_capacity numbers.old }
+{
+    for k in 0..fields.len() {
+        numbers.push_reserved(fields.at(k));
+    }
+}
+
+/// The numbers of a scope in which a block is entered that declares so many.
+fn fill_numbers(numbers: &mut Vec<u32>, envelope: Envelope, fields: &Fields, count: u8)
+    requires { count + most_bound ≤ vec_capacity numbers.old }
+    ensures numbers { numbers.new.items ≡ entry_numbers envelope fields.now count }
+    ensures capacity { vec_capacity numbers.new ≡ vec_capacity numbers.old }
+{
+    numbers.clear();
+    put_arguments(numbers, envelope);
+    put_fields(numbers, fields);
+    for _ in 0..count {
+        numbers.push_reserved(0);
+    }
+}
+
+fn bind_numbers<K: Start>(
+    desk: &mut FileDesk,
+    pool: &Pool,
+    envelope: Envelope,
+    fields: &Fields,
+    count: u8,
+)
+    requires ready { IsReady K.begun pool.now desk.old }
+    requires room { count + most_bound ≤ vec_capacity desk.old.numbers }
+    ensures ready { IsReady K.begun pool.now desk.new }
+    ensures shown { laid pool.now (stock_of desk.new) ≡ with_numbers (entry_numbers envelope fields.now count) (laid pool.now (stock_of desk.old)) }
+    ensures free { room_of pool.now desk.new ≡ room_of pool.now desk.old }
+    ensures messages { desk.new.messages ≡ desk.old.messages }
+    ensures arrived { desk.new.arrived ≡ desk.old.arrived }
+{
+    fill_numbers(&mut desk.numbers, envelope, fields, count);
+}
+
+/// Puts the message that arrived behind those of the scope.
+fn bind_arrived<K: Start>(desk: &mut FileDesk, pool: &Pool)
+    requires ready { IsReady K.begun pool.now desk.old }
+    requires room { length desk.old.messages.items + 1 ≤ vec_capacity desk.old.messages }
+    requires short { IsShortIf desk.old.arrived }
+    ensures ready { IsReady K.begun pool.now desk.new }
+    ensures shown { laid pool.now (stock_of desk.new) ≡ with_arrived (laid pool.now (stock_of desk.old)) }
+    ensures free { room_of pool.now desk.new ≡ room_of pool.now desk.old }
+    ensures count { length desk.new.messages.items ≤ length desk.old.messages.items + 1 }
+    ensures capacity { vec_capacity desk.new.messages ≡ vec_capacity desk.old.messages }
+{
+    match desk.arrived.take() {
+        Some(message) => desk.messages.push_reserved(message),
+        None => {}
+    }
+}
+
+/// Puts so many messages without bytes behind those of the scope.
+fn bind_bare<K: Start>(desk: &mut FileDesk, pool: &Pool, count: u8)
+    requires ready { IsReady K.begun pool.now desk.old }
+    requires room { length desk.old.messages.items + count ≤ vec_capacity desk.old.messages }
+    ensures ready { IsReady K.begun pool.now desk.new }
+    ensures shown { laid pool.now (stock_of desk.new) ≡ with_bare count (laid pool.now (stock_of desk.old)) }
+    ensures free { room_of pool.now desk.new ≡ room_of pool.now desk.old }
+{
+    for _ in 0..count {
+        desk.messages.push_reserved(PoolMessage::nothing());
+    }
+}
+
+pub(crate) fn enter<K: Start>(
+    desk: &mut FileDesk,
+    pool: &mut Pool,
+    envelope: Envelope,
+    fields: &Fields,
+    numbers: u8,
+    messages: u8,
+) -> Result<(), NoRoom>
+    requires { IsReady K.begun pool.old desk.old }
+    ensures ready { IsReady K.begun pool.new desk.new }
+    ensures shown { OnOk result (laid pool.new (stock_of desk.new) ≡ enters envelope fields.now numbers messages (laid pool.old (stock_of desk.old))) }
+    ensures spent { Spent (room_of pool.old desk.old) (room_of pool.new desk.new)
+        (entry_need K.begun.layout numbers messages (laid pool.old (stock_of desk.old)).arrived) result }
+{
+    if desk.numbers.capacity() - MOST_BOUND < usize::from(numbers) {
+        return Err(NoRoom::Misfit);
+    }
+    if desk.messages.capacity() - 1 < usize::from(messages) {
+        return Err(NoRoom::Misfit);
+    }
+    if arrived_headers(desk, pool) > MOST_ABOVE {
+        return Err(NoRoom::Headers);
+    }
+    forget_messages::<K>(desk, pool);
+    bind_numbers::<K>(desk, pool, envelope, fields, numbers);
+    bind_arrived::<K>(desk, pool);
+    bind_bare::<K>(desk, pool, messages);
+    Ok(())
+}

@@ -1,0 +1,40 @@
+//! What a visit leaves behind.
+
+ghost use Rattle.std.specs.Prelude.{◌≡◌, [], vec_capacity};
+ghost use Rattle.layer_desk.specs.Laid.{left};
+ghost use Rattle.layer_desk.specs.Need.{nothing_needed};
+ghost use Rattle.layer_desk.specs.Spent.{SpentAtMost};
+ghost use Rattle.file_layer.specs.Scope.{without_messages};
+ghost use Rattle.file_layer.specs.Stock.{laid};
+ghost use Rattle.file_layer.specs.Ready.{stock_of, room_of, IsReady};
+
+use crate::desk::FileDesk;
+use layer_desk::Start;
+use pool_message::give_back_if_any;
+use slot_pool::Pool;
+
+/// Gives all messages of the scope back.
+pub(crate) fn forget_messages<K: Start>(desk: &mut FileDesk, pool: &mut Pool)
+    requires { IsReady K.begun pool.old desk.old }
+    ensures ready { IsReady K.begun pool.new desk.new }
+    ensures shown { laid pool.new (stock_of desk.new) ≡ without_messages (laid pool.old (stock_of desk.old)) }
+    ensures spent { SpentAtMost (room_of pool.old desk.old) (room_of pool.new desk.new) nothing_needed }
+    ensures empty { desk.new.messages.items ≡ [] }
+    ensures places { (vec_capacity desk.new.messages ≡ vec_capacity desk.old.messages) × (desk.new.numbers ≡ desk.old.numbers) × (desk.new.arrived ≡ desk.old.arrived) }
+{
+    while let Some(message) = desk.messages.pop() {
+        message.give_back(pool);
+    }
+}
+
+pub(crate) fn leave<K: Start>(desk: &mut FileDesk, pool: &mut Pool)
+    requires { IsReady K.begun pool.old desk.old }
+    ensures ready { IsReady K.begun pool.new desk.new }
+    ensures shown { laid pool.new (stock_of desk.new) ≡ left (laid pool.old (stock_of desk.old)) }
+    ensures spent { SpentAtMost (room_of pool.old desk.old) (room_of pool.new desk.new) nothing_needed }
+{
+    forget_messages::<K>(desk, pool);
+    desk.numbers.clear();
+    let arrived = desk.arrived.take();
+    give_back_if_any(arrived, pool);
+}

@@ -1,0 +1,21 @@
+//! The desk at which a layer of a file works: its cells, its scope, the messages in hand and what it sends, with bodies in a pool.
+#![tactic(auto)]
+
+mod at_desk;
+mod desk;
+mod enters;
+mod laws;
+mod layer;
+mod leaves;
+mod lifts;
+mod makes;
+mod puts;
+mod reads;
+mod sends;
+mod takes;
+mod visits;
+mod writes;
+
+pub use desk::FileDesk;
+pub use laws::typed_layers_have_desks;
+pub use layer::FileLayer;

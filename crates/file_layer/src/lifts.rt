@@ -1,0 +1,105 @@
+//! Work at the hand.
+
+ghost use Rattle.std.specs.Prelude.{◌≡◌, [], slice_index_or, slice_get, option_copied, OnOk};
+ghost use Rattle.msg_core.specs.Chain.{plain};
+ghost use Rattle.msg_core.specs.Parts as parts;
+ghost use Rattle.layer_mean.specs.State.{row_at};
+ghost use Rattle.layer_mean.specs.Value.{message_in};
+ghost use Rattle.typed_layer.specs.View.{carried_tree};
+ghost use Rattle.layer_desk.specs.Laid.{lifted, changed, joined};
+ghost use Rattle.layer_desk.specs.Need.{one_slot, one_in_hand, held_need};
+ghost use Rattle.layer_desk.specs.Spent.{Spent, Lifted};
+ghost use Rattle.file_layer.specs.Stock.{laid};
+ghost use Rattle.file_layer.specs.Ready.{stock_of, room_of, IsReady};
+
+use crate::desk::FileDesk;
+use layer_desk::{NoRoom, Start};
+use pool_message::PoolMessage;
+use slot_pool::Pool;
+
+/// A message of the scope.
+fn message_at(desk: &FileDesk, slot: u8) -> Option<&PoolMessage>
+    ensures { option_copied result ≡ slice_get desk.now.messages.items slot }
+{
+    desk.messages.get(usize::from(slot))
+}
+
+pub(crate) fn lift<K: Start>(desk: &mut FileDesk, pool: &mut Pool, slot: u8) -> Result<(), NoRoom>
+    requires { IsReady K.begun pool.old desk.old }
+    ensures ready { IsReady K.begun pool.new desk.new }
+    ensures shown { OnOk result (laid pool.new (stock_of desk.new) ≡
+        lifted (slice_index_or (laid pool.old (stock_of desk.old)).scope.messages slot (plain [])) (laid pool.old (stock_of desk.old))) }
+    ensures spent { Lifted (room_of pool.old desk.old) (room_of pool.new desk.new) one_in_hand result }
+{
+    if desk.hand.len() >= desk.hand.capacity() {
+        return Err(NoRoom::Hand);
+    }
+    match message_at(desk, slot) {
+        Some(message) => {
+            let message = message.keep(pool);
+            desk.hand.push_reserved(message);
+            Ok(())
+        }
+        None => {
+            desk.hand.push_reserved(PoolMessage::nothing());
+            Ok(())
+        }
+    }
+}
+
+pub(crate) fn lift_nothing<K: Start>(desk: &mut FileDesk, pool: &Pool) -> Result<(), NoRoom>
+    requires { IsReady K.begun pool.now desk.old }
+    ensures ready { IsReady K.begun pool.now desk.new }
+    ensures shown { OnOk result (laid pool.now (stock_of desk.new) ≡ lifted (plain []) (laid pool.now (stock_of desk.old))) }
+    ensures spent { Lifted (room_of pool.now desk.old) (room_of pool.now desk.new) one_in_hand result }
+{
+    if desk.hand.len() >= desk.hand.capacity() {
+        return Err(NoRoom::Hand);
+    }
+    desk.hand.push_reserved(PoolMessage::nothing());
+    Ok(())
+}
+
+pub(crate) fn cut<K: Start>(desk: &mut FileDesk, pool: &Pool, from: u32, count: u32)
+    requires { IsReady K.begun pool.now desk.old }
+    ensures ready { IsReady K.begun pool.now desk.new }
+    ensures shown { laid pool.now (stock_of desk.new) ≡ changed (λ m. parts.cut m from count) (laid pool.now (stock_of desk.old)) }
+    ensures free { room_of pool.now desk.new ≡ room_of pool.now desk.old }
+{
+    if let Some(message) = desk.hand.pop() {
+        desk.hand.push_reserved(message.cut(from, count));
+    }
+}
+
+pub(crate) fn tail<K: Start>(desk: &mut FileDesk, pool: &Pool, from: u32)
+    requires { IsReady K.begun pool.now desk.old }
+    ensures ready { IsReady K.begun pool.now desk.new }
+    ensures shown { laid pool.now (stock_of desk.new) ≡ changed (λ m. parts.tail m from) (laid pool.now (stock_of desk.old)) }
+    ensures free { room_of pool.now desk.new ≡ room_of pool.now desk.old }
+{
+    if let Some(message) = desk.hand.pop() {
+        desk.hand.push_reserved(message.tail(from));
+    }
+}
+
+pub(crate) fn join<K: Start>(desk: &mut FileDesk, pool: &mut Pool) -> Result<(), NoRoom>
+    requires { IsReady K.begun pool.old desk.old }
+    ensures ready { IsReady K.begun pool.new desk.new }
+    ensures shown { OnOk result (laid pool.new (stock_of desk.new) ≡ joined (laid pool.old (stock_of desk.old))) }
+    ensures spent { Spent (room_of pool.old desk.old) (room_of pool.new desk.new) one_slot result }
+{
+    let Some(second) = desk.hand.pop() else {
+        return Ok(());
+    };
+    let Some(first) = desk.hand.pop() else {
+        desk.hand.push_reserved(second);
+        return Ok(());
+    };
+    match PoolMessage::join(first, second, pool) {
+        Some(message) => {
+            desk.hand.push_reserved(message);
+            Ok(())
+        }
+        None => Err(NoRoom::Slot),
+    }
+}

@@ -1,0 +1,68 @@
+//! Rows that are put into queues.
+
+ghost use Rattle.std.specs.Prelude.{◌≡◌, true, None, OnOk};
+ghost use Rattle.layer_mean.specs.State.{has_room};
+ghost use Rattle.layer_desk.specs.Laid.{queued, queued_first};
+ghost use Rattle.layer_desk.specs.Need.{room_need};
+ghost use Rattle.layer_desk.specs.Spent.{Spent};
+ghost use Rattle.file_layer.specs.Stock.{laid};
+ghost use Rattle.file_layer.specs.Ready.{stock_of, room_of, IsReady};
+
+use crate::desk::FileDesk;
+use layer_desk::{NoRoom, Start};
+use msg_core::Fields;
+use pool_message::PoolRow;
+use slot_pool::Pool;
+
+pub(crate) fn push<K: Start>(
+    desk: &mut FileDesk,
+    pool: &Pool,
+    cell: u8,
+    index: u32,
+    capacity: u8,
+    numbers: Fields,
+) -> Result<(), NoRoom>
+    requires ready { IsReady K.begun pool.now desk.old }
+    requires room { has_room (laid pool.now (stock_of desk.old)).state cell index capacity ≡ true }
+    ensures ready { IsReady K.begun pool.now desk.new }
+    ensures shown { OnOk result (laid pool.now (stock_of desk.new) ≡ queued cell index (record { numbers = numbers; message = None }) (laid pool.now (stock_of desk.old))) }
+    ensures spent { Spent (room_of pool.now desk.old) (room_of pool.now desk.new) (room_need K.begun.layout cell capacity) result }
+{
+    if desk.cells.capacity(cell) < capacity {
+        return Err(NoRoom::Misfit);
+    }
+    let row = PoolRow {
+        numbers,
+        message: None,
+    };
+    desk.cells.push(cell, index, row);
+    Ok(())
+}
+
+pub(crate) fn push_first<K: Start>(
+    desk: &mut FileDesk,
+    pool: &Pool,
+    cell: u8,
+    index: u32,
+    capacity: u8,
+    numbers: Fields,
+) -> Result<(), NoRoom>
+    requires ready { IsReady K.begun pool.now desk.old }
+    requires room { has_room (laid pool.now (stock_of desk.old)).state cell index capacity ≡ true }
+    ensures ready { IsReady K.begun pool.now desk.new }
+    ensures shown { OnOk result (laid pool.now (stock_of desk.new) ≡ queued_first cell index numbers (laid pool.now (stock_of desk.old))) }
+    ensures spent { Spent (room_of pool.now desk.old) (room_of pool.now desk.new) (room_need K.begun.layout cell capacity) result }
+{
+    if desk.cells.capacity(cell) < capacity {
+        return Err(NoRoom::Misfit);
+    }
+    let Some(message) = desk.hand.pop() else {
+        return Ok(());
+    };
+    let row = PoolRow {
+        numbers,
+        message: Some(message),
+    };
+    desk.cells.push(cell, index, row);
+    Ok(())
+}

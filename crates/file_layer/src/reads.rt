@@ -1,0 +1,130 @@
+//! What is read at a desk.
+
+ghost use Rattle.std.specs.Prelude.{◌≡◌, [], length, slice_index, slice_index_or};
+ghost use Rattle.msg_core.specs.Chain.{plain};
+ghost use Rattle.layer_mean.specs.State.{number_at, flat_index, rows_at, row_at, has_room};
+ghost use Rattle.layer_mean.specs.Value.{number_in, message_in};
+ghost use Rattle.typed_layer.specs.View.{carried_tree};
+ghost use Rattle.file_layer.specs.Stock.{laid};
+ghost use Rattle.file_layer.specs.Ready.{stock_of, IsReady};
+
+use crate::desk::FileDesk;
+use layer_desk::Start;
+use slot_pool::Pool;
+use typed_layer::Carried;
+
+pub(crate) fn me<K: Start>(desk: &FileDesk, pool: &Pool) -> u32
+    requires { IsReady K.begun pool.now desk.now }
+    ensures { result ≡ (laid pool.now (stock_of desk.now)).state.me }
+{
+    desk.cells.me()
+}
+
+pub(crate) fn count<K: Start>(desk: &FileDesk, pool: &Pool) -> u32
+    requires { IsReady K.begun pool.now desk.now }
+    ensures { result ≡ (laid pool.now (stock_of desk.now)).state.count }
+{
+    desk.cells.count()
+}
+
+pub(crate) fn ltime<K: Start>(desk: &FileDesk, pool: &Pool) -> u32
+    requires { IsReady K.begun pool.now desk.now }
+    ensures { result ≡ (laid pool.now (stock_of desk.now)).state.ltime }
+{
+    desk.cells.ltime()
+}
+
+pub(crate) fn local<K: Start>(desk: &FileDesk, pool: &Pool, slot: u8) -> u32
+    requires { IsReady K.begun pool.now desk.now }
+    ensures { result ≡ slice_index (laid pool.now (stock_of desk.now)).scope.numbers slot }
+{
+    match desk.numbers.get(usize::from(slot)) {
+        Some(number) => *number,
+        None => 0,
+    }
+}
+
+#[tactic(auto, using(crate::proofs::Queues::number_seen))]
+pub(crate) fn number<K: Start>(desk: &FileDesk, pool: &Pool, cell: u8, index: u32) -> u32
+    requires { IsReady K.begun pool.now desk.now }
+    ensures { result ≡ number_at (laid pool.now (stock_of desk.now)).state cell index }
+{
+    desk.cells.get(cell, index)
+}
+
+#[tactic(auto, using(crate::proofs::Queues::number_seen))]
+pub(crate) fn square<K: Start>(desk: &FileDesk, pool: &Pool, cell: u8, row: u32, column: u32) -> u32
+    requires { IsReady K.begun pool.now desk.now }
+    ensures { result ≡ number_at (laid pool.now (stock_of desk.now)).state cell (flat_index (laid pool.now (stock_of desk.now)).state.count row column) }
+{
+    desk.cells.square(cell, row, column)
+}
+
+#[tactic(auto, using(crate::proofs::Queues::length_seen))]
+pub(crate) fn rows<K: Start>(desk: &FileDesk, pool: &Pool, cell: u8, index: u32) -> u32
+    requires { IsReady K.begun pool.now desk.now }
+    ensures { result ≡ length (rows_at (laid pool.now (stock_of desk.now)).state cell index) }
+{
+    desk.cells.len(cell, index)
+}
+
+pub(crate) fn item<K: Start>(
+    desk: &FileDesk,
+    pool: &Pool,
+    cell: u8,
+    index: u32,
+    row: u32,
+    number: u8,
+) -> u32
+    requires { IsReady K.begun pool.now desk.now }
+    ensures { result ≡ number_in number (row_at (laid pool.now (stock_of desk.now)).state cell index row) }
+{
+    match desk.cells.row(cell, index, row) {
+        Some(row) => row.numbers.at(u32::from(number)),
+        None => 0,
+    }
+}
+
+#[tactic(auto, using(crate::proofs::Queues::room_seen))]
+pub(crate) fn has_room<K: Start>(
+    desk: &FileDesk,
+    pool: &Pool,
+    cell: u8,
+    index: u32,
+    capacity: u8,
+) -> bool
+    requires { IsReady K.begun pool.now desk.now }
+    ensures { result ≡ has_room (laid pool.now (stock_of desk.now)).state cell index capacity }
+{
+    desk.cells.has_room(cell, index, capacity)
+}
+
+pub(crate) fn local_size<K: Start>(desk: &FileDesk, pool: &Pool, slot: u8) -> u32
+    requires { IsReady K.begun pool.now desk.now }
+    ensures { result ≡ length (slice_index_or (laid pool.now (stock_of desk.now)).scope.messages slot (plain [])).body }
+{
+    match desk.messages.get(usize::from(slot)) {
+        Some(message) => message.len(),
+        None => 0,
+    }
+}
+
+pub(crate) fn row_size<K: Start>(
+    desk: &FileDesk,
+    pool: &Pool,
+    cell: u8,
+    index: u32,
+    row: u32,
+    carried: Carried,
+) -> u32
+    requires { IsReady K.begun pool.now desk.now }
+    ensures { result ≡ length (message_in (carried_tree carried) (row_at (laid pool.now (stock_of desk.now)).state cell index row)).body }
+{
+    match desk.cells.row(cell, index, row) {
+        Some(row) => match &row.message {
+            Some(message) => message.len(),
+            None => 0,
+        },
+        None => 0,
+    }
+}

@@ -1,0 +1,183 @@
+//! Rows that are read and taken.
+
+ghost use Rattle.std.specs.Prelude.{◌≡◌, slice_index_or, slice_set, option_copied, IfOk, OnOk, vec_capacity};
+ghost use Rattle.layer_mean.specs.State.{row_at};
+ghost use Rattle.layer_mean.specs.Value.{message_in};
+ghost use Rattle.typed_layer.specs.View.{carried_tree, taken_tree};
+ghost use Rattle.cell_store.specs.Kept.{kept_row};
+ghost use Rattle.layer_desk.specs.Laid.{lifted, is_found, taken_row};
+ghost use Rattle.layer_desk.specs.Need.{held_need, taken_need};
+ghost use Rattle.layer_desk.specs.Spent.{Spent, Lifted};
+ghost use Rattle.file_layer.specs.Stock.{laid};
+ghost use Rattle.file_layer.specs.Ready.{stock_of, room_of, IsReady};
+ghost use Rattle.file_layer.specs.Taken.{message_of, CanStandIn, JudgesBlank, JudgesWidth, JudgesTaken, StandsIn, IsMessageOf, numbers_filled};
+
+use crate::desk::{FileDesk, MOST_ABOVE};
+use layer_desk::{NoRoom, Start};
+use msg_core::Fields;
+use pool_message::{PoolMessage, PoolRow, give_back_if_any};
+use slot_pool::Pool;
+use std::mem;
+use typed_layer::{Blank, Carried, Taken};
+
+/// The message of a row, where there is a row and it has one.
+fn row_message(desk: &FileDesk, cell: u8, index: u32, row: u32) -> Option<&PoolMessage>
+    ensures { option_copied result ≡ message_of (kept_row desk.now.cells cell index row) }
+{
+    match desk.cells.row(cell, index, row) {
+        Some(row) => row.message.as_ref(),
+        None => None,
+    }
+}
+
+/// Whether what stands in for a missing message has headers that can't be those of the places above a layer.
+fn is_too_wide(carried: Carried) -> bool
+    ensures { JudgesWidth carried result }
+{
+    match carried {
+        Carried::Part => false,
+        Carried::Whole(blank) => is_beyond(blank),
+    }
+}
+
+#[tactic(auto, using(crate::proofs::Blank::too_many, crate::proofs::Blank::too_high))]
+fn is_beyond(blank: Blank) -> bool
+    ensures { JudgesBlank blank result }
+{
+    if u32::from(blank.count) > MOST_ABOVE {
+        return true;
+    }
+    if u32::from(blank.first) + u32::from(blank.count) > 256 {
+        return true;
+    }
+    false
+}
+
+/// The message that stands in for a missing one.
+fn stand_in(carried: Carried) -> PoolMessage
+    requires { CanStandIn carried }
+    ensures { StandsIn (carried_tree carried) result }
+{
+    match carried {
+        Carried::Part => PoolMessage::nothing(),
+        Carried::Whole(blank) => PoolMessage::blank(blank.first, blank.count),
+    }
+}
+
+pub(crate) fn lift_row<K: Start>(
+    desk: &mut FileDesk,
+    pool: &mut Pool,
+    cell: u8,
+    index: u32,
+    row: u32,
+    carried: Carried,
+) -> Result<(), NoRoom>
+    requires { IsReady K.begun pool.old desk.old }
+    ensures ready { IsReady K.begun pool.new desk.new }
+    ensures shown { OnOk result (laid pool.new (stock_of desk.new) ≡
+        lifted (message_in (carried_tree carried) (row_at (laid pool.old (stock_of desk.old)).state cell index row)) (laid pool.old (stock_of desk.old))) }
+    ensures spent { Lifted (room_of pool.old desk.old) (room_of pool.new desk.new) (held_need (carried_tree carried)) result }
+{
+    if desk.hand.len() >= desk.hand.capacity() {
+        return Err(NoRoom::Hand);
+    }
+    match row_message(desk, cell, index, row) {
+        Some(message) => {
+            let message = message.keep(pool);
+            desk.hand.push_reserved(message);
+            Ok(())
+        }
+        None => {
+            if is_too_wide(carried) {
+                return Err(NoRoom::Misfit);
+            }
+            desk.hand.push_reserved(stand_in(carried));
+            Ok(())
+        }
+    }
+}
+
+/// The message of a taken row, or the one that stands in for it.
+fn message_or(message: Option<PoolMessage>, carried: Carried) -> PoolMessage
+    requires { CanStandIn carried }
+    ensures { IsMessageOf (carried_tree carried) message result }
+{
+    match message {
+        Some(message) => message,
+        None => stand_in(carried),
+    }
+}
+
+/// Puts the numbers of a row into the slots of a scope.
+fn set_numbers(numbers: &mut Vec<u32>, slots: &[u8], values: &Fields)
+    ensures numbers { numbers.new.items ≡ numbers_filled slots.now values.now numbers.old.items }
+    ensures capacity { vec_capacity numbers.new ≡ vec_capacity numbers.old }
+{
+    for k in 0..values.len() {
+        if (k as usize) < slots.len() {
+            let slot = usize::from(slots[k as usize]);
+            if slot < numbers.len() {
+                numbers[slot] = values.at(k);
+            }
+        }
+    }
+}
+
+/// Puts a message into a slot of a scope, and gives the one that stood there; where there is no such slot, the message itself.
+fn set_message(messages: &mut Vec<PoolMessage>, slot: u8, message: PoolMessage) -> PoolMessage
+    ensures old { result ≡ slice_index_or messages.old.items slot message }
+    ensures set { messages.new.items ≡ slice_set messages.old.items slot message }
+    ensures capacity { vec_capacity messages.new ≡ vec_capacity messages.old }
+{
+    let slot = usize::from(slot);
+    if slot < messages.len() {
+        mem::replace(&mut messages[slot], message)
+    } else {
+        message
+    }
+}
+
+/// Whether what a taken row leaves in the scope can't stand there.
+fn is_misfit(taken: &Taken) -> bool
+    ensures { JudgesTaken taken.now result }
+{
+    match taken.message {
+        Some(slot) => is_too_wide(slot.carried),
+        None => false,
+    }
+}
+
+pub(crate) fn take<K: Start>(
+    desk: &mut FileDesk,
+    pool: &mut Pool,
+    cell: u8,
+    index: u32,
+    taken: &Taken,
+) -> Result<bool, NoRoom>
+    requires { IsReady K.begun pool.old desk.old }
+    ensures ready { IsReady K.begun pool.new desk.new }
+    ensures found { IfOk result (λ found. found ≡ is_found (row_at (laid pool.old (stock_of desk.old)).state cell index 0)) }
+    ensures shown { OnOk result (laid pool.new (stock_of desk.new) ≡ taken_row cell index (taken_tree taken.now) (laid pool.old (stock_of desk.old))) }
+    ensures spent { Spent (room_of pool.old desk.old) (room_of pool.new desk.new) (taken_need (taken_tree taken.now)) result }
+{
+    if is_misfit(taken) {
+        return Err(NoRoom::Misfit);
+    }
+    let Some(row) = desk.cells.take(cell, index) else {
+        return Ok(false);
+    };
+    let PoolRow { numbers, message } = row;
+    set_numbers(&mut desk.numbers, &taken.numbers, &numbers);
+    match taken.message {
+        Some(slot) => {
+            let message = message_or(message, slot.carried);
+            let old = set_message(&mut desk.messages, slot.slot, message);
+            old.give_back(pool);
+            Ok(true)
+        }
+        None => {
+            give_back_if_any(message, pool);
+            Ok(true)
+        }
+    }
+}
