@@ -198,7 +198,7 @@ abbrev pub through_sends : List LayerTree → List Node
 through_sends stack = through_casts stack ++ nodes_of stack (length stack) Down Send
 
 -- where a run begins is one of the entries
-entering : (stack : List LayerTree) (at : ℕ) (dir : Dir) (kind : Kind) (tag : ℕ) → Enters stack at dir kind →
+pub entering : (stack : List LayerTree) (at : ℕ) (dir : Dir) (kind : Kind) (tag : ℕ) → Enters stack at dir kind →
     can_have kind (header_layer stack dir at) tag ≡ true → In (record { at = at; dir = dir; kind = kind; tag = tag }) (entries stack)
 entering stack at dir kind tag enters had = go dir kind enters had where
   node : ℕ → Dir → Kind → Node

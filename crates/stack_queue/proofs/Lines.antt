@@ -1,0 +1,79 @@
+-- One turn of the definition's line, while a run goes on.
+use Rattle.std.proofs.Common.{◌≡◌, ℕ, zero, suc, ◌+◌, ◌-◌, ◌≤◌, Bool, true, false, List, [], ◌∷◌, ◌++◌, None, length, refl, ap, ◌∙◌, arith}
+use Rattle.std.specs.Prelude.{if◌then◌else◌}
+use Rattle.std.specs.List.{AllByRecursion}
+use Rattle.layer_mean.specs.declared.run.Event.{Event}
+use Rattle.layer_mean.specs.Tree.{LayerTree}
+use Rattle.layer_mean.specs.Visit.{step}
+use Rattle.layer_mean.specs.Queue.{Task, Line, Work, is_place, layer_at, state_at, visited, taken_turn, next_of, run_for, layers}
+use Rattle.stack_mean.specs.Graph.{first_on_cycle}
+use Rattle.weight_laws.specs.Nodes.{IsKnown}
+use Rattle.weight_laws.specs.Visits.{IsVisit, sent_tasks}
+use Rattle.weight_laws.specs.Runs.{pending_weight, pending_joins, turn_joins, IsTurn}
+use Rattle.weight_laws.proofs.Runs.{turns_lighten, turns_join_less}
+use Rattle.chain_laws.specs.Runs.{TypedStack, IsChainedTask, IsChainedLine}
+use Rattle.chain_laws.proofs.Runs.{turns_keep_chains}
+use Rattle.orderly_laws.proofs.Orderly.{chained_is_known, typed_is_orderly}
+use Rattle.stack_queue.proofs.Refs.{all_right, all_as}
+
+module _ (stack : List LayerTree) (typed : TypedStack stack) (off : first_on_cycle stack ≡ None) (w : Work) (t : Task Event) (rest : List (Task Event))
+    (chained : IsChainedLine stack (record { world = w; tasks = t ∷ rest })) where
+  -- the line behind a turn
+  abbrev pub behind : Line Work Event
+  behind = next_of (length stack) (layers stack) (t ∷ rest) w
+
+  pub chained_behind : IsChainedLine stack behind
+  chained_behind = turns_keep_chains stack (record { world = w; tasks = t ∷ rest }) typed chained
+
+  known_behind : AllByRecursion (IsKnown stack) behind.tasks
+  known_behind = all_as (IsChainedTask stack) (IsKnown stack) (chained_is_known stack) behind.tasks chained_behind.tasks
+
+  turn : IsTurn stack w t rest
+  turn = record {
+    orderly = typed_is_orderly stack typed;
+    no_cycle = off;
+    before = all_as (IsChainedTask stack) (IsKnown stack) (chained_is_known stack) (t ∷ rest) chained.tasks;
+    behind = known_behind;
+  }
+
+  pub lighter : 1 + pending_weight stack behind.tasks ≤ pending_weight stack (t ∷ rest)
+  lighter = turns_lighten stack w t rest turn
+
+  pub joins_less : turn_joins stack w t + pending_joins stack behind.tasks ≤ pending_joins stack (t ∷ rest)
+  joins_less = turns_join_less stack w t rest turn
+
+  -- at a place the turn is a visit
+  pub is_visit : is_place (length stack) t.at ≡ true → IsVisit stack (state_at w t.at) t
+  is_visit placed = record {
+    orderly = turn.orderly;
+    place = placed;
+    known = turn.before.0;
+    sent = all_right (IsKnown stack) rest (sent_tasks stack (state_at w t.at) t) (rw placed at known_behind);
+  }
+
+  pub visited_behind : is_place (length stack) t.at ≡ true →
+      behind ≡ taken_turn t.at rest (visited t.at w (step (t.at - 1) (layer_at stack t.at) (state_at w t.at) t.dir t.event))
+  visited_behind placed = ap
+      (λ (c : Bool). if◌then◌else◌ {A = Line Work Event} c (taken_turn t.at rest ((layers stack).visit t.at t.dir t.event w)) (record { world = (layers stack).output t.dir t.event w; tasks = rest }))
+      placed
+
+  pub put_out_behind : is_place (length stack) t.at ≡ false →
+      behind ≡ record { world = record w { outs = w.outs ++ (t.dir, t.event) ∷ [] }; tasks = rest }
+  put_out_behind edge = ap
+      (λ (c : Bool). if◌then◌else◌ {A = Line Work Event} c (taken_turn t.at rest ((layers stack).visit t.at t.dir t.event w)) (record { world = (layers stack).output t.dir t.event w; tasks = rest }))
+      edge
+
+  -- the run comes to the same end
+  module _ (end : Line Work Event) (left : ℕ) (comes : run_for (length stack) (layers stack) left (record { world = w; tasks = t ∷ rest }) ≡ end)
+      (enough : pending_weight stack (t ∷ rest) ≤ left) where
+    pub comes_behind : run_for (length stack) (layers stack) (left - 1) behind ≡ end
+    comes_behind = go left refl comes where
+      go : (n : ℕ) → n ≡ left → run_for (length stack) (layers stack) n (record { world = w; tasks = t ∷ rest }) ≡ end →
+          run_for (length stack) (layers stack) (left - 1) behind ≡ end
+      go zero is e = absurd (omega (arith, enough, lighter))
+      go (suc n) is e =
+          let one : left - 1 ≡ n = omega (arith, is) in
+          ap (λ m. run_for (length stack) (layers stack) m behind) one ∙ e
+
+    pub enough_behind : pending_weight stack behind.tasks ≤ left - 1
+    enough_behind = omega (arith, enough, lighter)

@@ -1,0 +1,206 @@
+-- One turn of a run over stages: what it asks is there, and the run goes on behind it.
+use Rattle.std.proofs.Common.{◌≡◌, ℕ, suc, ◌+◌, ◌-◌, ◌<◌, ◌≤◌, Bool, true, false, ◌&&◌, not, List, [], ◌∷◌, ◌++◌, map, set, get_or, flat_map, length, refl, sym, ap, ◌∙◌, subst, arith}
+use Rattle.std.specs.Prelude.{nat_le}
+use Rattle.std.proofs.lemmas.Bool.{leb-true}
+use Rattle.std.proofs.lemmas.List.{length-append, length-map}
+use Rattle.slot_pool.specs.Held.{Held, spare}
+use Rattle.slot_pool.specs.References.{Moved, Covers}
+use Rattle.slot_pool.proofs.Times.{times-append}
+use Rattle.layer_ast.specs.declared.tokens.Dir.{Dir}
+use Rattle.layer_mean.specs.State.{State}
+use Rattle.layer_mean.specs.Tree.{LayerTree, no_layer}
+use Rattle.layer_mean.specs.Visit.{Visited, step, no_state}
+use Rattle.layer_mean.specs.Queue.{is_place, layer_at}
+use Rattle.weight_laws.specs.Visits.{task_weight}
+use Rattle.layer_desk.specs.Need.{most_above}
+use Rattle.layer_eval.specs.declared.predicted.Predicted.{Predicted}
+use Rattle.layer_eval.specs.Did.{as_predicted, both}
+use Rattle.pool_message.specs.Seen.{event_refs, event_seen}
+use Rattle.pool_message.specs.Sent.{sent_refs, sent_seen, SentLie}
+use Rattle.pool_message.specs.declared.event.PoolEvent.{PoolEvent}
+use Rattle.layer_stage.specs.Room.{slots_needed, places_needed, headers_met, most_counted, most_kept, CountsWithin}
+use Rattle.stack_queue.specs.declared.tasks.PoolTask.{PoolTask}
+use Rattle.stack_queue.specs.Pending.{tasks_refs, task_of, sent_on}
+use Rattle.stack_queue.specs.Stages.{Stand}
+use Rattle.stack_queue.specs.Going.{Begun, Now, BeginsWell, Going, weight_of}
+use Rattle.stack_queue.proofs.Asked.{few_tasks, counts_within, headers_within, slots_within, places_within}
+use Rattle.stack_queue.proofs.Stages.{few_refs, visit_is, layer_at_place, covers_at, moved_all, stands, states_are}
+use Rattle.stack_queue.proofs.Steps.{visit_of, visit_goes, visit_falls, output_goes, output_falls}
+
+-- a run that goes on with equal tasks, outputs, decisions and visits
+pub goes_with : (b : Begun) (p : List Held) (n : Now) → Going b p n → (tasks : List PoolTask) (out : List (Dir × PoolEvent)) (says : Predicted)
+    (visits : ℕ) → n.tasks ≡ tasks → n.out ≡ out → n.predicted ≡ says → n.visits ≡ visits →
+    Going b p (record { states = n.states; refs = n.refs; tasks = tasks; out = out; predicted = says; visits = visits })
+goes_with b p n g tasks out says visits ts os ps vs =
+    subst (Going b p) (λ j. record { states = n.states; refs = n.refs; tasks = ts j; out = os j; predicted = ps j; visits = vs j }) g
+
+-- where a task isn't at an edge, it is at a place
+pub placed_at : (places at : ℕ) (c : Bool) → c ≡ not (is_place places at) → c ≡ false → is_place places at ≡ true
+placed_at places at c is not_so = go (is_place places at) (sym is ∙ not_so) where
+  go : (x : Bool) → not x ≡ false → x ≡ true
+  go true h = refl
+  go false h = absurd (cc)
+
+pub edge_at : (places at : ℕ) (c : Bool) → c ≡ not (is_place places at) → c ≡ true → is_place places at ≡ false
+edge_at places at c is so = go (is_place places at) (sym is ∙ so) where
+  go : (x : Bool) → not x ≡ true → x ≡ false
+  go true h = absurd (cc)
+  go false h = refl
+
+both_true : (x y : Bool) → (x && y) ≡ true → (x ≡ true) × (y ≡ true)
+both_true true y h = (refl, h)
+both_true false y h = absurd (cc)
+
+pub bounds : (places at : ℕ) → is_place places at ≡ true → (1 ≤ at) × (at ≤ places)
+bounds places at placed =
+    let parts = both_true (nat_le 1 at) (nat_le at places) placed in (leb-true 1 at parts.0, leb-true at places parts.1)
+
+module _ {S : Type 0} (place : S → ℕ) (layer : S → LayerTree) (refs : S → List ℕ) (Ready : List Held → S → Type 0)
+    (state : List Held → S → State)
+    (frame : (p q : List Held) (a b : List ℕ) (s : S) → Moved p q a b → Covers p (a ++ refs s) → Ready p s → Ready q s × (state q s ≡ state p s))
+    (few : (p : List Held) (s : S) → Ready p s → length (refs s) ≤ most_kept)
+    (b : Begun) (well : BeginsWell b) (p : List Held) (stages : List S) (stand : Stand place layer Ready b.stack p stages)
+    (tasks : List PoolTask) (out : List (Dir × PoolEvent)) (says : Predicted) (visits : ℕ)
+    (going : Going b p (record { states = map (state p) stages; refs = flat_map refs stages; tasks = tasks; out = out; predicted = says; visits = visits }))
+    (t : PoolTask) (rest : List PoolTask) (is : tasks ≡ t ∷ rest) where
+  abbrev now : Now
+  now = record { states = map (state p) stages; refs = flat_map refs stages; tasks = t ∷ rest; out = out; predicted = says; visits = visits }
+
+  front : Going b p (record { states = map (state p) stages; refs = flat_map refs stages; tasks = t ∷ rest; out = out; predicted = says; visits = visits })
+  front = subst (λ ts. Going b p (record { states = map (state p) stages; refs = flat_map refs stages; tasks = ts; out = out; predicted = says; visits = visits })) is going
+
+  -- an output has a place
+  pub output_fits : length out < length b.out + task_weight b.stack b.first
+  output_fits = omega (
+    arith,
+    front.weight,
+    few_tasks b well p now front,
+    ap length front.behind,
+    length-append b.out front.news,
+  )
+
+  pub puts_out : is_place (length b.stack) t.at ≡ false →
+      Going b p (record { states = map (state p) stages; refs = flat_map refs stages; tasks = rest; out = out ++ (t.direction, t.event) ∷ []; predicted = says; visits = visits })
+  puts_out edge = output_goes b well p (map (state p) stages) (flat_map refs stages) t rest now front edge
+
+  pub falls_out : is_place (length b.stack) t.at ≡ false → suc (weight_of b p rest) ≤ weight_of b p tasks
+  falls_out edge = omega (arith, output_falls b well p (map (state p) stages) (flat_map refs stages) t rest now front edge, ap (weight_of b p) is)
+
+  -- a visit has what it asks
+  module _ (placed : is_place (length b.stack) t.at ≡ true) (k : ℕ) (k_is : k ≡ t.at - 1) (d : S) where
+    lt : k < length b.stack
+    lt = let at = bounds (length b.stack) t.at placed in omega (arith, k_is, at.0, at.1)
+
+    pub counts_are : CountsWithin most_counted p
+    counts_are = counts_within b well p (map (state p) stages) (flat_map refs stages) t rest now front
+        (few_refs place layer refs Ready state frame few b.stack p stages stand well.few)
+
+    pub headers_are : headers_met t.direction (event_seen p t.event) ≤ most_above
+    headers_are = headers_within b well p (map (state p) stages) (flat_map refs stages) t rest now front (bounds (length b.stack) t.at placed).0
+
+    same_layer : layer (get_or stages k d) ≡ layer_at b.stack t.at
+    same_layer = layer_at_place place layer refs Ready state frame few b.stack p stages stand k lt d ∙ ap (λ i. get_or b.stack i no_layer) k_is
+
+    pub slots_suffice : slots_needed (layer (get_or stages k d)) t.direction (event_seen p t.event) ≤ spare p
+    slots_suffice = omega (
+      arith,
+      ap (λ l. slots_needed l t.direction (event_seen p t.event)) same_layer,
+      slots_within b well p (map (state p) stages) (flat_map refs stages) t rest now front placed,
+    )
+
+    pub places_suffice : places_needed (layer (get_or stages k d)) t.direction (event_seen p t.event) ≤ task_weight b.stack b.first
+    places_suffice = omega (
+      arith,
+      ap (λ l. places_needed l t.direction (event_seen p t.event)) same_layer,
+      places_within b well p (map (state p) stages) (flat_map refs stages) t rest now front placed,
+    )
+
+    all_covered : Covers p (flat_map refs stages ++ (event_refs t.event ++ (tasks_refs rest ++ sent_refs out)))
+    all_covered = record {
+      covers = λ i. omega (
+        arith,
+        front.covers.covers i,
+        times-append i (flat_map refs stages) (tasks_refs (t ∷ rest) ++ sent_refs out),
+        times-append i (tasks_refs (t ∷ rest)) (sent_refs out),
+        times-append i (event_refs t.event) (tasks_refs rest),
+        times-append i (flat_map refs stages) (event_refs t.event ++ (tasks_refs rest ++ sent_refs out)),
+        times-append i (event_refs t.event) (tasks_refs rest ++ sent_refs out),
+        times-append i (tasks_refs rest) (sent_refs out),
+      );
+    }
+
+    pub covers_it : (emitted : List (Dir × PoolEvent)) → emitted ≡ [] → Covers p (refs (get_or stages k d) ++ (event_refs t.event ++ sent_refs emitted))
+    covers_it emitted none = subst (λ xs. Covers p (refs (get_or stages k d) ++ (event_refs t.event ++ sent_refs xs))) (sym none)
+        (covers_at place layer refs Ready state frame few b.stack p stages stand k lt d t.event (tasks_refs rest ++ sent_refs out) all_covered)
+
+    -- and behind it the run goes on
+    module _ (q : List Held) (s' : S) (emitted sent : List (Dir × PoolEvent)) (none : emitted ≡ []) (decided : Predicted)
+        (moved : Moved p q (refs (get_or stages k d) ++ (event_refs t.event ++ sent_refs emitted)) (refs s' ++ sent_refs sent))
+        (spent : spare p ≤ spare q + slots_needed (layer (get_or stages k d)) t.direction (event_seen p t.event))
+        (lie : SentLie q sent) (ready : Ready q s')
+        (state_is : state q s' ≡ (step (place (get_or stages k d)) (layer (get_or stages k d)) (state p (get_or stages k d)) t.direction (event_seen p t.event)).state)
+        (sent_is : sent_seen q sent ≡ sent_seen p emitted ++ (step (place (get_or stages k d)) (layer (get_or stages k d)) (state p (get_or stages k d)) t.direction (event_seen p t.event)).sent)
+        (decided_is : decided ≡ as_predicted (step (place (get_or stages k d)) (layer (get_or stages k d)) (state p (get_or stages k d)) t.direction (event_seen p t.event)).decided) where
+      alone : Moved p q (refs (get_or stages k d) ++ (event_refs t.event ++ [])) (refs s' ++ sent_refs sent)
+      alone = subst (λ xs. Moved p q (refs (get_or stages k d) ++ (event_refs t.event ++ sent_refs xs)) (refs s' ++ sent_refs sent)) none moved
+
+      same_visit : step (place (get_or stages k d)) (layer (get_or stages k d)) (state p (get_or stages k d)) t.direction (event_seen p t.event)
+          ≡ visit_of b p (map (state p) stages) t
+      same_visit = visit_is place layer refs Ready state frame few b.stack p stages stand k lt d t.direction (event_seen p t.event)
+          ∙ ap (λ i. step i (get_or b.stack i no_layer) (get_or (map (state p) stages) i no_state) t.direction (event_seen p t.event)) k_is
+
+      shown : map (state q) (set stages k s') ≡ set (map (state p) stages) (t.at - 1) (visit_of b p (map (state p) stages) t).state
+      shown = states_are place layer refs Ready state frame few b.stack p stages stand k lt d t.event (tasks_refs rest ++ sent_refs out) all_covered q s' (sent_refs sent) alone ready
+          ∙ (λ j. set (map (state p) stages) (k_is j) ((state_is ∙ ap (λ (v : Visited). v.state) same_visit) j))
+
+      moved_on : Moved p q (flat_map refs stages ++ event_refs t.event) (flat_map refs (set stages k s') ++ sent_refs sent)
+      moved_on = moved_all place layer refs Ready state frame few b.stack p stages stand k lt d t.event (tasks_refs rest ++ sent_refs out) all_covered q s' (sent_refs sent) alone
+
+      spent_on : spare p ≤ spare q + slots_needed (layer_at b.stack t.at) t.direction (event_seen p t.event)
+      spent_on = omega (arith, spent, ap (λ l. slots_needed l t.direction (event_seen p t.event)) same_layer)
+
+      sent_there : sent_seen q sent ≡ (visit_of b p (map (state p) stages) t).sent
+      sent_there = sent_is
+          ∙ ap (λ xs. sent_seen p xs ++ (step (place (get_or stages k d)) (layer (get_or stages k d)) (state p (get_or stages k d)) t.direction (event_seen p t.event)).sent) none
+          ∙ ap (λ (v : Visited). v.sent) same_visit
+
+      pub visit_goes_on : Going b q (record {
+        states = map (state q) (set stages k s');
+        refs = flat_map refs (set stages k s');
+        tasks = rest ++ sent_on t.at sent;
+        out = out;
+        predicted = both says decided;
+        visits = visits + 1;
+      })
+      visit_goes_on = visit_goes b well p (map (state p) stages) (flat_map refs stages) t rest now front placed q (map (state q) (set stages k s'))
+          (flat_map refs (set stages k s')) sent decided moved_on spent_on lie shown sent_there
+          (decided_is ∙ ap (λ (v : Visited). as_predicted v.decided) same_visit)
+
+      pub visit_stands : place s' ≡ place (get_or stages k d) → layer s' ≡ layer (get_or stages k d) → Stand place layer Ready b.stack q (set stages k s')
+      visit_stands same_place same_layer = stands place layer refs Ready state frame few b.stack p stages stand k lt d t.event
+          (tasks_refs rest ++ sent_refs out) all_covered q s' (sent_refs sent) alone ready same_place same_layer
+
+      pub falls : suc (weight_of b q (rest ++ sent_on t.at sent)) ≤ weight_of b p tasks
+      falls = omega (
+        arith,
+        visit_falls b well p (map (state p) stages) (flat_map refs stages) t rest now front placed q (map (state q) (set stages k s'))
+            (flat_map refs (set stages k s')) sent decided moved_on spent_on lie shown sent_there
+            (decided_is ∙ ap (λ (v : Visited). as_predicted v.decided) same_visit),
+        ap (weight_of b p) is,
+      )
+
+      pub tasks_fit : length rest + length sent ≤ task_weight b.stack b.first
+      tasks_fit = omega (
+        arith,
+        visit_goes_on.weight,
+        few_tasks b well q (record {
+          states = map (state q) (set stages k s');
+          refs = flat_map refs (set stages k s');
+          tasks = rest ++ sent_on t.at sent;
+          out = out;
+          predicted = both says decided;
+          visits = visits + 1;
+        }) visit_goes_on,
+        length-append rest (sent_on t.at sent),
+        length-map sent (task_of t.at),
+      )

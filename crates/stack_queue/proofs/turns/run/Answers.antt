@@ -1,0 +1,189 @@
+use Rattle.std.proofs.Common.{◌+◌, ◌≤◌, ◌++◌, ◌-◌, [], map, flat_map, length, refl, sym, ap, ◌∙◌, arith, rules}
+use Rattle.std.proofs.lemmas.List.{length-map}
+use Rattle.circular_buffer.specs.Buffer.{buffer}
+use Rattle.layer_mean.specs.Queue.{is_place}
+use Rattle.typed_layer.specs.Places.{rc_tree}
+use Rattle.event_graph.specs.Answer.{stack_tree}
+use Rattle.event_graph.proofs.Judged.{accepted_is}
+use Rattle.layer_desk.specs.Need.{most_places}
+use Rattle.layer_eval.specs.Did.{as_predicted}
+use Rattle.pool_message.specs.Sent.{sent_seen}
+use Rattle.stack_queue.proofs.Ends.{begins_well, begins, ended_at}
+use Rattle.stack_queue.proofs.Turn.{goes_with, placed_at, edge_at, output_fits, puts_out, falls_out, counts_are, headers_are, slots_suffice, places_suffice, covers_it, visit_goes_on, visit_stands, falls, tasks_fit}
+use Rattle.stack_queue.proofs.turns.run.Goals as goal
+
+pub loop-task-init : goal.loop-task-init
+loop-task-init g c =
+    let states = map (g.S.Stage.state c.args.pool.now) c.args.stages.now in
+    let refs = flat_map g.S.Stage.refs c.args.stages.now in
+    let accepts = accepted_is (stack_tree c.args.stack.now) c.args.stack.now.accepted in
+    let few : length (stack_tree c.args.stack.now) ≤ most_places = omega (arith, length-map c.args.stack.now.typed.layers.items rc_tree, c.args.stack.now.typed.few) in (
+      begins_well (stack_tree c.args.stack.now) c.requires.typed accepts few c.args.pool.now states c.requires.chained c.args.first c.requires.first
+          c.requires.enters refs c.args.out.now.items c.args.visits.now c.requires.counts c.requires.slots,
+      goes_with _ c.args.pool.now _
+          (begins (stack_tree c.args.stack.now) c.requires.typed accepts few c.args.pool.now states c.requires.chained c.args.first c.requires.first
+          c.requires.enters refs c.args.out.now.items c.args.visits.now c.requires.counts c.requires.slots c.requires.event c.requires.lie c.requires.covers)
+          _ _ _ _ (search rules) (search rules) (search rules) (search rules),
+      c.requires.stand,
+      refl,
+      ap (λ x. x.capacity) c.push.ensures,
+      refl,
+    )
+
+pub push-requires-then-is_edge : goal.push-requires-then-is_edge
+push-requires-then-is_edge g c = omega (
+  arith,
+  output_fits g.S.Stage.place g.S.Stage.layer g.S.Stage.refs g.S.Stage.ready g.S.Stage.state g.met.S.Stage.frame g.met.S.Stage.few
+      _ c.loop-task.invariant.0 c.loop-task.pool c.loop-task.stages c.loop-task.invariant.2 c.loop-task.tasks.items
+      c.loop-task.out.items c.loop-task.predicted c.loop-task.visits c.loop-task.invariant.1 c.in-Some.task c.pop.new.self.items c.in-Some.ensures.some,
+  c.requires.out,
+  c.loop-task.invariant.5,
+)
+
+pub loop-task-smaller-then-is_edge : goal.loop-task-smaller-then-is_edge
+loop-task-smaller-then-is_edge g c =
+    falls_out g.S.Stage.place g.S.Stage.layer g.S.Stage.refs g.S.Stage.ready g.S.Stage.state g.met.S.Stage.frame g.met.S.Stage.few
+    _ c.loop-task.invariant.0 c.loop-task.pool c.loop-task.stages c.loop-task.invariant.2 c.loop-task.tasks.items
+    c.loop-task.out.items c.loop-task.predicted c.loop-task.visits c.loop-task.invariant.1 c.in-Some.task c.pop.new.self.items c.in-Some.ensures.some
+    (ap (λ n. is_place n c.in-Some.task.at) (sym c.places.ensures) ∙ edge_at c.places.result c.in-Some.task.at c.is_edge.result c.is_edge.ensures c.if-is_edge.true)
+
+pub loop-task-preserved-then-is_edge : goal.loop-task-preserved-then-is_edge
+loop-task-preserved-then-is_edge g c = (
+  c.loop-task.invariant.0,
+  goes_with _ c.loop-task.pool _
+      (puts_out g.S.Stage.place g.S.Stage.layer g.S.Stage.refs g.S.Stage.ready g.S.Stage.state g.met.S.Stage.frame g.met.S.Stage.few
+      _ c.loop-task.invariant.0 c.loop-task.pool c.loop-task.stages c.loop-task.invariant.2 c.loop-task.tasks.items
+      c.loop-task.out.items c.loop-task.predicted c.loop-task.visits c.loop-task.invariant.1 c.in-Some.task c.pop.new.self.items c.in-Some.ensures.some
+      (ap (λ n. is_place n c.in-Some.task.at) (sym c.places.ensures) ∙ edge_at c.places.result c.in-Some.task.at c.is_edge.result c.is_edge.ensures c.if-is_edge.true))
+      _ _ _ _ (search rules) (search rules) (search rules) (search rules),
+  c.loop-task.invariant.2,
+  c.loop-task.invariant.3,
+  c.pop.ensures.capacity ∙ c.loop-task.invariant.4,
+  ap (λ x. x.capacity) c.push-then-is_edge.ensures ∙ c.loop-task.invariant.5,
+)
+
+pub take-decided-requires-clause-covers : goal.take-decided-requires-clause-covers
+take-decided-requires-clause-covers g c =
+    covers_it g.S.Stage.place g.S.Stage.layer g.S.Stage.refs g.S.Stage.ready g.S.Stage.state g.met.S.Stage.frame g.met.S.Stage.few
+    _ c.loop-task.invariant.0 c.loop-task.pool c.loop-task.stages c.loop-task.invariant.2 c.loop-task.tasks.items
+    c.loop-task.out.items c.loop-task.predicted c.loop-task.visits c.loop-task.invariant.1 c.in-Some.task c.pop.new.self.items c.in-Some.ensures.some
+    (ap (λ n. is_place n c.in-Some.task.at) (sym c.places.ensures) ∙ placed_at c.places.result c.in-Some.task.at c.is_edge.result c.is_edge.ensures c.if-is_edge.false)
+    (c.from.result - 1) (ap (λ n. n - 1) c.from.ensures) c.index-stages-from.result
+    c.loop-task.emits.items (ap (λ x. x.items) c.loop-task.invariant.3 ∙ c.requires.emits.0)
+
+pub take-decided-requires-clause-counts : goal.take-decided-requires-clause-counts
+take-decided-requires-clause-counts g c =
+    counts_are g.S.Stage.place g.S.Stage.layer g.S.Stage.refs g.S.Stage.ready g.S.Stage.state g.met.S.Stage.frame g.met.S.Stage.few
+    _ c.loop-task.invariant.0 c.loop-task.pool c.loop-task.stages c.loop-task.invariant.2 c.loop-task.tasks.items
+    c.loop-task.out.items c.loop-task.predicted c.loop-task.visits c.loop-task.invariant.1 c.in-Some.task c.pop.new.self.items c.in-Some.ensures.some
+    (ap (λ n. is_place n c.in-Some.task.at) (sym c.places.ensures) ∙ placed_at c.places.result c.in-Some.task.at c.is_edge.result c.is_edge.ensures c.if-is_edge.false)
+    (c.from.result - 1) (ap (λ n. n - 1) c.from.ensures) c.index-stages-from.result
+
+pub take-decided-requires-clause-headers : goal.take-decided-requires-clause-headers
+take-decided-requires-clause-headers g c =
+    headers_are g.S.Stage.place g.S.Stage.layer g.S.Stage.refs g.S.Stage.ready g.S.Stage.state g.met.S.Stage.frame g.met.S.Stage.few
+    _ c.loop-task.invariant.0 c.loop-task.pool c.loop-task.stages c.loop-task.invariant.2 c.loop-task.tasks.items
+    c.loop-task.out.items c.loop-task.predicted c.loop-task.visits c.loop-task.invariant.1 c.in-Some.task c.pop.new.self.items c.in-Some.ensures.some
+    (ap (λ n. is_place n c.in-Some.task.at) (sym c.places.ensures) ∙ placed_at c.places.result c.in-Some.task.at c.is_edge.result c.is_edge.ensures c.if-is_edge.false)
+    (c.from.result - 1) (ap (λ n. n - 1) c.from.ensures) c.index-stages-from.result
+
+pub take-decided-requires-clause-slots : goal.take-decided-requires-clause-slots
+take-decided-requires-clause-slots g c =
+    slots_suffice g.S.Stage.place g.S.Stage.layer g.S.Stage.refs g.S.Stage.ready g.S.Stage.state g.met.S.Stage.frame g.met.S.Stage.few
+    _ c.loop-task.invariant.0 c.loop-task.pool c.loop-task.stages c.loop-task.invariant.2 c.loop-task.tasks.items
+    c.loop-task.out.items c.loop-task.predicted c.loop-task.visits c.loop-task.invariant.1 c.in-Some.task c.pop.new.self.items c.in-Some.ensures.some
+    (ap (λ n. is_place n c.in-Some.task.at) (sym c.places.ensures) ∙ placed_at c.places.result c.in-Some.task.at c.is_edge.result c.is_edge.ensures c.if-is_edge.false)
+    (c.from.result - 1) (ap (λ n. n - 1) c.from.ensures) c.index-stages-from.result
+
+pub take-decided-requires-clause-places : goal.take-decided-requires-clause-places
+take-decided-requires-clause-places g c = omega (
+  arith,
+  places_suffice g.S.Stage.place g.S.Stage.layer g.S.Stage.refs g.S.Stage.ready g.S.Stage.state g.met.S.Stage.frame g.met.S.Stage.few
+      _ c.loop-task.invariant.0 c.loop-task.pool c.loop-task.stages c.loop-task.invariant.2 c.loop-task.tasks.items
+      c.loop-task.out.items c.loop-task.predicted c.loop-task.visits c.loop-task.invariant.1 c.in-Some.task c.pop.new.self.items c.in-Some.ensures.some
+      (ap (λ n. is_place n c.in-Some.task.at) (sym c.places.ensures) ∙ placed_at c.places.result c.in-Some.task.at c.is_edge.result c.is_edge.ensures c.if-is_edge.false)
+      (c.from.result - 1) (ap (λ n. n - 1) c.from.ensures) c.index-stages-from.result,
+  ap length (ap (λ x. x.items) c.loop-task.invariant.3 ∙ c.requires.emits.0),
+  ap (λ x. x.capacity) c.loop-task.invariant.3,
+  c.requires.emits.1,
+)
+
+pub send_on-requires-clause-room : goal.send_on-requires-clause-room
+send_on-requires-clause-room g c = omega (
+  arith,
+  tasks_fit g.S.Stage.place g.S.Stage.layer g.S.Stage.refs g.S.Stage.ready g.S.Stage.state g.met.S.Stage.frame g.met.S.Stage.few
+      _ c.loop-task.invariant.0 c.loop-task.pool c.loop-task.stages c.loop-task.invariant.2 c.loop-task.tasks.items
+      c.loop-task.out.items c.loop-task.predicted c.loop-task.visits c.loop-task.invariant.1 c.in-Some.task c.pop.new.self.items c.in-Some.ensures.some
+      (ap (λ n. is_place n c.in-Some.task.at) (sym c.places.ensures) ∙ placed_at c.places.result c.in-Some.task.at c.is_edge.result c.is_edge.ensures c.if-is_edge.false)
+      (c.from.result - 1) (ap (λ n. n - 1) c.from.ensures) c.index-stages-from.result
+      c.take-decided.new.pool c.take-decided.new.self c.loop-task.emits.items c.take-decided.new.out.items (ap (λ x. x.items) c.loop-task.invariant.3 ∙ c.requires.emits.0)
+      c.take-decided.result c.take-decided.ensures.moved c.take-decided.ensures.spent c.take-decided.ensures.out c.take-decided.ensures.ready
+      c.take-decided.ensures.state c.take-decided.ensures.sent c.take-decided.ensures.predicted,
+  c.pop.ensures.capacity,
+  c.loop-task.invariant.4,
+  c.requires.tasks.1,
+)
+
+pub loop-task-smaller : goal.loop-task-smaller
+loop-task-smaller g c =
+    rw c.send_on.ensures.tasks
+    (falls g.S.Stage.place g.S.Stage.layer g.S.Stage.refs g.S.Stage.ready g.S.Stage.state g.met.S.Stage.frame g.met.S.Stage.few
+    _ c.loop-task.invariant.0 c.loop-task.pool c.loop-task.stages c.loop-task.invariant.2 c.loop-task.tasks.items
+    c.loop-task.out.items c.loop-task.predicted c.loop-task.visits c.loop-task.invariant.1 c.in-Some.task c.pop.new.self.items c.in-Some.ensures.some
+    (ap (λ n. is_place n c.in-Some.task.at) (sym c.places.ensures) ∙ placed_at c.places.result c.in-Some.task.at c.is_edge.result c.is_edge.ensures c.if-is_edge.false)
+    (c.from.result - 1) (ap (λ n. n - 1) c.from.ensures) c.index-stages-from.result
+    c.take-decided.new.pool c.take-decided.new.self c.loop-task.emits.items c.take-decided.new.out.items (ap (λ x. x.items) c.loop-task.invariant.3 ∙ c.requires.emits.0)
+    c.take-decided.result c.take-decided.ensures.moved c.take-decided.ensures.spent c.take-decided.ensures.out c.take-decided.ensures.ready
+    c.take-decided.ensures.state c.take-decided.ensures.sent c.take-decided.ensures.predicted)
+
+pub loop-task-preserved : goal.loop-task-preserved
+loop-task-preserved g c = (
+  c.loop-task.invariant.0,
+  goes_with _ c.take-decided.new.pool _
+      (visit_goes_on g.S.Stage.place g.S.Stage.layer g.S.Stage.refs g.S.Stage.ready g.S.Stage.state g.met.S.Stage.frame g.met.S.Stage.few
+      _ c.loop-task.invariant.0 c.loop-task.pool c.loop-task.stages c.loop-task.invariant.2 c.loop-task.tasks.items
+      c.loop-task.out.items c.loop-task.predicted c.loop-task.visits c.loop-task.invariant.1 c.in-Some.task c.pop.new.self.items c.in-Some.ensures.some
+      (ap (λ n. is_place n c.in-Some.task.at) (sym c.places.ensures) ∙ placed_at c.places.result c.in-Some.task.at c.is_edge.result c.is_edge.ensures c.if-is_edge.false)
+      (c.from.result - 1) (ap (λ n. n - 1) c.from.ensures) c.index-stages-from.result
+      c.take-decided.new.pool c.take-decided.new.self c.loop-task.emits.items c.take-decided.new.out.items (ap (λ x. x.items) c.loop-task.invariant.3 ∙ c.requires.emits.0)
+      c.take-decided.result c.take-decided.ensures.moved c.take-decided.ensures.spent c.take-decided.ensures.out c.take-decided.ensures.ready
+      c.take-decided.ensures.state c.take-decided.ensures.sent c.take-decided.ensures.predicted)
+      _ _ _ _ (search rules) (search rules) (search rules) (search rules),
+  visit_stands g.S.Stage.place g.S.Stage.layer g.S.Stage.refs g.S.Stage.ready g.S.Stage.state g.met.S.Stage.frame g.met.S.Stage.few
+      _ c.loop-task.invariant.0 c.loop-task.pool c.loop-task.stages c.loop-task.invariant.2 c.loop-task.tasks.items
+      c.loop-task.out.items c.loop-task.predicted c.loop-task.visits c.loop-task.invariant.1 c.in-Some.task c.pop.new.self.items c.in-Some.ensures.some
+      (ap (λ n. is_place n c.in-Some.task.at) (sym c.places.ensures) ∙ placed_at c.places.result c.in-Some.task.at c.is_edge.result c.is_edge.ensures c.if-is_edge.false)
+      (c.from.result - 1) (ap (λ n. n - 1) c.from.ensures) c.index-stages-from.result
+      c.take-decided.new.pool c.take-decided.new.self c.loop-task.emits.items c.take-decided.new.out.items (ap (λ x. x.items) c.loop-task.invariant.3 ∙ c.requires.emits.0)
+      c.take-decided.result c.take-decided.ensures.moved c.take-decided.ensures.spent c.take-decided.ensures.out c.take-decided.ensures.ready
+      c.take-decided.ensures.state c.take-decided.ensures.sent c.take-decided.ensures.predicted
+      c.take-decided.ensures.place c.take-decided.ensures.layer,
+  c.send_on.ensures.emits ∙ ap (λ n. buffer [] n) (c.take-decided.ensures.capacity ∙ ap (λ x. x.capacity) c.loop-task.invariant.3)
+      ∙ (λ j. buffer ((sym c.requires.emits.0) j) c.args.emits.now.capacity),
+  ap (λ x. x.capacity) c.send_on.ensures.tasks ∙ c.pop.ensures.capacity ∙ c.loop-task.invariant.4,
+  c.loop-task.invariant.5,
+)
+
+pub returns-clause-states : goal.returns-clause-states
+returns-clause-states g c =
+    let e = ended_at _ c.loop-task.pool _ c.in_default.ensures.none c.loop-task.invariant.1 in
+    e.states ∙ ap (λ r. r.world.states) (sym e.is)
+
+pub returns-clause-outs : goal.returns-clause-outs
+returns-clause-outs g c =
+    let e = ended_at _ c.loop-task.pool _ c.in_default.ensures.none c.loop-task.invariant.1 in
+    e.outs ∙ ap (λ r. sent_seen c.args.pool.now c.args.out.now.items ++ r.world.outs) (sym e.is)
+
+pub returns-clause-predicted : goal.returns-clause-predicted
+returns-clause-predicted g c =
+    let e = ended_at _ c.loop-task.pool _ c.in_default.ensures.none c.loop-task.invariant.1 in
+    e.predicted ∙ ap (λ r. as_predicted r.world.decided) (sym e.is)
+
+pub returns-clause-visits : goal.returns-clause-visits
+returns-clause-visits g c =
+    let e = ended_at _ c.loop-task.pool _ c.in_default.ensures.none c.loop-task.invariant.1 in
+    e.visits ∙ ap (λ r. c.args.visits.now + r.world.visits) (sym e.is)
+
+pub returns-clause-done : goal.returns-clause-done
+returns-clause-done g c =
+    let e = ended_at _ c.loop-task.pool _ c.in_default.ensures.none c.loop-task.invariant.1 in ap (λ r. r.tasks) e.is ∙ e.done

@@ -1,0 +1,4 @@
+pub mod Pending
+pub mod Stages
+pub mod Going
+pub mod Laws

@@ -1,0 +1,30 @@
+-- Pending tasks: what they refer to, and what is seen of them in a pool.
+use Rattle.std.specs.Prelude.{ℕ, List, map}
+use Rattle.std.specs.List.{flat_map, AllByRecursion}
+use Rattle.slot_pool.specs.Held.{Held}
+use Rattle.layer_ast.specs.declared.tokens.Dir.{Dir}
+use Rattle.layer_mean.specs.declared.run.Event.{Event}
+use Rattle.layer_mean.specs.Queue.{Task, beyond}
+use Rattle.pool_message.specs.Seen.{event_refs, event_seen, EventLies}
+use Rattle.pool_message.specs.declared.event.PoolEvent.{PoolEvent}
+use Rattle.stack_queue.specs.declared.tasks.PoolTask.{PoolTask}
+
+abbrev pub task_seen : List Held → PoolTask → Task Event
+task_seen p t = record { at = t.at; dir = t.direction; event = event_seen p t.event }
+
+abbrev pub tasks_seen : List Held → List PoolTask → List (Task Event)
+tasks_seen p ts = map (task_seen p) ts
+
+abbrev pub tasks_refs : List PoolTask → List ℕ
+tasks_refs ts = flat_map (λ t. event_refs t.event) ts
+
+-- Each lies in the pool.
+abbrev pub TasksLie : List Held → List PoolTask → Type 0
+TasksLie p ts = AllByRecursion (λ t. EventLies p t.event) ts
+
+-- The tasks of what was sent from somewhere.
+abbrev pub task_of : ℕ → Dir × PoolEvent → PoolTask
+task_of at x = record { at = beyond x.0 at; direction = x.0; event = x.1 }
+
+abbrev pub sent_on : ℕ → List (Dir × PoolEvent) → List PoolTask
+sent_on at xs = map (task_of at) xs

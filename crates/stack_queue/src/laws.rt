@@ -1,0 +1,8 @@
+//! Laws of room, each the contract of a function that does nothing.
+
+ghost use Rattle.stack_queue.specs.Laws.{EntriesFit};
+
+/// A list that is made for a stack has places for each run: a task with which one begins weighs no more than the stack.
+pub fn entries_fit()
+    ensures { EntriesFit }
+{}
