@@ -17,8 +17,8 @@ use Rattle.shape_core.specs.Answer.{FailsFor}
 use Rattle.stack_mean.specs.Plan as mean
 use Rattle.stack_mean.specs.Plans.{Group, outs_of, packets_of, plan_of, plans_of}
 use Rattle.stack_mean.specs.Shape.{shape}
-use Rattle.packet_plans.specs.Trees.{is_memory, packets_in}
-use Rattle.packet_plans.proofs.Lists.{take_more, none_more}
+use Rattle.packet_plans.specs.Lists.{is_memory, packets_in}
+use Rattle.packet_plans.proofs.Gathered.{take_more, none_more}
 
 abbrev group : Kind → Case → Group
 group kind case = record { entry = record { dir = Down; kind = kind; tags = [] }; case = case }

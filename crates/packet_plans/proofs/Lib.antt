@@ -1,2 +1,3 @@
-pub mod Lists
+pub mod Indexing
+pub mod Gathered
 pub mod Groups

@@ -1,28 +1,8 @@
 -- The plans that the code keeps.
-use Rattle.std.specs.Prelude.{Bool, true, false, if◌then◌else◌, List, [], ◌∷◌, map}
-use Rattle.std.specs.List.{filter}
+use Rattle.std.specs.Prelude.{List}
 use Rattle.stack_mean.specs.Plan as mean
-use Rattle.stack_mean.specs.Plans.{is_packet, plan_of}
-use Rattle.stack_mean.specs.Shape.{ShapeOut}
-use Rattle.shape_core.specs.declared.error.NoShape.{NoShape}
-use Rattle.shape_core.specs.declared.error.NoShape.TheVariants.{Memory}
-use Rattle.packet_plans.specs.declared.types.Plan.{Plan}
-use Rattle.packet_plans.specs.declared.types.Plans.{Plans}
-
-abbrev pub plan_tree : Plan → mean.Plan
-plan_tree p = record { kind = p.kind; tags = p.tags.items; fields = p.fields.items }
+use Rattle.packet_plans.specs.declared.kept.Plans.{Plans}
+use Rattle.packet_plans.specs.Lists.{list_tree}
 
 abbrev pub plans_tree : Plans → List mean.Plan
-plans_tree plans = map plan_tree plans.list.items
-
--- The packets among outputs, and the plan of an output that is one.
-abbrev pub packets_in : List ShapeOut → List ShapeOut
-packets_in outs = filter (λ out. is_packet out out.dir) outs
-
-abbrev pub plan_or_none : ShapeOut → List mean.Plan
-plan_or_none out = if is_packet out out.dir then plan_of out ∷ [] else []
-
--- Whether memory ran out.
-abbrev pub is_memory : NoShape → Bool
-is_memory Memory = true
-is_memory _ = false
+plans_tree plans = list_tree plans.list

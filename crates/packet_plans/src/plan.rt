@@ -3,7 +3,7 @@
 ghost use Rattle.std.specs.Prelude.{◌≡◌, ◌++◌, IfOk, OnOk};
 ghost use Rattle.stack_mean.specs.Plans as mean;
 ghost use Rattle.shape_core.specs.Sketch.{out_tree};
-ghost use Rattle.packet_plans.specs.Trees.{plan_tree};
+ghost use Rattle.packet_plans.specs.Lists.{plan_tree};
 
 use crate::types::Plan;
 use layer_ast::{Dir, Kind};

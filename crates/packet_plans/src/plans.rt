@@ -1,27 +1,19 @@
-//! The plans of a stack.
+//! The plans of a stack, and which of them a packet may fit.
 
-ghost use Rattle.std.specs.Prelude.{◌≡◌, ◌≤◌, ◌++◌, [], IfOk, OnOk, length, map, take, vec_len};
-ghost use Rattle.layer_ast.specs.declared.tokens.Dir.TheVariants.{Down};
-ghost use Rattle.stack_mean.specs.Plans.{packets_of, plan_of, plans_limit, plans_of};
+ghost use Rattle.std.specs.Prelude.{◌≡◌, ◌+◌, ◌<◌, ◌≤◌, IfOk, length, map, slice_get, option_map};
+ghost use Rattle.stack_mean.specs.Plans.{plans_of};
 ghost use Rattle.event_graph.specs.Answer.{stack_tree};
-ghost use Rattle.shape_core.specs.Sketch.{out_tree};
-ghost use Rattle.packet_plans.specs.Trees.{is_memory, packets_in, plan_tree, plans_tree, plan_or_none};
+ghost use Rattle.packet_plans.specs.Lists.{plan_tree};
+ghost use Rattle.packet_plans.specs.Prints.{IsNext, print_at};
+ghost use Rattle.packet_plans.specs.Trees.{plans_tree};
 
-use crate::plan::{is_packet, plan_of};
-use crate::types::{MOST_PLANS, Plan, Plans};
+use crate::index::Index;
+use crate::kept::Plans;
+use crate::print::Print;
+use crate::types::{Plan, PlanList};
 use event_graph::Stack;
-use layer_ast::{Dir, Kind};
-use layer_mean::Case;
 use msg_core::Memory;
-use shape_core::{Known, NoShape, ShapeOut, shape};
 use std::alloc::Global;
-
-/// Whether memory ran out.
-fn is_memory(reason: &NoShape) -> bool
-    ensures { result ≡ is_memory reason.now }
-{
-    matches!(reason, NoShape::Memory)
-}
 
 impl Plans {
     /// The plans of a stack: one for each packet that an application's own cast, then its send, is predicted to send in the first case,
@@ -29,14 +21,9 @@ impl Plans {
     pub fn of(alloc: Global, stack: &Stack) -> Result<Plans, Memory>
         ensures { IfOk result (λ plans. plans_tree plans ≡ plans_of (stack_tree stack.now)) }
     {
-        let mut plans = Plans {
-            list: Vec::new(alloc),
-        };
-        plans.add_group(alloc, stack, Kind::Cast, Case::First)?;
-        plans.add_group(alloc, stack, Kind::Send, Case::First)?;
-        plans.add_group(alloc, stack, Kind::Cast, Case::Second)?;
-        plans.add_group(alloc, stack, Kind::Send, Case::Second)?;
-        Ok(plans)
+        let list = PlanList::of(alloc, stack)?;
+        let index = Index::of(alloc, list.slice())?;
+        Ok(Plans { list, index })
     }
 
     /// All of them, in order.
@@ -44,57 +31,28 @@ impl Plans {
         ensures plans { map plan_tree result.now ≡ plans_tree self.now }
         ensures few { length result.now ≤ 250 }
     {
-        self.list.as_slice()
+        self.list.slice()
     }
 
-    /// Adds the plan of an output, if it is a packet and there is room.
-    fn add(&mut self, alloc: Global, out: &ShapeOut) -> Result<(), Memory>
-        ensures { OnOk result (plans_tree self.new ≡ take plans_limit (plans_tree self.old ++ plan_or_none (out_tree out.now))) }
+    /// The plan of a number.
+    pub fn get(&self, number: u8) -> Option<&Plan>
+        ensures { option_map (λ plan. plan_tree plan.now) result ≡ slice_get (plans_tree self.now) number }
     {
-        if !is_packet(out) {
-            return Ok(());
-        }
-        if self.list.len() < MOST_PLANS {
-            self.list.push(plan_of(alloc, out)?)?;
-        }
-        Ok(())
+        self.list.slice().get(usize::from(number))
     }
 
-    /// Adds the plans of outputs.
-    fn add_outs(&mut self, alloc: Global, outs: &[ShapeOut]) -> Result<(), Memory>
-        ensures { OnOk result (plans_tree self.new ≡ take plans_limit (plans_tree self.old ++ map plan_of (packets_in (map out_tree outs.now)))) }
+    /// The first plan of a print, if there is one. A packet fits no plan of another print.
+    pub fn first(&self, print: Print) -> Option<u8>
+        ensures { IsNext (plans_tree self.now) print.byte 0 result }
     {
-        for out in outs {
-            self.add(alloc, out)?;
-        }
-        Ok(())
+        self.index.first[usize::from(print.byte)]
     }
 
-    /// Adds the plans of an application's own event of a kind in a case.
-    fn add_group(
-        &mut self,
-        alloc: Global,
-        stack: &Stack,
-        kind: Kind,
-        case: Case,
-    ) -> Result<(), Memory>
-        ensures { OnOk result (plans_tree self.new ≡ take plans_limit (plans_tree self.old ++
-            map plan_of (packets_of (stack_tree stack.now) (record { entry = record { dir = Down; kind = kind; tags = [] }; case = case })))) }
+    /// The next plan behind one, of the same print.
+    pub fn next(&self, number: u8) -> Option<u8>
+        requires { number < length (plans_tree self.now) }
+        ensures { IsNext (plans_tree self.now) (print_at (plans_tree self.now) number) (number + 1) result }
     {
-        let entry = Known {
-            dir: Dir::Down,
-            kind,
-            tags: Vec::new(alloc),
-        };
-        match shape(alloc, stack, &entry, case) {
-            Ok(shape) => self.add_outs(alloc, shape.outs.as_slice()),
-            Err(reason) => {
-                if is_memory(&reason) {
-                    Err(Memory)
-                } else {
-                    Ok(())
-                }
-            }
-        }
+        self.index.next[usize::from(number)]
     }
 }

@@ -17,9 +17,9 @@ pub struct Plan {
     pub fields: Vec<Option<u32>>,
 }
 
-/// The plans of a stack, numbered from 0: at most 250.
+/// Plans as they are gathered, numbered from 0: at most 250.
 #[derive(Drop)]
-pub struct Plans {
+pub(crate) struct PlanList {
     pub(crate) list: Vec<Plan>,
     ghost few: { vec_len list ≤ 250 },
 }

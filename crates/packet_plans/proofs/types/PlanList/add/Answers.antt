@@ -2,9 +2,9 @@ use Rattle.std.proofs.Common.{◌∷◌, [], ◌++◌, ◌∙◌, map, ap, arith
 use Rattle.std.proofs.lemmas.List.{map-append, length-map}
 use Rattle.stack_mean.specs.Plans.{plan_of}
 use Rattle.shape_core.specs.Sketch.{out_tree}
-use Rattle.packet_plans.specs.Trees.{plan_tree, plan_or_none}
-use Rattle.packet_plans.proofs.Lists.{none_more, no_room, one_more, no_packet, a_packet}
-use Rattle.packet_plans.proofs.types.Plans.add.Goals as goal
+use Rattle.packet_plans.specs.Lists.{plan_tree, plan_or_none}
+use Rattle.packet_plans.proofs.Gathered.{none_more, no_room, one_more, no_packet, a_packet}
+use Rattle.packet_plans.proofs.types.PlanList.add.Goals as goal
 
 pub returns-then-not-is_packet : goal.returns-then-not-is_packet
 returns-then-not-is_packet c =

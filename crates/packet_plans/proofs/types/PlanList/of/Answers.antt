@@ -1,8 +1,8 @@
 use Rattle.std.proofs.Common.{map, ap}
 use Rattle.event_graph.specs.Answer.{stack_tree}
-use Rattle.packet_plans.specs.Trees.{plan_tree}
+use Rattle.packet_plans.specs.Lists.{plan_tree}
 use Rattle.packet_plans.proofs.Groups.{all_groups}
-use Rattle.packet_plans.proofs.types.Plans.of.Goals as goal
+use Rattle.packet_plans.proofs.types.PlanList.of.Goals as goal
 
 pub returns : goal.returns
 returns c =

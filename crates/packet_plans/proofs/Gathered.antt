@@ -9,7 +9,7 @@ use Rattle.stack_mean.specs.Shape.{ShapeOut}
 use Rattle.event_graph.proofs.Steps.{one_taken}
 use Rattle.shape_core.specs.declared.types.ShapeOut as code
 use Rattle.shape_core.specs.Sketch.{out_tree}
-use Rattle.packet_plans.specs.Trees.{packets_in, plan_or_none}
+use Rattle.packet_plans.specs.Lists.{packets_in, plan_or_none}
 
 pub take_more : {X : Type 0} (n : ℕ) (xs ys : List X) → take n (take n xs ++ ys) ≡ take n (xs ++ ys)
 take_more zero xs ys = refl
