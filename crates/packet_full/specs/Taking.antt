@@ -1,6 +1,7 @@
 -- What is taken off the front of a datagram.
 use Rattle.std.specs.Prelude.{◌≡◌, ℕ, List, ◌++◌, Option, Some, None}
 use Rattle.packet_mean.specs.Reading as reading
+use Rattle.packet_mean.specs.declared.here.Here.{Here}
 use Rattle.packet_full.specs.declared.cursor.Cursor.{Cursor}
 use Rattle.packet_full.specs.declared.front.Preamble.{Preamble}
 
@@ -18,6 +19,12 @@ preamble_tree p = record {
   sender = p.sender;
   dest = p.dest;
 }
+
+-- the group, the stamp and the view in front are a member's own
+pub record IsOwn (here : Here) (front : Preamble) : Type 0 where
+  pub group : front.group ≡ here.group
+  pub stamp : front.stamp ≡ here.stamp
+  pub view : front.view ≡ here.view
 
 -- what a reader took and the bytes behind it, or that it took nothing
 abbrev pub Takes : {A : Type 0} → Option (A × List ℕ) → Option A → List ℕ → Type 0

@@ -3,7 +3,6 @@
 ghost use Rattle.std.specs.Prelude.{◌≡◌, ◌+◌, ◌<◌, ◌≤◌, [], IfSome, drop, length, option_map, slice_index_or};
 ghost use Rattle.event_graph.specs.Answer.{stack_tree};
 ghost use Rattle.layer_mean.specs.Tree.{no_layer};
-ghost use Rattle.packet_laws.specs.Lengths.{IsWithinLimits};
 ghost use Rattle.packet_mean.specs.Reading as reading;
 ghost use Rattle.packet_full.specs.Chain.{header_read};
 ghost use Rattle.packet_full.specs.Taking.{Takes, left, preamble_tree};
@@ -15,25 +14,25 @@ use msg_core::{Fields, Header, Headers, View};
 
 /// The bytes that are left of a datagram.
 #[derive(Clone, Copy)]
-pub(crate) struct Cursor<'a> {
+pub struct Cursor<'a> {
     bytes: &'a [u8],
 }
 
 impl<'a> Cursor<'a> {
-    pub(crate) fn on(bytes: &'a [u8]) -> Cursor<'a>
+    pub fn on(bytes: &'a [u8]) -> Cursor<'a>
         ensures { left result ≡ bytes.now }
     {
         Cursor { bytes }
     }
 
     /// How many bytes are left.
-    pub(crate) fn len(&self) -> usize
+    pub fn len(&self) -> usize
         ensures { result ≡ length (left self.now) }
     {
         self.bytes.len()
     }
 
-    pub(crate) fn byte(&mut self) -> Option<u8>
+    pub fn byte(&mut self) -> Option<u8>
         ensures { Takes (reading.byte (left self.old)) result (left self.new) }
     {
         let (first, behind) = self.bytes.split_first()?;
@@ -42,7 +41,7 @@ impl<'a> Cursor<'a> {
     }
 
     /// A number of four bytes, the highest first.
-    pub(crate) fn number(&mut self) -> Option<u32>
+    pub fn number(&mut self) -> Option<u32>
         ensures { Takes (reading.number (left self.old)) result (left self.new) }
     {
         let (first, behind) = self.bytes.split_first_chunk::<4>()?;
@@ -51,7 +50,7 @@ impl<'a> Cursor<'a> {
     }
 
     /// So many numbers.
-    pub(crate) fn numbers(&mut self, count: u8) -> Option<Fields>
+    pub fn numbers(&mut self, count: u8) -> Option<Fields>
         requires { count ≤ 4 }
         ensures { Takes (reading.numbers count (left self.old)) result (left self.new) }
     {
@@ -63,7 +62,7 @@ impl<'a> Cursor<'a> {
     }
 
     /// What stands in front of a datagram.
-    pub(crate) fn preamble(&mut self) -> Option<Preamble>
+    pub fn preamble(&mut self) -> Option<Preamble>
         ensures { Takes (reading.preamble (left self.old)) (option_map preamble_tree result) (left self.new) }
     {
         let form = self.byte()?;
@@ -85,8 +84,7 @@ impl<'a> Cursor<'a> {
 
     /// The header of a place's layer, and whether it closes the chain.
     fn header(&mut self, stack: &Stack, place: u8) -> Option<(Header, bool)>
-        requires limits { IsWithinLimits (stack_tree stack.now) }
-        requires place { place < length (stack_tree stack.now) }
+        requires { place < length (stack_tree stack.now) }
         ensures { Takes (header_read (slice_index_or (stack_tree stack.now) place no_layer) place (left self.old)) result (left self.new) }
     {
         let tag = self.byte()?;
@@ -103,13 +101,13 @@ impl<'a> Cursor<'a> {
     }
 
     /// The headers of the layers from a place on, through the first that closes the chain.
-    pub(crate) fn chain(&mut self, stack: &Stack, place: u8, headers: &mut Headers) -> Option<()>
-        requires limits { IsWithinLimits (stack_tree stack.now) }
+    pub fn chain(&mut self, stack: &Stack, place: u8, headers: &mut Headers) -> Option<()>
         requires place { place ≤ length (stack_tree stack.now) }
         requires none { headers.old ≡ [] }
         ensures read { Takes (reading.chain (drop place (stack_tree stack.now)) place (left self.old)) (option_map (λ _. headers.new) result) (left self.new) }
         ensures few { IfSome result (λ _. length headers.new + place ≤ length (stack_tree stack.now)) }
     {
+        stack.is_within_limits();
         if place == stack.places() {
             return Some(());
         }

@@ -4,7 +4,6 @@ ghost use Rattle.std.specs.Prelude.{◌≡◌, ◌<◌, ◌≤◌, IfSome, lengt
 ghost use Rattle.event_graph.specs.Answer.{stack_tree};
 ghost use Rattle.layer_mean.specs.Headers.{declared};
 ghost use Rattle.layer_mean.specs.Tree.{no_layer};
-ghost use Rattle.packet_laws.specs.Lengths.{IsWithinLimits};
 ghost use Rattle.typed_layer.specs.View.{layer_tree};
 ghost use Rattle.packet_full.specs.Form.{form_of};
 
@@ -13,14 +12,15 @@ use typed_layer::TypedLayer;
 
 /// How many numbers a header has, and whether it closes the chain.
 #[derive(Clone, Copy)]
-pub(crate) struct Form {
-    pub(crate) fields: u8,
-    pub(crate) ends: bool,
+pub struct Form {
+    pub fields: u8,
+    pub ends: bool,
 }
 
 /// The header of a layer that a tag stands for; the header `none` has the tag 0.
 fn declared_form(layer: &TypedLayer, tag: u8) -> Option<Form>
-    ensures { result ≡ option_map form_of (declared (layer_tree layer.now) tag) }
+    ensures is { result ≡ option_map form_of (declared (layer_tree layer.now) tag) }
+    ensures few { IfSome result (λ form. form.fields ≤ 4) }
 {
     if tag == 0 {
         return Some(Form {
@@ -36,9 +36,8 @@ fn declared_form(layer: &TypedLayer, tag: u8) -> Option<Form>
 }
 
 /// The header of a place's layer that a tag stands for.
-pub(crate) fn form_at(stack: &Stack, place: u8, tag: u8) -> Option<Form>
-    requires limits { IsWithinLimits (stack_tree stack.now) }
-    requires place { place < length (stack_tree stack.now) }
+pub fn form_at(stack: &Stack, place: u8, tag: u8) -> Option<Form>
+    requires { place < length (stack_tree stack.now) }
     ensures is { result ≡ option_map form_of (declared (slice_index_or (stack_tree stack.now) place no_layer) tag) }
     ensures few { IfSome result (λ form. form.fields ≤ 4) }
 {

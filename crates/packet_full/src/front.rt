@@ -1,33 +1,33 @@
 //! What stands in front of a datagram, and whether it is meant for a member.
 
-ghost use Rattle.std.specs.Prelude.{◌≡◌, ◌==◌, ◌&&◌, ◌||◌, not, nat_lt};
+ghost use Rattle.std.specs.Prelude.{◌≡◌, ◌==◌, ◌&&◌, ◌||◌, not, nat_lt, IfOk};
 ghost use Rattle.msg_core.specs.View.{member_count as members_of};
 ghost use Rattle.packet_mean.specs.Reading as reading;
 ghost use Rattle.packet_mean.specs.Received as received;
 ghost use Rattle.packet_mean.specs.Spelling.{full_form, short_form};
-ghost use Rattle.packet_full.specs.Taking.{preamble_tree};
+ghost use Rattle.packet_full.specs.Taking.{IsOwn, preamble_tree};
 
 use msg_core::{Dest, Stray, View};
 use packet_mean::Here;
 
 /// The first byte of a full spelling.
-pub(crate) const FULL_FORM: u8 = 0xE5;
+pub const FULL_FORM: u8 = 0xE5;
 
 /// The first byte of a short spelling.
-pub(crate) const SHORT_FORM: u8 = 0xE6;
+pub const SHORT_FORM: u8 = 0xE6;
 
 /// The byte that stands for all members in place of a rank.
 pub(crate) const EVERYONE: u8 = 0xFF;
 
 /// The 19 bytes in front.
 #[derive(Clone, Copy)]
-pub(crate) struct Preamble {
-    pub(crate) form: u8,
-    pub(crate) group: u32,
-    pub(crate) stamp: u32,
-    pub(crate) view: View,
-    pub(crate) sender: u8,
-    pub(crate) dest: Dest,
+pub struct Preamble {
+    pub form: u8,
+    pub group: u32,
+    pub stamp: u32,
+    pub view: View,
+    pub sender: u8,
+    pub dest: Dest,
 }
 
 /// The destination that a byte names.
@@ -74,7 +74,8 @@ fn is_other(view: View, own: u8, rank: u8) -> bool
 
 /// Tells the first cause for which a datagram isn't meant for a member, by what stands in front.
 pub(crate) fn meant_for(here: &Here, front: &Preamble) -> Result<(), Stray>
-    ensures { result ≡ received.meant_for here.now (preamble_tree front.now) }
+    ensures cause { result ≡ received.meant_for here.now (preamble_tree front.now) }
+    ensures own { IfOk result (λ _. IsOwn here.now front.now) }
 {
     if front.group != here.group {
         return Err(Stray::Group);

@@ -1,9 +1,15 @@
-//! What is written is read again.
+//! How datagrams are read, and that what is written is read again.
 
 ghost use Rattle.packet_full.specs.Again.{WrittenIsRead};
+ghost use Rattle.packet_full.specs.Steps.{ReadInSteps};
 
 /// A packet that was written in full is read again by each member for which it is meant, whatever the member's rank, and refused by each
 /// other for the first cause for which it isn't.
 pub fn written_is_read()
     ensures { WrittenIsRead }
+{}
+
+/// A datagram of either form is read in three steps: what stands in front, the headers, and the body.
+pub fn read_in_steps()
+    ensures { ReadInSteps }
 {}

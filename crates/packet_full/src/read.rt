@@ -2,7 +2,6 @@
 
 ghost use Rattle.std.specs.Prelude.{◌≡◌, ◌++◌, ◌≤◌, [], IfOk, OnOk, length};
 ghost use Rattle.event_graph.specs.Answer.{stack_tree};
-ghost use Rattle.packet_laws.specs.Lengths.{IsWithinLimits};
 ghost use Rattle.packet_mean.specs.Received.{received};
 ghost use Rattle.packet_full.specs.Reads.{Reads};
 ghost use Rattle.packet_full.specs.Scanned.{packet_scanned};
@@ -33,7 +32,6 @@ pub fn read_full(
     here: &Here,
     bytes: &[u8],
 ) -> Result<Packet, ReadError>
-    requires { IsWithinLimits (stack_tree stack.now) }
     ensures { Reads (received (stack_tree stack.now) [] here.now bytes.now) result }
 {
     match scan_full(stack, here, bytes) {
@@ -43,7 +41,7 @@ pub fn read_full(
 }
 
 /// The packet that a scan tells of.
-fn packet_of(alloc: Global, here: &Here, bytes: &[u8], scan: Scan) -> Result<Packet, Memory>
+pub fn packet_of(alloc: Global, here: &Here, bytes: &[u8], scan: Scan) -> Result<Packet, Memory>
     requires { scan.body ≤ length bytes.now }
     ensures { IfOk result (λ packet. packet ≡ packet_scanned here.now bytes.now scan) }
 {

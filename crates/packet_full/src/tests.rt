@@ -1,9 +1,7 @@
 //! A datagram of two layers, cut and changed.
 
-ghost use Rattle.std.specs.Prelude.{◌≡◌, ◌<◌, ◌≤◌, [], All, IfOk, length};
+ghost use Rattle.std.specs.Prelude.{◌≡◌, ◌<◌, ◌≤◌, [], IfOk, length};
 ghost use Rattle.std.specs.Rc.{rc_value};
-ghost use Rattle.event_graph.specs.Answer.{stack_tree};
-ghost use Rattle.packet_laws.specs.Lengths.{IsWithinLimits};
 ghost use Rattle.typed_layer.specs.Places.{rc_tree};
 
 use crate::{read_full, scan_full, write_full};
@@ -21,7 +19,6 @@ fn layer(alloc: Global, fields: u8, ends: bool) -> Result<Rc<TypedLayer>, AllocE
     requires { fields ≤ 4 }
     ensures handlers { IfOk result (λ layer. (rc_tree layer).handlers ≡ []) }
     ensures count { IfOk result (λ layer. length (rc_value layer).headers.items ≤ 7) }
-    ensures fields { IfOk result (λ layer. All (λ header. header.fields ≤ 4) (rc_tree layer).headers) }
 {
     let header = HeaderForm {
         name: Word::of(b"said"),
@@ -38,9 +35,7 @@ fn layer(alloc: Global, fields: u8, ends: bool) -> Result<Rc<TypedLayer>, AllocE
 }
 
 /// A layer of one number below one whose header closes the chain.
-fn stack(alloc: Global) -> Result<Stack, StackError>
-    ensures { IfOk result (λ stack. IsWithinLimits (stack_tree stack)) }
-{
+fn stack(alloc: Global) -> Result<Stack, StackError> {
     let layers = vec![in alloc; layer(alloc, 1, false)?, layer(alloc, 0, true)?]?;
     accept(alloc, Typed::of(layers))
 }
@@ -53,9 +48,7 @@ const CAST: [u8; 27] = [
 const VIEW: View = View { ltime: 3, mask: 7 };
 
 /// What the member of rank 1 says of a datagram.
-fn refusal(stack: &Stack, bytes: &[u8]) -> Option<Stray>
-    requires { IsWithinLimits (stack_tree stack.now) }
-{
+fn refusal(stack: &Stack, bytes: &[u8]) -> Option<Stray> {
     let here = Here {
         group: 1,
         stamp: 2,
@@ -67,8 +60,7 @@ fn refusal(stack: &Stack, bytes: &[u8]) -> Option<Stray>
 
 /// What it says of the cast with another byte at a place.
 fn changed(stack: &Stack, place: usize, byte: u8) -> Option<Stray>
-    requires limits { IsWithinLimits (stack_tree stack.now) }
-    requires place { place < 27 }
+    requires { place < 27 }
 {
     let mut bytes = CAST;
     bytes[place] = byte;
@@ -76,9 +68,7 @@ fn changed(stack: &Stack, place: usize, byte: u8) -> Option<Stray>
 }
 
 /// What it says of the cast with so many bytes more.
-fn longer(alloc: Global, stack: &Stack, more: usize) -> Result<Option<Stray>, AllocError>
-    requires { IsWithinLimits (stack_tree stack.now) }
-{
+fn longer(alloc: Global, stack: &Stack, more: usize) -> Result<Option<Stray>, AllocError> {
     let mut bytes = Vec::new(alloc);
     bytes.extend_from_slice(&CAST)?;
     for _ in 0..more {

@@ -26,7 +26,7 @@ fn dest_byte(dest: Dest) -> u8
 }
 
 /// Puts a number behind the others, the highest byte first.
-fn put_number(number: u32, into: &mut Vec<u8>)
+pub fn put_number(number: u32, into: &mut Vec<u8>)
     requires { vec_len into.old + 4 ≤ vec_capacity into.old }
     ensures items { into.new.items ≡ into.old.items ++ spelling.number_bytes number }
     ensures len { vec_len into.new ≡ vec_len into.old + 4 }
@@ -39,14 +39,14 @@ fn put_number(number: u32, into: &mut Vec<u8>)
     into.push_reserved(fourth);
 }
 
-/// Puts what stands in front of a packet in full.
-fn put_preamble(packet: &Packet, into: &mut Vec<u8>)
+/// Puts what stands in front of a packet's spelling of a form: 19 bytes.
+pub fn put_preamble(form: u8, packet: &Packet, into: &mut Vec<u8>)
     requires { vec_len into.old + 19 ≤ vec_capacity into.old }
-    ensures items { into.new.items ≡ into.old.items ++ spelling.preamble_bytes spelling.full_form packet.now }
+    ensures items { into.new.items ≡ into.old.items ++ spelling.preamble_bytes form packet.now }
     ensures len { vec_len into.new ≡ vec_len into.old + 19 }
     ensures capacity { vec_capacity into.new ≡ vec_capacity into.old }
 {
-    into.push_reserved(FULL_FORM);
+    into.push_reserved(form);
     put_number(packet.group, into);
     put_number(packet.stamp, into);
     put_number(packet.view.ltime, into);
@@ -81,7 +81,7 @@ fn put_headers(message: &Message, into: &mut Vec<u8>)
 }
 
 /// Puts the bytes of a body.
-fn put_body(body: &[u8], into: &mut Vec<u8>)
+pub fn put_body(body: &[u8], into: &mut Vec<u8>)
     requires { vec_len into.old + length body.now ≤ vec_capacity into.old }
     ensures items { into.new.items ≡ into.old.items ++ body.now }
     ensures capacity { vec_capacity into.old ≤ vec_capacity into.new }
@@ -98,13 +98,13 @@ pub fn write_full_into(packet: &Packet, into: &mut Vec<u8>)
     ensures items { into.new.items ≡ into.old.items ++ spelling.full_bytes packet.now }
     ensures capacity { vec_capacity into.old ≤ vec_capacity into.new }
 {
-    put_preamble(packet, into);
+    put_preamble(FULL_FORM, packet, into);
     put_headers(&packet.message, into);
     put_body(packet.message.body(), into);
 }
 
 /// How much room a packet is given, where a number of 64 bits tells it.
-fn room_for(packet: &Packet) -> Option<usize>
+pub fn room_for(packet: &Packet) -> Option<usize>
     ensures some { IfSome result (λ room. room ≡ room_needed packet.now) }
     ensures none { IfNone result (2 ^ 64 ≤ room_needed packet.now) }
 {

@@ -1,0 +1,131 @@
+-- A datagram is what its three steps read.
+use Rattle.std.proofs.Common.{◌≡◌, ℕ, ◌-◌, ◌<◌, ◌≤◌, Bool, true, false, List, ◌++◌, Option, Some, None, refl, sym, ap, ◌∙◌, subst, arith, length, drop, length-append}
+use Rattle.std.specs.Prelude.{Result, Ok, Err, ok_or, nat_le, ◌==◌, ◌||◌}
+use Rattle.std.proofs.lemmas.Bool.{le-leb, leb-true}
+use Rattle.std.proofs.lemmas.List.{drop_at}
+use Rattle.msg_core.specs.Parts.{longest_body}
+use Rattle.msg_core.specs.declared.message.Header.{Header}
+use Rattle.msg_core.specs.declared.packet.Packet.{Packet}
+use Rattle.msg_core.specs.declared.packet.Stray.{Stray}
+use Rattle.msg_core.specs.declared.packet.Stray.TheVariants as cause
+use Rattle.layer_mean.specs.Tree.{LayerTree}
+use Rattle.stack_mean.specs.Plan.{Plan}
+use Rattle.packet_mean.specs.Reading as reading
+use Rattle.packet_mean.specs.Reading.{preamble, named_plan, headers}
+use Rattle.packet_mean.specs.Received.{◌>>=◌, unless, meant_for, packet_of, received}
+use Rattle.packet_mean.specs.Spelling.{full_form, short_form}
+use Rattle.packet_mean.specs.declared.here.Here.{Here}
+use Rattle.packet_full.specs.declared.front.Preamble.{Preamble}
+use Rattle.packet_full.specs.declared.scan.Scan.{Scan}
+use Rattle.packet_full.specs.Steps.{Closes, opened, contents, closed}
+use Rattle.packet_full.specs.Scanned.{Scans, packet_scanned}
+use Rattle.packet_full.specs.Taking.{IsOwn, preamble_tree}
+
+-- the headers and the body behind what stands in front
+abbrev inside : List LayerTree → List Plan → reading.Preamble × List ℕ → Result Packet Stray
+inside stack plans q = contents stack plans q.0 q.1 >>= closed q.0
+
+-- steps are joined in either way
+joined : {A B C : Type 0} (r : Result A Stray) (f : A → Result B Stray) (g : B → Result C Stray) →
+    (r >>= λ x. f x >>= g) ≡ ((r >>= f) >>= g)
+joined (Ok x) f g = refl
+joined (Err e) f g = refl
+
+behind_plan : (o : Option (List Header × List ℕ)) (p : reading.Preamble) →
+    (ok_or o cause.Chain >>= λ (headers, body). unless (nat_le (length body) longest_body) cause.Body >>= λ _. Ok (packet_of p headers body))
+    ≡ (ok_or o cause.Chain >>= closed p)
+unfolding closed
+behind_plan (Some (hs, body)) p = refl
+behind_plan None p = refl
+
+behind_front : (stack : List LayerTree) (p : reading.Preamble) (o : Option (Option Plan × List ℕ)) →
+    (ok_or o cause.Plan >>= λ (plan, behind). ok_or (headers stack plan behind) cause.Chain >>= λ (headers, body).
+    unless (nat_le (length body) longest_body) cause.Body >>= λ _. Ok (packet_of p headers body))
+    ≡ ((ok_or o cause.Plan >>= λ (plan, behind). ok_or (headers stack plan behind) cause.Chain) >>= closed p)
+behind_front stack p (Some (plan, behind)) = behind_plan (headers stack plan behind) p
+behind_front stack p None = refl
+
+behind_all : (stack : List LayerTree) (plans : List Plan) (here : Here) (o : Option (reading.Preamble × List ℕ)) →
+    (ok_or o cause.Short >>= λ (p, behind). unless ((p.form == full_form) || (p.form == short_form)) cause.Form >>= λ _. meant_for here p >>= λ _.
+    ok_or (named_plan plans p behind) cause.Plan >>= λ (plan, behind). ok_or (headers stack plan behind) cause.Chain >>= λ (headers, body).
+    unless (nat_le (length body) longest_body) cause.Body >>= λ _. Ok (packet_of p headers body))
+    ≡ ((ok_or o cause.Short >>= λ (p, behind). unless ((p.form == full_form) || (p.form == short_form)) cause.Form >>= λ _. meant_for here p >>= λ _.
+    Ok (p, behind)) >>= inside stack plans)
+unfolding contents
+behind_all stack plans here None = refl
+behind_all stack plans here (Some (p, behind)) = by_form ((p.form == full_form) || (p.form == short_form)) (meant_for here p)
+  where
+    by_form : (form : Bool) (meant : Result (Unit {0}) Stray) →
+        (unless form cause.Form >>= λ _. meant >>= λ _.
+        ok_or (named_plan plans p behind) cause.Plan >>= λ (plan, behind). ok_or (headers stack plan behind) cause.Chain >>= λ (headers, body).
+        unless (nat_le (length body) longest_body) cause.Body >>= λ _. Ok (packet_of p headers body))
+        ≡ ((unless form cause.Form >>= λ _. meant >>= λ _. Ok (p, behind)) >>= inside stack plans)
+    by_form false meant = refl
+    by_form true (Err e) = refl
+    by_form true (Ok x) = behind_front stack p (named_plan plans p behind)
+
+pub in_steps : (stack : List LayerTree) (plans : List Plan) (here : Here) (bytes : List ℕ) →
+    received stack plans here bytes ≡ (opened here bytes >>= inside stack plans)
+unfolding received opened
+in_steps stack plans here bytes = behind_all stack plans here (preamble bytes)
+
+-- a datagram that isn't opened is refused
+pub not_opened : (stack : List LayerTree) (plans : List Plan) (here : Here) (bytes : List ℕ) (e : Stray) → opened here bytes ≡ Err e →
+    received stack plans here bytes ≡ Err e
+not_opened stack plans here bytes e is = in_steps stack plans here bytes ∙ ap (λ r. r >>= inside stack plans) is
+
+-- one that is opened is what is behind
+pub behind_opened : (stack : List LayerTree) (plans : List Plan) (here : Here) (bytes : List ℕ) (p : reading.Preamble) (behind : List ℕ) →
+    opened here bytes ≡ Ok (p, behind) → received stack plans here bytes ≡ (contents stack plans p behind >>= closed p)
+behind_opened stack plans here bytes p behind is = in_steps stack plans here bytes ∙ ap (λ r. r >>= inside stack plans) is
+
+-- one whose headers aren't read is refused
+pub not_contents : (stack : List LayerTree) (plans : List Plan) (here : Here) (bytes : List ℕ) (p : reading.Preamble) (behind : List ℕ)
+    (e : Stray) → opened here bytes ≡ Ok (p, behind) → contents stack plans p behind ≡ Err e → received stack plans here bytes ≡ Err e
+not_contents stack plans here bytes p behind e is none =
+    behind_opened stack plans here bytes p behind is ∙ ap (λ r. r >>= closed p) none
+
+-- bytes end in a body, which is behind a place
+pub record EndsIn (bytes body : List ℕ) : Type 0 where
+  pub at : drop (length bytes - length body) bytes ≡ body
+  pub less : length body ≤ length bytes
+
+pub ends_in : (front body : List ℕ) → EndsIn (front ++ body) body
+ends_in front body =
+    let both = length-append front body in
+    record { at = drop_at front body (length (front ++ body) - length body) (omega arith); less = omega arith }
+
+not_leb : (a b : ℕ) (le : Bool) → nat_le a b ≡ le → b < a → le ≡ false
+not_leb a b true is more = let less = leb-true a b is in absurd (omega arith)
+not_leb a b false is more = refl
+
+-- one whose headers are read is what its close says
+pub closed_scan : (stack : List LayerTree) (plans : List Plan) (here : Here) (bytes : List ℕ) (front : Preamble) (behind : List ℕ)
+    (hs : List Header) (body : List ℕ) (result : Result Scan Stray) → opened here bytes ≡ Ok (preamble_tree front, behind) →
+    IsOwn here front → contents stack plans (preamble_tree front) behind ≡ Ok (hs, body) →
+    (length body ≤ longest_body → EndsIn bytes body) → Closes bytes front hs body result →
+    Scans here bytes (received stack plans here bytes) result
+unfolding closed
+closed_scan stack plans here bytes front behind hs body (Ok scan) is own read ends (short, tells) =
+    subst (λ s. received stack plans here bytes ≡ Ok (packet_scanned here bytes s)) (sym tells)
+    (behind_opened stack plans here bytes (preamble_tree front) behind is
+    ∙ ap (λ r. r >>= closed (preamble_tree front)) read
+    ∙ ap (λ b. unless b cause.Body >>= λ _. Ok (packet_of (preamble_tree front) hs body)) (le-leb (length body) longest_body short)
+    ∙ (λ x. Ok (record {
+      group = own.group x;
+      stamp = own.stamp x;
+      view = own.view x;
+      sender = front.sender;
+      dest = front.dest;
+      message = record { headers = hs; body = sym (ends short).at x };
+    })))
+closed_scan stack plans here bytes front behind hs body (Err e) is own read ends (long, tells) =
+    behind_opened stack plans here bytes (preamble_tree front) behind is
+    ∙ ap (λ r. r >>= closed (preamble_tree front)) read
+    ∙ ap (λ b. unless b cause.Body >>= λ _. Ok (packet_of (preamble_tree front) hs body)) (not_leb (length body) longest_body (nat_le (length body) longest_body) refl long)
+    ∙ ap Err (sym tells)
+
+-- where its body begins
+pub place_within : (bytes : List ℕ) (front : Preamble) (hs : List Header) (body : List ℕ) (scan : Scan) → Closes bytes front hs body (Ok scan) →
+    scan.body ≤ length bytes
+place_within bytes front hs body scan (short, tells) = subst (λ (s : Scan). s.body ≤ length bytes) (sym tells) (omega arith)

@@ -1,0 +1,69 @@
+//! The two ends of reading a datagram, whatever its form: what stands in front, and the body.
+
+ghost use Rattle.std.specs.Prelude.{◌≡◌, ◌==◌, ◌||◌, ◌-◌, ◌≤◌, true, IfOk, Some, length};
+ghost use Rattle.msg_core.specs.Parts.{longest_body};
+ghost use Rattle.packet_mean.specs.Reading.{preamble};
+ghost use Rattle.packet_mean.specs.Spelling.{full_form, short_form};
+ghost use Rattle.packet_full.specs.Steps.{Closes, Opens, opened};
+ghost use Rattle.packet_full.specs.Scanned.{IsBehind};
+ghost use Rattle.packet_full.specs.Taking.{IsOwn, left, preamble_tree};
+
+use crate::cursor::Cursor;
+use crate::front::{Preamble, is_form, meant_for};
+use crate::opened::Opened;
+use crate::scan::Scan;
+use msg_core::{Headers, Stray};
+use packet_mean::Here;
+
+/// The most bytes of a body.
+const LONGEST_BODY: usize = 8192;
+
+/// What stands in front of a datagram of one of the two forms that is meant for a member; or the first cause for which it isn't one.
+#[tactic(auto, unfolding(crate::specs::Steps::opened))]
+pub fn open<'a>(here: &Here, bytes: &'a [u8]) -> Result<Opened<'a>, Stray>
+    ensures front { Opens (opened here.now bytes.now) result }
+    ensures read { IfOk result (λ o. preamble bytes.now ≡ Some (preamble_tree o.front, left o.cursor)) }
+    ensures form { IfOk result (λ o. ((o.front.form == full_form) || (o.front.form == short_form)) ≡ true) }
+    ensures own { IfOk result (λ o. IsOwn here.now o.front) }
+{
+    let mut cursor = Cursor::on(bytes);
+    let Some(front) = cursor.preamble() else {
+        return Err(Stray::Short)
+    };
+    if !is_form(front.form) {
+        return Err(Stray::Form);
+    }
+    match meant_for(here, &front) {
+        Ok(()) => Ok(Opened { front, cursor }),
+        Err(cause) => Err(cause),
+    }
+}
+
+/// Where the bytes that are left of a datagram begin.
+fn body_place(bytes: &[u8], cursor: &Cursor<'_>) -> u32
+    requires { IsBehind (left cursor.now) bytes.now }
+    ensures place { result ≡ length bytes.now - length (left cursor.now) }
+{
+    (bytes.len() - cursor.len()) as u32
+}
+
+/// What a datagram says whose headers were read, the bytes that are left being its body; Err where that is too long.
+pub fn close(
+    bytes: &[u8],
+    front: &Preamble,
+    headers: Headers,
+    cursor: &Cursor<'_>,
+) -> Result<Scan, Stray>
+    requires { length (left cursor.now) ≤ longest_body → IsBehind (left cursor.now) bytes.now }
+    ensures { Closes bytes.now front.now headers (left cursor.now) result }
+{
+    if cursor.len() > LONGEST_BODY {
+        return Err(Stray::Body);
+    }
+    Ok(Scan {
+        sender: front.sender,
+        dest: front.dest,
+        headers,
+        body: body_place(bytes, cursor),
+    })
+}
