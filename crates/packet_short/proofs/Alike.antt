@@ -1,0 +1,127 @@
+-- Headers agree with a plan one behind the other.
+use Rattle.std.proofs.Common.{◌≡◌, ◌≢◌, ℕ, zero, suc, ◌+◌, ◌<◌, ◌≤◌, Bool, true, false, List, [], ◌∷◌, ◌++◌, Option, Some, None, refl, sym, ap, ◌∙◌, add-one, arith, length, drop, get_or, map}
+use Rattle.std.specs.Prelude.{◌==◌, ◌&&◌, bytes_eq, flat_map, if◌then◌else◌}
+use Rattle.std.proofs.Math.Seq.{drop-cons}
+use Rattle.std.proofs.lemmas.Bool.{eqb-true, eq-eqb}
+use Rattle.msg_core.specs.declared.message.Header.{Header}
+use Rattle.packet_mean.specs.Plan.{agree}
+use Rattle.packet_short.specs.Fits.{alike, behind}
+
+-- the first of those that are left
+pub left_at : {X : Type 0} (xs : List X) (k : ℕ) (x : X) → k < length xs → x ≡ get_or xs k x → drop k xs ≡ x ∷ drop (k + 1) xs
+left_at xs k x below is =
+    drop-cons xs k x below ∙ ap (λ y. y ∷ drop (suc k) xs) (sym is) ∙ ap (λ n. x ∷ drop n xs) (sym (add-one k))
+
+-- none are left
+pub none_left : {X : Type 0} (xs : List X) (k : ℕ) → length xs ≤ k → drop k xs ≡ []
+none_left [] zero past = refl
+none_left [] (suc k) past = refl
+none_left (x ∷ xs) zero past = absurd (omega arith)
+none_left (x ∷ xs) (suc k) past = none_left xs k (omega arith)
+
+-- whether further numbers agree behind some
+abbrev agreed : Option (List (Option ℕ)) → List ℕ → Bool
+agreed None more = false
+agreed (Some rest) more = agree rest more
+
+by_test : (same others : Bool) (rest : Option (List (Option ℕ))) (more : List ℕ) → others ≡ agreed rest more →
+    (same && others) ≡ agreed (if same then rest else None) more
+by_test true others rest more is = is
+by_test false others rest more is = refl
+
+agree_on : (planned : List (Option ℕ)) (numbers more : List ℕ) → agree planned (numbers ++ more) ≡ agreed (behind planned numbers) more
+agree_on planned [] more = refl
+agree_on [] (v ∷ numbers) more = refl
+agree_on (None ∷ planned) (v ∷ numbers) more = agree_on planned numbers more
+agree_on (Some c ∷ planned) (v ∷ numbers) more =
+    by_test (v == c) (agree planned (numbers ++ more)) (behind planned numbers) more (agree_on planned numbers more)
+
+never : (b : Bool) → (b && false) ≡ false
+never true = refl
+never false = refl
+
+pub no_same : (a b : ℕ) (same : Bool) → (a == b) ≡ same → a ≢ b → same ≡ false
+no_same a b true is other = absurd (other (eqb-true a b is))
+no_same a b false is other = refl
+
+-- a header behind the last tag
+pub no_tag : (tags : List ℕ) (planned : List (Option ℕ)) (hs : List Header) (k : ℕ) (h : Header) → k < length hs → h ≡ get_or hs k h →
+    tags ≡ [] → alike tags planned (drop k hs) ≡ false
+no_tag tags planned hs k h below is none = rw (none, left_at hs k h below is) refl
+
+-- a header of another tag
+pub other_tag : (tags : List ℕ) (t : ℕ) (ts : List ℕ) (planned : List (Option ℕ)) (hs : List Header) (k : ℕ) (h : Header) → k < length hs →
+    h ≡ get_or hs k h → tags ≡ t ∷ ts → t ≢ h.tag → alike tags planned (drop k hs) ≡ false
+other_tag tags t ts planned hs k h below is first other =
+    rw (first, left_at hs k h below is, no_same t h.tag (t == h.tag) refl other) refl
+
+-- a header whose fields don't agree
+pub disagrees : (tags : List ℕ) (planned : List (Option ℕ)) (hs : List Header) (k : ℕ) (h : Header) → k < length hs → h ≡ get_or hs k h →
+    None ≡ behind planned h.fields → alike tags planned (drop k hs) ≡ false
+disagrees tags planned hs k h below is none =
+    rw (left_at hs k h below is, agree_on planned h.fields (flat_map (λ h. h.fields) (drop (k + 1) hs)), ← none)
+    (never (bytes_eq tags (map (λ h. h.tag) (h ∷ drop (k + 1) hs))))
+
+-- a header as planned
+pub agrees_on : (tags : List ℕ) (t : ℕ) (ts : List ℕ) (planned rest : List (Option ℕ)) (hs : List Header) (k : ℕ) (h : Header) → k < length hs →
+    h ≡ get_or hs k h → tags ≡ t ∷ ts → t ≡ h.tag → Some rest ≡ behind planned h.fields →
+    alike ts rest (drop (k + 1) hs) ≡ alike tags planned (drop k hs)
+agrees_on tags t ts planned rest hs k h below is first same some =
+    sym (rw (
+      first,
+      left_at hs k h below is,
+      agree_on planned h.fields (flat_map (λ h. h.fields) (drop (k + 1) hs)),
+      ← some,
+      eq-eqb t h.tag same,
+    ) refl)
+
+-- all are as planned where nothing more is
+agree_none : (planned : List (Option ℕ)) → planned ≢ [] → agree planned [] ≡ false
+agree_none [] some = absurd (some refl)
+agree_none (Some c ∷ planned) some = refl
+agree_none (None ∷ planned) some = refl
+
+pub all_agree : (tags : List ℕ) (planned : List (Option ℕ)) (left : List Header) → left ≡ [] → tags ≡ [] → planned ≡ [] →
+    alike tags planned left ≡ true
+all_agree tags planned left none no_tags no_fields = rw (none, no_tags, no_fields) refl
+
+tags_left : (tags : List ℕ) → tags ≢ [] → bytes_eq tags [] ≡ false
+tags_left [] some = absurd (some refl)
+tags_left (t ∷ ts) some = refl
+
+pub tags_over : (tags : List ℕ) (planned : List (Option ℕ)) (left : List Header) → left ≡ [] → tags ≢ [] → alike tags planned left ≡ false
+tags_over tags planned left none some = rw (none, tags_left tags some) refl
+
+pub fields_over : (tags : List ℕ) (planned : List (Option ℕ)) (left : List Header) → left ≡ [] → planned ≢ [] → alike tags planned left ≡ false
+fields_over tags planned left none some = rw (none, agree_none planned some) (never (bytes_eq tags []))
+
+-- a field behind the last planned one
+pub none_behind : (planned : List (Option ℕ)) (fields : List ℕ) (k : ℕ) → k < length fields → planned ≡ [] → behind planned (drop k fields) ≡ None
+none_behind planned fields k below none = rw (none, left_at fields k (get_or fields k 0) below (sym (get_or_same fields k below))) refl
+  where
+    get_or_same : (xs : List ℕ) (k : ℕ) → k < length xs → get_or xs k (get_or xs k 0) ≡ get_or xs k 0
+    get_or_same [] k below = absurd (omega arith)
+    get_or_same (x ∷ xs) zero below = refl
+    get_or_same (x ∷ xs) (suc k) below = get_or_same xs k (omega arith)
+
+-- nothing more is planned, or something is
+pub ends_alike : (tags : List ℕ) (planned : List (Option ℕ)) (left : List Header) (empty : Bool) → left ≡ [] → true ≡ (length tags == 0) →
+    empty ≡ (length planned == 0) → empty ≡ alike tags planned left
+ends_alike tags planned left empty none no_tags is = rw (none, no_bytes tags (sym no_tags)) (is ∙ sym (no_fields planned))
+  where
+    some : (n m : ℕ) → n ≡ suc m → (n == 0) ≡ false
+    some n m is = no_same n 0 (n == 0) refl (λ none. absurd (omega arith))
+
+    no_bytes : (tags : List ℕ) → (length tags == 0) ≡ true → bytes_eq tags [] ≡ true
+    no_bytes [] is = refl
+    no_bytes (t ∷ ts) is = let clash = sym is ∙ some (length (t ∷ ts)) (length ts) (omega arith) in absurd (cc clash)
+
+    no_fields : (planned : List (Option ℕ)) → agree planned [] ≡ (length planned == 0)
+    no_fields [] = refl
+    no_fields (Some c ∷ planned) = sym (some (length (Some c ∷ planned)) (length planned) (omega arith))
+    no_fields (None ∷ planned) = sym (some (length {A = Option ℕ} (None ∷ planned)) (length planned) (omega arith))
+
+-- a list without elements
+pub empty_list : {X : Type 0} (xs : List X) → length xs ≡ 0 → xs ≡ []
+empty_list [] none = refl
+empty_list (x ∷ xs) none = absurd (omega arith)

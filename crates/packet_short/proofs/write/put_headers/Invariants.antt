@@ -1,0 +1,13 @@
+use Rattle.std.proofs.Common.{◌≡◌, ◌+◌, ◌*◌, ◌≤◌, ◌++◌, drop, vec_len, vec_capacity}
+use Rattle.std.specs.Prelude.{flat_map}
+use Rattle.packet_mean.specs.Plan.{variable}
+use Rattle.packet_mean.specs.Spelling.{number_bytes}
+use Rattle.packet_short.proofs.write.put_headers.Given as goal
+
+abbrev pub invariant-loop-number : goal.invariant-loop-number
+invariant-loop-number l = record {
+  items : l.fn.into.items ++ flat_map number_bytes (variable l.plan.fields.items (flat_map (λ h. h.fields) l.message.headers))
+      ≡ l.into.items ++ flat_map number_bytes (variable l.left (flat_map (λ h. h.fields) (drop l.number l.message.headers)));
+  len : vec_len l.into ≤ vec_len l.fn.into + 16 * l.number;
+  capacity : vec_capacity l.into ≡ vec_capacity l.fn.into;
+}

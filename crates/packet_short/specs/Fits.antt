@@ -1,0 +1,24 @@
+-- Which plans headers fit.
+use Rattle.std.specs.Prelude.{ℕ, ◌==◌, ◌&&◌, Bool, bytes_eq, if◌then◌else◌, List, [], ◌∷◌, map, flat_map, Option, Some, None}
+use denote.Enum.Bare.{sameb}
+use Rattle.msg_core.specs.declared.message.Header.{Header}
+use Rattle.layer_ast.specs.contracts.tokens.Kind as kind_row
+use Rattle.layer_ast.specs.declared.tokens.Kind.{Kind}
+use Rattle.packet_mean.specs.Plan.{agree}
+use Rattle.stack_mean.specs.Plan.{Plan}
+
+-- Headers have these tags, and fields as planned.
+abbrev pub alike : (tags : List ℕ) (planned : List (Option ℕ)) → List Header → Bool
+alike tags planned headers = bytes_eq tags (map (λ h. h.tag) headers) && agree planned (flat_map (λ h. h.fields) headers)
+
+-- Headers of a packet of a kind are as a plan says.
+abbrev pub fits_headers : Kind → List Header → Plan → Bool
+fits_headers kind headers plan =
+    sameb kind_row.the_type plan.kind kind && bytes_eq plan.tags (map (λ h. h.tag) headers) && agree plan.fields (flat_map (λ h. h.fields) headers)
+
+-- The planned fields behind those of some numbers, if the numbers agree with theirs.
+abbrev pub behind : (planned : List (Option ℕ)) (numbers : List ℕ) → Option (List (Option ℕ))
+behind planned [] = Some planned
+behind (Some constant ∷ planned) (v ∷ numbers) = if v == constant then behind planned numbers else None
+behind (None ∷ planned) (v ∷ numbers) = behind planned numbers
+behind [] (v ∷ numbers) = None

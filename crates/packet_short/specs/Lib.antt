@@ -1,0 +1,6 @@
+pub mod Again
+pub mod Carried
+pub mod Contents
+pub mod Dealing
+pub mod Fits
+pub mod Shortened

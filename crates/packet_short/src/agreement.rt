@@ -1,0 +1,60 @@
+//! Whether headers are as a plan says.
+
+ghost use Rattle.std.specs.Prelude.{◌≡◌, ◌∷◌, [], option_map};
+ghost use Rattle.packet_mean.specs.Plan.{agree};
+ghost use Rattle.packet_short.specs.Carried.{headers_in};
+ghost use Rattle.packet_short.specs.Fits.{alike, behind};
+
+use crate::carried::Carried;
+use msg_core::Fields;
+use packet_plans::Plan;
+
+/// Whether a number is as planned.
+fn agrees(planned: Option<u32>, number: u32) -> bool
+    ensures { result ≡ agree (planned ∷ []) (number ∷ []) }
+{
+    match planned {
+        Some(constant) => number == constant,
+        None => true,
+    }
+}
+
+/// The planned fields behind those of a header, if its fields agree with theirs.
+fn behind<'a>(planned: &'a [Option<u32>], fields: &Fields) -> Option<&'a [Option<u32>]>
+    ensures { option_map (λ rest. rest.now) result ≡ behind planned.now fields.now }
+{
+    let mut left = planned;
+    for place in 0..fields.len() {
+        let Some((first, rest)) = left.split_first() else {
+            return None
+        };
+        if !agrees(*first, fields.at(place)) {
+            return None;
+        }
+        left = rest;
+    }
+    Some(left)
+}
+
+/// Whether headers have a plan's tags, and fields as planned.
+pub(crate) fn is_alike(plan: &Plan, headers: &Carried<'_>) -> bool
+    ensures { result ≡ alike plan.now.tags.items plan.now.fields.items (headers_in headers.now) }
+{
+    let mut tags = plan.tags.as_slice();
+    let mut fields = plan.fields.as_slice();
+    for place in 0..headers.len() {
+        let header = headers.at(place);
+        let Some((tag, more)) = tags.split_first() else {
+            return false
+        };
+        if *tag != header.tag {
+            return false;
+        }
+        let Some(rest) = behind(fields, &header.fields) else {
+            return false
+        };
+        tags = more;
+        fields = rest;
+    }
+    tags.is_empty() && fields.is_empty()
+}
