@@ -1,0 +1,8 @@
+//! What a step of a member deals with: the views of its group, and why it refuses what it is given.
+#![tactic(auto)]
+
+mod refusal;
+mod views;
+
+pub use refusal::Refusal;
+pub use views::{MOST_MEMBERS, next_view, rank};
