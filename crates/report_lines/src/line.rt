@@ -1,0 +1,89 @@
+//! A line of text as it is built up.
+
+ghost use Rattle.std.specs.Prelude.{◌≡◌, ◌++◌, ◌∷◌, [], OnOk};
+ghost use Rattle.std.specs.Fmt.{decimal};
+ghost use Rattle.script_mean.specs.EventText.{hex_text};
+
+use itoa::Buffer;
+use msg_core::Memory;
+use std::alloc::Global;
+use std::marker::Model;
+
+/// The bytes of a line, which contracts see as a list. Its memory is kept from line to line.
+#[derive(Drop)]
+pub struct Line {
+    bytes: Vec<u8>,
+}
+
+impl Model for Line {
+    ghost use Rattle.std.specs.Prelude.{ℕ, List};
+
+    ghost Value = { List ℕ };
+
+    ghost view = { λ l. l.bytes.items };
+}
+
+impl Line {
+    /// An empty line, which takes no memory yet.
+    pub fn new(alloc: Global) -> Line
+        ensures { result ≡ [] }
+    {
+        Line {
+            bytes: Vec::new(alloc),
+        }
+    }
+
+    /// Empties the line.
+    pub fn clear(&mut self)
+        ensures { self.new ≡ [] }
+    {
+        self.bytes.clear();
+    }
+
+    pub fn slice(&self) -> &[u8]
+        ensures { result.now ≡ self.now }
+    {
+        self.bytes.as_slice()
+    }
+
+    /// Appends these bytes.
+    pub fn text(&mut self, text: &[u8]) -> Result<(), Memory>
+        ensures { OnOk result (self.new ≡ self.old ++ text.now) }
+    {
+        self.bytes.extend_from_slice(text)?;
+        Ok(())
+    }
+
+    /// Appends a number in decimal.
+    pub fn number(&mut self, number: u64) -> Result<(), Memory>
+        ensures { OnOk result (self.new ≡ self.old ++ decimal number) }
+    {
+        let mut buffer = Buffer::new();
+        self.text(buffer.format(number).as_bytes())
+    }
+
+    /// Appends a number of 32 bits in decimal, and a space in front.
+    pub fn spaced(&mut self, number: u32) -> Result<(), Memory>
+        ensures { OnOk result (self.new ≡ self.old ++ 32 ∷ decimal number) }
+    {
+        self.text(b" ")?;
+        self.number(u64::from(number))
+    }
+
+    /// Appends bytes in hexadecimal, or `-` for none.
+    pub fn hex(&mut self, bytes: &[u8]) -> Result<(), Memory>
+        ensures { OnOk result (self.new ≡ self.old ++ hex_text bytes.now) }
+    {
+        if bytes.is_empty() {
+            return self.text(b"-");
+        }
+        let start = self.bytes.len();
+        let digits = bytes.len().checked_mul(2).ok_or(Memory)?;
+        let end = start.checked_add(digits).ok_or(Memory)?;
+        self.bytes.resize(end, 0)?;
+        match hex::encode_to_slice(bytes, &mut self.bytes[start..]) {
+            Ok(()) => Ok(()),
+            Err(_) => unreachable!(),
+        }
+    }
+}

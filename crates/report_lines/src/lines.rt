@@ -1,0 +1,224 @@
+//! Single lines. Each ends with a line feed.
+
+ghost use Rattle.std.specs.Prelude.{◌≡◌, ◌++◌, OnOk, codes};
+ghost use Rattle.std.specs.Fmt.{decimal};
+ghost use Rattle.event_graph.specs.Answer.{stack_tree};
+ghost use Rattle.run_mean.specs.Lines as report;
+ghost use Rattle.view_core.specs.Refusals.{refusal_meant};
+ghost use Rattle.report_lines.specs.Deliveries.{contents_text, delivery_text, packet_text};
+
+use crate::chain::push_chain;
+use crate::line::Line;
+use event_graph::Stack;
+use msg_core::{Dest, Headers, Memory, Stray, View};
+use view_core::Refusal;
+
+/// How a message came to a member: cast to all, or sent to it.
+#[derive(Clone, Copy, Debug, PartialEq, Eq)]
+pub enum Delivery {
+    Cast,
+    Send,
+}
+
+/// Appends a word, and a number of 32 bits behind a space.
+fn push_word(line: &mut Line, word: &[u8], id: u8) -> Result<(), Memory>
+    ensures { OnOk result (line.new ≡ line.old ++ word.now ++ codes " " ++ decimal id) }
+{
+    line.text(word)?;
+    line.spaced(u32::from(id))
+}
+
+/// `deliver M cast P HEX` and `deliver M send P HEX`: a delivery at member M from rank P.
+pub fn deliver_line(
+    line: &mut Line,
+    id: u8,
+    delivery: Delivery,
+    peer: u32,
+    body: &[u8],
+) -> Result<(), Memory>
+    ensures { OnOk result (line.new ≡ line.old ++ report.deliver_line id (delivery_text delivery) peer body.now) }
+{
+    push_word(line, b"deliver", id)?;
+    match delivery {
+        Delivery::Cast => line.text(b" cast")?,
+        Delivery::Send => line.text(b" send")?,
+    }
+    line.spaced(peer)?;
+    line.text(b" ")?;
+    line.hex(body)?;
+    line.text(b"\n")
+}
+
+/// `WORD M A`
+fn number_line(line: &mut Line, word: &[u8], id: u8, a: u32) -> Result<(), Memory>
+    ensures { OnOk result (line.new ≡ line.old ++ report.number_line word.now id a) }
+{
+    push_word(line, word, id)?;
+    line.spaced(a)?;
+    line.text(b"\n")
+}
+
+/// `block M A`
+pub fn block_line(line: &mut Line, id: u8, a: u32) -> Result<(), Memory>
+    ensures { OnOk result (line.new ≡ line.old ++ report.number_line (codes "block") id a) }
+{
+    number_line(line, b"block", id, a)
+}
+
+/// `announce M A`: the ranks of a next view, as bits.
+pub fn announce_line(line: &mut Line, id: u8, ranks: u32) -> Result<(), Memory>
+    ensures { OnOk result (line.new ≡ line.old ++ report.number_line (codes "announce") id ranks) }
+{
+    number_line(line, b"announce", id, ranks)
+}
+
+/// `timer M A`: a moment of the member's clock that is asked for.
+pub fn timer_line(line: &mut Line, id: u8, moment: u32) -> Result<(), Memory>
+    ensures { OnOk result (line.new ≡ line.old ++ report.number_line (codes "timer") id moment) }
+{
+    number_line(line, b"timer", id, moment)
+}
+
+/// Whom a packet is for: `all`, or a rank.
+fn push_dest(line: &mut Line, dest: Dest) -> Result<(), Memory>
+    ensures { OnOk result (line.new ≡ line.old ++ report.dest_text dest) }
+{
+    match dest {
+        Dest::All => line.text(b"all"),
+        Dest::Rank(rank) => line.number(u64::from(rank)),
+    }
+}
+
+/// Appends ` CHAIN HEX` and a line feed.
+fn push_contents(
+    line: &mut Line,
+    stack: &Stack,
+    headers: &Headers,
+    body: &[u8],
+) -> Result<(), Memory>
+    ensures { OnOk result (line.new ≡ line.old ++ contents_text (stack_tree stack.now) headers.now body.now) }
+{
+    line.text(b" ")?;
+    push_chain(line, stack, headers)?;
+    line.text(b" ")?;
+    line.hex(body)?;
+    line.text(b"\n")
+}
+
+/// `packet K M D CHAIN HEX`: packet K of member M, with its headers by name.
+pub fn packet_line(
+    line: &mut Line,
+    stack: &Stack,
+    number: u64,
+    id: u8,
+    dest: Dest,
+    headers: &Headers,
+    body: &[u8],
+) -> Result<(), Memory>
+    ensures { OnOk result (line.new ≡ line.old ++ packet_text (stack_tree stack.now) number id dest headers.now body.now) }
+{
+    line.text(b"packet ")?;
+    line.number(number)?;
+    line.spaced(u32::from(id))?;
+    line.text(b" ")?;
+    push_dest(line, dest)?;
+    push_contents(line, stack, headers, body)
+}
+
+/// `wire K HEX`: the bytes of packet K as it is sent.
+pub fn wire_line(line: &mut Line, number: u64, bytes: &[u8]) -> Result<(), Memory>
+    ensures { OnOk result (line.new ≡ line.old ++ report.wire_line number bytes.now) }
+{
+    line.text(b"wire ")?;
+    line.number(number)?;
+    line.text(b" ")?;
+    line.hex(bytes)?;
+    line.text(b"\n")
+}
+
+/// `WORD M LTIME MASK`
+fn push_view(line: &mut Line, word: &[u8], id: u8, view: View) -> Result<(), Memory>
+    ensures { OnOk result (line.new ≡ line.old ++ report.view_line word.now id view) }
+{
+    push_word(line, word, id)?;
+    line.spaced(view.ltime)?;
+    line.spaced(view.mask)?;
+    line.text(b"\n")
+}
+
+/// `view M LTIME MASK`: the view that a member installs.
+pub fn view_line(line: &mut Line, id: u8, view: View) -> Result<(), Memory>
+    ensures { OnOk result (line.new ≡ line.old ++ report.view_line (codes "view") id view) }
+{
+    push_view(line, b"view", id, view)
+}
+
+/// `state M LTIME MASK`: the view that a member is in.
+pub fn state_line(line: &mut Line, id: u8, view: View) -> Result<(), Memory>
+    ensures { OnOk result (line.new ≡ line.old ++ report.view_line (codes "state") id view) }
+{
+    push_view(line, b"state", id, view)
+}
+
+/// `out M`: a member leaves its group.
+pub fn out_line(line: &mut Line, id: u8) -> Result<(), Memory>
+    ensures { OnOk result (line.new ≡ line.old ++ report.out_line id) }
+{
+    push_word(line, b"out", id)?;
+    line.text(b"\n")
+}
+
+/// `state M out`: a member is in no view.
+pub fn state_out_line(line: &mut Line, id: u8) -> Result<(), Memory>
+    ensures { OnOk result (line.new ≡ line.old ++ report.state_out_line id) }
+{
+    push_word(line, b"state", id)?;
+    line.text(b" out\n")
+}
+
+/// A cause in lower case.
+fn stray_text(cause: Stray) -> &'static [u8]
+    ensures { result.now ≡ report.stray_text cause }
+{
+    match cause {
+        Stray::Short => b"short",
+        Stray::Form => b"form",
+        Stray::Group => b"group",
+        Stray::Stamp => b"stamp",
+        Stray::View => b"view",
+        Stray::Sender => b"sender",
+        Stray::Dest => b"dest",
+        Stray::Plan => b"plan",
+        Stray::Chain => b"chain",
+        Stray::Body => b"body",
+    }
+}
+
+fn cause_text(refusal: Refusal) -> &'static [u8]
+    ensures { result.now ≡ report.cause_text (refusal_meant refusal) }
+{
+    match refusal {
+        Refusal::Out => b"out",
+        Refusal::TooBig => b"big",
+        Refusal::Stray(cause) => stray_text(cause),
+    }
+}
+
+/// `refused M CAUSE`
+pub fn refused_line(line: &mut Line, id: u8, refusal: Refusal) -> Result<(), Memory>
+    ensures { OnOk result (line.new ≡ line.old ++ report.refused_line id (refusal_meant refusal)) }
+{
+    push_word(line, b"refused", id)?;
+    line.text(b" ")?;
+    line.text(cause_text(refusal))?;
+    line.text(b"\n")
+}
+
+/// `absent M K`: packet K, which is to be given to member M, isn't there.
+pub fn absent_line(line: &mut Line, id: u8, number: u32) -> Result<(), Memory>
+    ensures { OnOk result (line.new ≡ line.old ++ report.absent_line id number) }
+{
+    push_word(line, b"absent", id)?;
+    line.spaced(number)?;
+    line.text(b"\n")
+}
