@@ -12,8 +12,6 @@ mod search;
 mod stack;
 mod steady;
 mod table;
-#[cfg(test)]
-mod tests;
 
 pub use acceptance::accept;
 pub use error::StackError;

@@ -39,7 +39,7 @@ mod std_sink;
 
 pub use clock::Clock;
 pub use datagram::Datagram;
-pub use file_shelf::FileShelf;
+pub use file_shelf::{FileShelf, read_stream};
 pub use links::{Fate, LinkError, Links, MOST_BYTES, Peer};
 pub use mem_clock::MemClock;
 pub use mem_links::MemLinks;
@@ -50,6 +50,3 @@ pub use run_clock::RunClock;
 pub use shelf::{Got, Shelf, ShelfError};
 pub use sink::{Sink, SinkError};
 pub use std_sink::StdSink;
-
-#[cfg(test)]
-mod tests;

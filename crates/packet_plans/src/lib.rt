@@ -7,8 +7,6 @@ mod list;
 mod plan;
 mod plans;
 mod print;
-#[cfg(test)]
-mod tests;
 mod types;
 
 pub use kept::Plans;

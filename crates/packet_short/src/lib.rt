@@ -10,8 +10,6 @@ mod laws;
 mod planned;
 mod read;
 mod scan;
-#[cfg(test)]
-mod tests;
 mod write;
 
 pub use error::{NotFitting, ShortError};

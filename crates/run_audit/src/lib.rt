@@ -13,8 +13,6 @@ mod parts;
 mod places;
 mod report;
 mod segments;
-#[cfg(test)]
-mod tests;
 mod values;
 
 pub use crate::error::AuditError;

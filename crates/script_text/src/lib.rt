@@ -13,8 +13,6 @@ mod plan_line;
 mod reading;
 mod seed;
 mod splits;
-#[cfg(test)]
-mod tests;
 mod values;
 mod words;
 

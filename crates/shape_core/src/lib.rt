@@ -7,8 +7,6 @@ mod draw;
 mod error;
 mod header;
 mod sketch;
-#[cfg(test)]
-mod tests;
 mod types;
 mod visit;
 mod walk;

@@ -8,6 +8,3 @@ mod links;
 mod member;
 
 pub use links::UdpLinks;
-
-#[cfg(test)]
-mod tests;

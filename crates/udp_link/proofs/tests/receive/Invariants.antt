@@ -1,5 +1,0 @@
-use Rattle.std.proofs.Common.{◌≡◌, ℕ}
-use Rattle.udp_link.proofs.tests.receive.Given as goal
-
-abbrev pub invariant-turns : goal.invariant-turns
-invariant-turns g l = (m : ℕ) → g.N.Links.listening l.links m ≡ g.N.Links.listening l.initial.links m
