@@ -1,17 +1,19 @@
 -- How the room of a desk is spent, and what it means where there is none.
-use Rattle.std.specs.Prelude.{◌≡◌, ℕ, ◌+◌, ◌<◌, ◌≤◌, List, Result, Ok, Err}
+use Rattle.std.specs.Prelude.{◌≡◌, ℕ, ◌+◌, ◌<◌, ◌≤◌, List, Option, Result, Ok, Err}
 use Rattle.slot_pool.specs.Held.{Held}
+use Rattle.layer_ast.specs.declared.syntax.Shape.{Shape}
 use Rattle.layer_desk.specs.Need.{Layout, Room, Need, most_above}
 use Rattle.layer_desk.specs.declared.no_room.NoRoom.{NoRoom}
 use Rattle.layer_desk.specs.declared.no_room.NoRoom.TheVariants as lack
 
--- The pool as a visit found it, the references that the desk had then, what the desk is made for, and how many events the list keeps
--- to which it adds those that it sends.
+-- The pool as a visit found it, the references that the desk had then, what the desk is made for, how many events the list keeps
+-- to which it adds those that it sends, and what its cells are.
 pub record Begun : Type 0 where
   pub pool : List Held
   pub refs : List ℕ
   pub layout : Layout
   pub list : ℕ
+  pub forms : List (Shape × Option ℕ)
 
 -- At most this was spent of the room, and the hand has as many places as before.
 pub record SpentAtMost (old new : Room) (n : Need) : Type 0 where

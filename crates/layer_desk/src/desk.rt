@@ -1,10 +1,11 @@
 //! The operations of a desk.
 
-ghost use Rattle.std.specs.Prelude.{◌≡◌, ℕ, ◌+◌, List, [], true, length, slice_index, slice_index_or, OnOk, IfOk, Some, None};
+ghost use Rattle.std.specs.Prelude.{◌≡◌, ℕ, ◌+◌, List, [], true, length, slice_index, slice_index_or, OnOk, IfOk, Option, Some, None};
 ghost use Rattle.slot_pool.specs.Held.{Held};
 ghost use Rattle.slot_pool.specs.References.{Moved};
 ghost use Rattle.msg_core.specs.Chain.{plain};
 ghost use Rattle.msg_core.specs.Parts as parts;
+ghost use Rattle.layer_ast.specs.declared.syntax.Shape.{Shape};
 ghost use Rattle.layer_mean.specs.State.{number_at, flat_index, rows_at, row_at, has_room};
 ghost use Rattle.layer_mean.specs.Value.{number_in, message_in};
 ghost use Rattle.typed_layer.specs.View.{carried_tree, taken_tree};
@@ -31,6 +32,7 @@ impl Start for Brand {
       refs = [];
       layout = record { rows = []; numbers = 0; messages = 0; hand = 0; places = 0 };
       list = 0;
+      forms = [];
     } };
 }
 
@@ -45,6 +47,9 @@ pub trait Desk {
 
     /// How many events the list keeps to which the desk adds those that it sends.
     ghost list: { Self → ℕ };
+
+    /// What its cells are, which no operation changes: the shape of each, and the capacity where it has queues.
+    ghost forms: { Self → List (Shape × Option ℕ) };
 
     /// Since this beginning the references of the desk, and no others, have moved in the pool; and the desk is in order.
     ghost ready: { Begun → List Held → Self → Type 0 };

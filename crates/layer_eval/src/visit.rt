@@ -29,7 +29,7 @@ pub fn take_event<D: Desk>(
     desk: &mut D,
     pool: &mut Pool,
 ) -> Predicted
-    requires ready { D.ready (record { pool = pool.old; refs = D.refs desk.old; layout = D.layout desk.old; list = D.list desk.old }) pool.old desk.old }
+    requires ready { D.ready (record { pool = pool.old; refs = D.refs desk.old; layout = D.layout desk.old; list = D.list desk.old; forms = D.forms desk.old }) pool.old desk.old }
     requires room { Suffices (D.free pool.old desk.old)
         (needed (D.layout desk.old) (layer_tree layer.now) direction envelope (D.shown pool.old desk.old)) }
 
@@ -45,7 +45,7 @@ pub fn take_event<D: Desk>(
     ensures moved { Moved pool.old pool.new (D.refs desk.old) (D.refs desk.new) }
     ensures layout { D.layout desk.new ≡ D.layout desk.old }
     ensures list { D.list desk.new ≡ D.list desk.old }
-    ensures ready { D.ready (record { pool = pool.old; refs = D.refs desk.old; layout = D.layout desk.old; list = D.list desk.old }) pool.new desk.new }
+    ensures ready { D.ready (record { pool = pool.old; refs = D.refs desk.old; layout = D.layout desk.old; list = D.list desk.old; forms = D.forms desk.old }) pool.new desk.new }
 {
     match take_from::<Brand, D>(place, layer, direction, envelope, desk, pool) {
         Ok(says) => says,

@@ -9,7 +9,9 @@ ghost use Rattle.layer_mean.specs.Visit.{step};
 ghost use Rattle.layer_desk.specs.Need.{most_above};
 ghost use Rattle.layer_eval.specs.Did.{as_predicted};
 ghost use Rattle.pool_message.specs.Seen.{event_refs, event_seen, EventLies};
+ghost use Rattle.layer_stage.specs.Kept.{messages_kept};
 ghost use Rattle.layer_stage.specs.Room.{slots_needed, places_needed, headers_met, most_counted, most_kept, CountsWithin};
+ghost use Rattle.layer_stage.specs.Taken.{one_more};
 ghost use Rattle.pool_message.specs.Sent.{sent_refs, sent_seen, SentLie};
 
 use layer_ast::Dir;
@@ -33,7 +35,11 @@ pub trait Stage {
     /// Its state, with the bodies that the pool holds.
     ghost state: { List Held → Self → State };
 
+    /// How many events it took, held at 2^64 - 1.
+    ghost taken: { Self → ℕ };
+
     /// The layer takes an event: its state, what it sends, behind what `out` has, and whether it decided as predicted are those of a visit.
+    /// It then took one event more.
     fn take(
         &mut self,
         pool: &mut Pool,
@@ -64,7 +70,8 @@ pub trait Stage {
         ensures ready { ready pool.new self.new }
         ensures out { SentLie pool.new out.new.items }
         ensures place { place self.new ≡ place self.old }
-        ensures layer { layer self.new ≡ layer self.old };
+        ensures layer { layer self.new ≡ layer self.old }
+        ensures taken { taken self.new ≡ one_more (taken self.old) };
 
     /// Where other references move, it stays as it is.
     ghost frame: { (p q : List Held) (a b : List ℕ) (s : Self) → Moved p q a b → Covers p (a ++ refs s) → ready p s →
@@ -72,4 +79,7 @@ pub trait Stage {
 
     /// It has at most so many references.
     ghost few: { (p : List Held) (s : Self) → ready p s → length (refs s) ≤ most_kept };
+
+    /// It has no more references than there are rows with messages in its state.
+    ghost kept: { (p : List Held) (s : Self) → ready p s → length (refs s) ≤ messages_kept (state p s) };
 }

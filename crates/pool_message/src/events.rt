@@ -4,7 +4,7 @@ ghost use Rattle.std.specs.Prelude.{◌≡◌, ◌<◌, ◌≤◌, [], ◌∷◌
 ghost use Rattle.circular_buffer.specs.Buffer.{buffer};
 ghost use Rattle.slot_pool.specs.References.{Covers};
 ghost use Rattle.pool_message.specs.Moves.{Returned};
-ghost use Rattle.pool_message.specs.Sent.{sent_refs};
+ghost use Rattle.pool_message.specs.Sent.{sent_refs, most_events};
 
 use crate::event::PoolEvent;
 use circular_buffer::HeapCircularBuffer;
@@ -13,8 +13,11 @@ use slot_pool::{Memory, Pool};
 use std::alloc::Global;
 use std::marker::Model;
 
-/// The events that were sent, in order, each with its direction. There is a number of places for them, which is chosen once.
-/// It can't be let go: it is emptied, and then closed.
+/// The most places for events.
+pub const MOST_EVENTS: usize = 1_048_576;
+
+/// The events that were sent, in order, each with its direction. There is a number of places for them, at most `MOST_EVENTS`, which
+/// is chosen once. It can't be let go: it is emptied, and then closed.
 pub struct Events {
     ring: HeapCircularBuffer<(Dir, PoolEvent)>,
 }
@@ -27,11 +30,17 @@ impl Model for Events {
     ghost Value = { Buffer (Dir × PoolEvent) };
 
     ghost view = { λ e. e.ring };
+
+    ghost use Rattle.std.specs.Prelude.{◌≤◌};
+    ghost use Rattle.pool_message.specs.Sent.{most_events};
+
+    ghost invariant = { λ e. e.ring.capacity ≤ most_events };
 }
 
 impl Events {
     /// Room for so many events.
     pub fn fresh(alloc: Global, places: usize) -> Result<Events, Memory>
+        requires { places ≤ most_events }
         ensures { IfOk result (λ e. e ≡ buffer [] places) }
     {
         let ring = HeapCircularBuffer::with_capacity(alloc, places)?;
@@ -48,7 +57,8 @@ impl Events {
 
     /// How many there may be.
     pub fn places(&self) -> usize
-        ensures { result ≡ self.now.capacity }
+        ensures places { result ≡ self.now.capacity }
+        ensures few { result ≤ most_events }
     {
         self.ring.capacity()
     }

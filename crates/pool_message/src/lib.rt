@@ -11,11 +11,9 @@ mod message;
 mod optional;
 mod part;
 mod row;
-#[cfg(test)]
-mod tests;
 
 pub use event::PoolEvent;
-pub use events::Events;
+pub use events::{Events, MOST_EVENTS};
 pub use join::LONGEST_BODY;
 pub use laws::what_lies_stays;
 pub use message::PoolMessage;

@@ -74,6 +74,13 @@ impl PoolMessage {
         &self.headers
     }
 
+    /// Its headers once more.
+    pub fn copied_headers(&self) -> Headers
+        ensures { result ≡ self.now.headers }
+    {
+        copied(&self.headers)
+    }
+
     /// How many bytes it has.
     pub fn len(&self) -> u32
         ensures { Counts self.now result }

@@ -2,11 +2,11 @@
 #![tactic(auto)]
 
 mod laws;
+mod sent;
 mod tasks;
-#[cfg(test)]
-mod tests;
 mod turns;
 
-pub use laws::entries_fit;
+pub use laws::{entries_fit, stacks_fit};
+pub use sent::events_for;
 pub use tasks::{PoolTask, Tasks};
 pub use turns::run;
