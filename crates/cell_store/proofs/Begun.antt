@@ -129,7 +129,7 @@ module _ {R : Type 0} where
           ∙ take_all (length (first_numbers me n ltime cell.form)) (first_numbers me n ltime cell.form) (omega arith))
 
   pub begins_first : (me n ltime at : ℕ) (form : tree.Form) → Begins me n ltime n at form (slot_first {R = R} n n at form)
-  begins_first me n ltime at (tree.numbers shape initial) = record { place = refl; count = sym (length-replicate _ _); frame = refl; fits = refl; kept = refl }
+  begins_first me n ltime at (tree.numbers shape initial) = record { place = refl; count = sym (length-replicate _ _); frame = refl; fits = (omega arith, refl); kept = refl }
   begins_first me n ltime at (tree.queue capacity items) = record { place = refl; count = refl; frame = refl; fits = (refl, refl); kept = refl }
   begins_first me n ltime at (tree.queues capacity items) = record { place = refl; count = refl; frame = refl; fits = (refl, refl); kept = refl }
 
@@ -151,25 +151,25 @@ module _ {R : Type 0} where
       )
 
   -- a cell that begins again
-  begins_again_of : (me n ltime most at at' count : ℕ) (frame : Frame) (qs : CellQueues R) (form : tree.Form) →
+  begins_again_of : (me n ltime most at at' count : ℕ) → n ≤ most → (frame : Frame) (qs : CellQueues R) (form : tree.Form) →
       form_framed frame qs.capacity ≡ tree_form form → FitsFrame most frame count qs →
       Begins me n ltime most at form (slot_again n at (record { frame = frame; at = at'; count = count; rings = qs }))
-  begins_again_of me n ltime most at at' count (Numbers shape) qs (tree.numbers shape' initial) same fits =
+  begins_again_of me n ltime most at at' count few (Numbers shape) qs (tree.numbers shape' initial) same fits =
       let shapes : shape ≡ shape' = ap (λ (p : Shape × Option ℕ). p.0) same in
       record {
         place = refl;
         count = ap (size_of n) shapes ∙ sym (length-replicate _ _);
         frame = ap Numbers shapes;
-        fits = refl;
+        fits = (more_numbers n most few (Numbers shape), refl);
         kept = ap (λ shape. numbers shape (replicate (size_of n shape') (initial_value initial me n ltime))) shapes;
       }
-  begins_again_of me n ltime most at at' count (Numbers shape) qs (tree.queue capacity items) same fits =
+  begins_again_of me n ltime most at at' count few (Numbers shape) qs (tree.queue capacity items) same fits =
       absurd (cc (ap (λ (p : Shape × Option ℕ). p.1) same))
-  begins_again_of me n ltime most at at' count (Numbers shape) qs (tree.queues capacity items) same fits =
+  begins_again_of me n ltime most at at' count few (Numbers shape) qs (tree.queues capacity items) same fits =
       absurd (cc (ap (λ (p : Shape × Option ℕ). p.1) same))
-  begins_again_of me n ltime most at at' count (Queues shape) qs (tree.numbers shape' initial) same fits =
+  begins_again_of me n ltime most at at' count few (Queues shape) qs (tree.numbers shape' initial) same fits =
       absurd (cc (ap (λ (p : Shape × Option ℕ). p.1) same))
-  begins_again_of me n ltime most at at' count (Queues shape) qs (tree.queue capacity items) same fits =
+  begins_again_of me n ltime most at at' count few (Queues shape) qs (tree.queue capacity items) same fits =
       let shapes : shape ≡ One = ap (λ (p : Shape × Option ℕ). p.0) same in
       let capacities : qs.capacity ≡ capacity = some_same (ap (λ (p : Shape × Option ℕ). p.1) same) in
       record {
@@ -179,7 +179,7 @@ module _ {R : Type 0} where
         fits = (refl, fits.1);
         kept = λ k. queues (shapes k) (capacities k) (replicate (size_of n (shapes k)) []);
       }
-  begins_again_of me n ltime most at at' count (Queues shape) qs (tree.queues capacity items) same fits =
+  begins_again_of me n ltime most at at' count few (Queues shape) qs (tree.queues capacity items) same fits =
       let shapes : shape ≡ Array = ap (λ (p : Shape × Option ℕ). p.0) same in
       let capacities : qs.capacity ≡ capacity = some_same (ap (λ (p : Shape × Option ℕ). p.1) same) in
       record {
@@ -190,9 +190,9 @@ module _ {R : Type 0} where
         kept = λ k. queues (shapes k) (capacities k) (replicate (size_of n (shapes k)) []);
       }
 
-  pub begins_again : (me n ltime most at : ℕ) (s : Slot R) (form : tree.Form) → slot_form s ≡ tree_form form →
+  pub begins_again : (me n ltime most at : ℕ) → n ≤ most → (s : Slot R) (form : tree.Form) → slot_form s ≡ tree_form form →
       FitsFrame most s.frame s.count s.rings → Begins me n ltime most at form (slot_again n at s)
-  begins_again me n ltime most at s form same fits = begins_again_of me n ltime most at s.at s.count s.frame s.rings form same fits
+  begins_again me n ltime most at few s form same fits = begins_again_of me n ltime most at s.at s.count few s.frame s.rings form same fits
 
   pub frames_of_forms : (slots : List (Slot R)) (cells : List CellTree) → map slot_form slots ≡ map (λ c. tree_form c.form) cells →
       frames_of slots ≡ map (λ c. frame_in c.form) cells
@@ -232,17 +232,17 @@ module _ {R : Type 0} where
         empty = none_at olds i s none at;
       }
 
-  pub restarted_one : (me n ltime most i : ℕ) (cells : List Cell) (cell : Cell) (block block' : List ℕ) (slots : List (Slot R)) (s new : Slot R) →
+  pub restarted_one : (me n ltime most i : ℕ) → n ≤ most → (cells : List Cell) (cell : Cell) (block block' : List ℕ) (slots : List (Slot R)) (s new : Slot R) →
       AreFirst me n ltime most (map cell_tree (take i cells)) block (take i slots) → i < length cells → cell ≡ slice_index_or cells i cell →
       block' ≡ block ++ first_numbers me n ltime (form_tree cell.form) → i < length slots → slot_form s ≡ tree_form (form_tree cell.form) →
       FitsFrame most s.frame s.count s.rings → new ≡ slot_again n (length block) s →
       AreFirst me n ltime most (map cell_tree (take (i + 1) cells)) block' (take (i + 1) (slice_set slots i new))
-  restarted_one me n ltime most i cells cell block block' slots s new first within read filled there form fits again =
+  restarted_one me n ltime most i few cells cell block block' slots s new first within read filled there form fits again =
       subst (λ trees. AreFirst me n ltime most trees block' (take (i + 1) (slice_set slots i new))) (sym (one_more i cells cell within read))
       (subst (AreFirst me n ltime most (map cell_tree (take i cells) ++ cell_tree cell ∷ []) block')
       (sym (take_more_set slots i new there ∙ ap (λ s. take i slots ++ s ∷ []) again))
       (first_more me n ltime most (map cell_tree (take i cells)) block block' (take i slots) (cell_tree cell) _ first filled
-      (begins_again me n ltime most (length block) s (form_tree cell.form) form fits)))
+      (begins_again me n ltime most (length block) few s (form_tree cell.form) form fits)))
 
   pub left_behind : (i : ℕ) (slots olds : List (Slot R)) (new : Slot R) → drop i slots ≡ drop i olds →
       drop (i + 1) (slice_set slots i new) ≡ drop (i + 1) olds

@@ -74,7 +74,7 @@ module _ {R : Type 0} where
   row_framed : (most count i j : ℕ) (row : R) (frame : Frame) (ns : List ℕ) (qs : CellQueues R) → FitsFrame most frame count qs →
       slice_get (slice_index_or qs.rows i []) j ≡ Some row → capacity_of (framed frame ns qs) ≡ qs.capacity
   row_framed most count i j row (Numbers shape) ns qs fits is =
-      absurd (cc (ap (λ (rows : List (List R)). slice_get (slice_index_or rows i []) j) fits, is))
+      absurd (cc (ap (λ (rows : List (List R)). slice_get (slice_index_or rows i []) j) fits.1, is))
   row_framed most count i j row (Queues shape) ns qs fits is = refl
 
   -- a queue that has a row has no more than its capacity

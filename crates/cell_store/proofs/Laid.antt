@@ -78,11 +78,11 @@ module _ {R : Type 0} where
 
   pub queues_framed : (most count : ℕ) (frame : Frame) (ns : List ℕ) (qs : CellQueues R) → FitsFrame most frame count qs →
       queues_kept (framed frame ns qs) ≡ qs.rows
-  queues_framed most count (Numbers shape) ns qs fits = sym fits
+  queues_framed most count (Numbers shape) ns qs fits = sym fits.1
   queues_framed most count (Queues shape) ns qs fits = refl
 
   -- the numbers of a cell
-  numbers_lie : (most end : ℕ) (block : List ℕ) (slots : List (Slot R)) (c : ℕ) (s : Slot R) → AreLaid most 0 end slots →
+  pub numbers_lie : (most end : ℕ) (block : List ℕ) (slots : List (Slot R)) (c : ℕ) (s : Slot R) → AreLaid most 0 end slots →
       slice_get slots c ≡ Some s →
       numbers_kept (slice_index_or (map (slot_kept block) slots) c nothing_kept) ≡ take s.count (drop s.at block)
   numbers_lie most end block slots c s laid is =
@@ -208,7 +208,7 @@ module _ {R : Type 0} where
 
   fits_written : (most i : ℕ) (rows : List R) (frame : Frame) (count : ℕ) (qs : CellQueues R) → FitsFrame most frame count qs →
       FitsFrame most frame count (record qs { rows = slice_set qs.rows i rows })
-  fits_written most i rows (Numbers shape) count qs fits = ap (λ q. slice_set q i rows) fits
+  fits_written most i rows (Numbers shape) count qs fits = (fits.0, ap (λ q. slice_set q i rows) fits.1)
   fits_written most i rows (Queues shape) count qs fits = fits
 
   pub laid_written : (most at end : ℕ) (slots : List (Slot R)) (c i : ℕ) (rows : List R) (s : Slot R) → AreLaid most at end slots →

@@ -2,6 +2,7 @@ pub mod Empty
 pub mod Written
 pub mod Laid
 pub mod Changed
+pub mod Counts
 pub mod Rows
 pub mod Begun
 pub mod Sizeless

@@ -4,7 +4,7 @@ ghost use Rattle.std.specs.Prelude.{◌≡◌, ◌≤◌, [], ◌++◌, true, le
 ghost use Rattle.std.specs.List.{sum_by};
 ghost use Rattle.layer_mean.specs.State.{flat_index};
 ghost use Rattle.typed_layer.specs.View.{layer_tree, form_tree};
-ghost use Rattle.cell_store.specs.Kept.{kept_number, kept_rows, kept_row, kept_capacity, keeps_room, with_kept_number, with_last, with_first, without_first, without_last, first_row, last_row, rows_in, emptied};
+ghost use Rattle.cell_store.specs.Kept.{kept_at, numbers_kept, queues_kept, kept_number, kept_rows, kept_row, kept_capacity, keeps_room, with_kept_number, with_last, with_first, without_first, without_last, first_row, last_row, rows_in, emptied};
 ghost use Rattle.cell_store.specs.Fresh.{kept_first, kept_fresh, IsFor};
 
 use crate::slot::{self, Slot, slot_at};
@@ -76,7 +76,8 @@ impl<R> Cells<R> {
         requires layer { IsFor (layer_tree layer.now) self.old }
         requires few { count ≤ self.old.most }
         requires empty { rows_in self.old ≡ [] }
-        ensures { self.new ≡ kept_fresh (layer_tree layer.now) me count ltime self.old.most }
+        ensures fresh { self.new ≡ kept_fresh (layer_tree layer.now) me count ltime self.old.most }
+        ensures within { self.old.most ≤ 32 }
     {
         self.me = me;
         self.count = count;
@@ -165,6 +166,33 @@ impl<R> Cells<R> {
             row * self.count + column
         } else {
             self.count * self.count
+        }
+    }
+
+    /// The most members that there is room for.
+    pub fn most(&self) -> u32
+        ensures { result ≡ self.now.most }
+    {
+        self.most
+    }
+
+    /// How many numbers a cell has.
+    pub fn numbers_count(&self, cell: u8) -> u32
+        ensures { result ≡ length (numbers_kept (kept_at self.now cell)) }
+    {
+        match slot_at(&self.slots, cell) {
+            Some(slot) => slot.count as u32,
+            None => 0,
+        }
+    }
+
+    /// How many queues a cell has.
+    pub fn queues_count(&self, cell: u8) -> u32
+        ensures { result ≡ length (queues_kept (kept_at self.now cell)) }
+    {
+        match slot_at(&self.slots, cell) {
+            Some(slot) => slot.rings.count() as u32,
+            None => 0,
         }
     }
 

@@ -7,8 +7,6 @@ mod initial;
 mod laws;
 mod rings;
 mod slot;
-#[cfg(test)]
-mod tests;
 
 pub use cells::{Cells, MOST_MEMBERS};
 pub use laws::{changes_are_seen, changes_are_undone, layers_stay, reads_are_seen, rows_weigh};

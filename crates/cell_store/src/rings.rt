@@ -73,7 +73,8 @@ impl<R> Rings<R> {
 
     /// How many queues there are.
     pub fn count(&self) -> usize
-        ensures { result ≡ length self.now.rows }
+        ensures count { result ≡ length self.now.rows }
+        ensures few { result ≤ self.now.most }
     {
         self.shown
     }

@@ -1,24 +1,25 @@
 -- A desk that was made for a layer is at rest.
-use Rattle.std.proofs.Common.{◌≡◌, ℕ, zero, suc, ◌+◌, ◌-◌, ◌≤◌, List, [], ◌∷◌, ◌++◌, map, length, min, replicate, flat_map, vec_capacity, refl, sym, ap, subst, ◌∙◌, arith}
+use Rattle.std.proofs.Common.{◌≡◌, ℕ, zero, suc, ◌+◌, ◌-◌, ◌≤◌, List, [], ◌∷◌, ◌++◌, map, length, min, replicate, flat_map, vec_capacity, Option, refl, sym, ap, subst, ◌∙◌, arith}
 use Rattle.std.specs.List.{AllByRecursion}
 use Rattle.std.proofs.Math.Nat.{min-eq_left}
 use Rattle.circular_buffer.specs.Buffer.{Buffer}
 use Rattle.slot_pool.specs.Held.{Held}
+use Rattle.layer_ast.specs.declared.syntax.Shape.{Shape}
 use Rattle.layer_ast.specs.declared.tokens.Dir.{Dir}
 use Rattle.layer_mean.specs.Tree as tree
 use Rattle.layer_mean.specs.Tree.{CellTree, LayerTree}
 use Rattle.layer_room.specs.Layouts as room
-use Rattle.cell_store.specs.Kept.{Kept, capacity_of, state_of}
-use Rattle.cell_store.specs.Fresh.{kept_first, kept_fresh}
-use Rattle.cell_store.proofs.Seen.{fresh_seen}
+use Rattle.cell_store.specs.Kept.{KeptCell, numbers, queues, Kept, capacity_of, state_of}
+use Rattle.cell_store.specs.Fresh.{kept_first, kept_fresh, kept_form, tree_form, IsFor}
+use Rattle.cell_store.proofs.Seen.{fresh_seen, fresh_for}
 use Rattle.pool_message.specs.Seen.{row_seen}
 use Rattle.pool_message.specs.declared.event.PoolEvent.{PoolEvent}
 use Rattle.pool_message.specs.declared.row.PoolRow.{PoolRow}
 use Rattle.file_layer.specs.Stock.{cell_refs, kept_refs, queues_refs, QueuesLie, CellLies}
 use Rattle.file_layer.specs.Fits.{QueueFits, CellFits}
 use Rattle.file_layer.specs.Ready.{layout_of}
-use Rattle.file_layer.specs.Rest.{IsMadeFor, KeepsFew}
-use Rattle.file_layer.specs.Fresh.{HasDesk, IsEmpty, IsFresh}
+use Rattle.file_layer.specs.Rest.{IsMadeFor, KeepsFew, IsAtRest}
+use Rattle.file_layer.specs.Fresh.{IsEmpty, IsFresh}
 use Rattle.file_layer.specs.declared.desk.FileDesk.{FileDesk}
 
 no_refs : (n : ℕ) → queues_refs (replicate n []) ≡ []
@@ -75,11 +76,13 @@ module _ (me n ltime : ℕ) where
   all_rows [] = refl
   all_rows (c ∷ cells) = λ j. first_rows c.form j ∷ all_rows cells j
 
-  pub empty_at_rest : (layer : LayerTree) (d : FileDesk) → n ≤ 32 → HasDesk layer → IsEmpty layer me n ltime d → IsFresh layer me n ltime d
-  empty_at_rest layer d few has is = record {
+  pub empty_at_rest : (layer : LayerTree) (d : FileDesk) → n ≤ 32 → KeepsFew (room.layout_of layer 0) → IsMadeFor layer (room.layout_of layer 0) →
+      IsEmpty layer me n ltime d → IsFresh layer me n ltime d
+  empty_at_rest layer d few keeps made is = record {
     rest = λ p. record {
       lie = subst (λ (k : Kept PoolRow). AllByRecursion (CellLies p) k.cells) (sym is.cells) (all_lie p layer.cells);
       cells = subst (λ (k : Kept PoolRow). AllByRecursion CellFits k.cells) (sym is.cells) (all_fit few layer.cells);
+      forms = subst (IsFor layer) (sym is.cells) (fresh_for PoolRow layer me n ltime n);
       numbers = is.numbers;
       messages = is.messages;
       arrived = is.arrived;
@@ -87,19 +90,64 @@ module _ (me n ltime : ℕ) where
       sent = ap (λ (b : Buffer (Dir × PoolEvent)). b.items) is.sent;
       numbers_room = is.numbers_room;
       messages_room = is.messages_room;
-      few = subst KeepsFew (sym is.layout) has.few;
-      made = subst (IsMadeFor layer) (sym is.layout) has.made;
+      few = subst KeepsFew (sym is.layout) keeps;
+      made = subst (IsMadeFor layer) (sym is.layout) made;
     };
     refs = ap kept_refs is.cells ∙ all_refs layer.cells;
     state = λ p. ap (state_of (row_seen p)) is.cells ∙ fresh_seen (row_seen p) layer me n ltime n;
   }
 
+-- The rows that the cells of a layer keep.
+form_rows : (cell : KeptCell PoolRow) (form : tree.Form) → kept_form cell ≡ tree_form form → capacity_of cell ≡ room.rows_kept form
+form_rows (numbers shape ns) (tree.numbers shape' initial) same = refl
+form_rows (numbers shape ns) (tree.queue capacity items) same = absurd (cc (ap (λ (p : Shape × Option ℕ). p.1) same))
+form_rows (numbers shape ns) (tree.queues capacity items) same = absurd (cc (ap (λ (p : Shape × Option ℕ). p.1) same))
+form_rows (queues shape capacity qs) (tree.numbers shape' initial) same = absurd (cc (ap (λ (p : Shape × Option ℕ). p.1) same))
+form_rows (queues shape capacity qs) (tree.queue capacity' items) same = cc (ap (λ (p : Shape × Option ℕ). p.1) same)
+form_rows (queues shape capacity qs) (tree.queues capacity' items) same = cc (ap (λ (p : Shape × Option ℕ). p.1) same)
+
+layer_rows : (cells : List (KeptCell PoolRow)) (trees : List CellTree) → map kept_form cells ≡ map (λ (c : CellTree). tree_form c.form) trees →
+    map capacity_of cells ≡ map (λ (c : CellTree). room.rows_kept c.form) trees
+layer_rows [] [] same = refl
+layer_rows [] (t ∷ trees) same = absurd (cc same)
+layer_rows (c ∷ cells) [] same = absurd (cc same)
+layer_rows (c ∷ cells) (t ∷ trees) same =
+    let here : kept_form c ≡ tree_form t.form = cc same in
+    let rest : map kept_form cells ≡ map (λ (c : CellTree). tree_form c.form) trees = cc same in
+    λ j. form_rows c t.form here j ∷ layer_rows cells trees rest j
+
+-- A desk at rest whose cells begin again has begun.
+pub begins_again : (layer : LayerTree) (p : List Held) (me n ltime : ℕ) (d e : FileDesk) → IsAtRest layer p d → n ≤ 32 →
+    e ≡ record d { cells = kept_fresh layer me n ltime d.cells.most } → IsFresh layer me n ltime e
+begins_again layer p me n ltime d e is few new = subst (IsFresh layer me n ltime) (sym new) record {
+  rest = λ q. record {
+    lie = all_lie me n ltime q layer.cells;
+    cells = all_fit me n ltime few layer.cells;
+    forms = fresh_for PoolRow layer me n ltime d.cells.most;
+    numbers = is.numbers;
+    messages = is.messages;
+    arrived = is.arrived;
+    hand = is.hand;
+    sent = is.sent;
+    numbers_room = is.numbers_room;
+    messages_room = is.messages_room;
+    few = subst KeepsFew layout is.few;
+    made = subst (IsMadeFor layer) layout is.made;
+  };
+  refs = all_refs me n ltime layer.cells;
+  state = λ q. fresh_seen (row_seen q) layer me n ltime d.cells.most;
+}
+  where
+    layout : layout_of d ≡ layout_of (record d { cells = kept_fresh layer me n ltime d.cells.most })
+    layout = ap (λ rows. record (layout_of d) { rows = rows })
+        (layer_rows d.cells.cells layer.cells is.forms ∙ sym (all_rows me n ltime layer.cells))
+
 -- The layout of a desk with this room.
-pub layout_at_first : (layer : LayerTree) (me n ltime : ℕ) (d : FileDesk) → HasDesk layer → d.cells ≡ kept_fresh layer me n ltime n →
+pub layout_at_first : (layer : LayerTree) (me n ltime : ℕ) (d : FileDesk) → KeepsFew (room.layout_of layer 0) → d.cells ≡ kept_fresh layer me n ltime n →
     vec_capacity d.numbers ≡ (room.layout_of layer 0).numbers + 6 → vec_capacity d.messages ≡ (room.layout_of layer 0).messages + 1 →
     vec_capacity d.hand ≡ min (room.layout_of layer 0).hand 4294967295 → d.places ≡ 0 → layout_of d ≡ room.layout_of layer 0
-layout_at_first layer me n ltime d has cells numbers messages in_hand places =
-    let own = has.few.own in
+layout_at_first layer me n ltime d keeps cells for_numbers messages in_hand places =
+    let own = keeps.own in
     let rows : map capacity_of d.cells.cells ≡ (room.layout_of layer 0).rows = ap (λ (k : Kept PoolRow). map capacity_of k.cells) cells ∙ all_rows me n ltime layer.cells in
     let one : vec_capacity d.numbers - 6 ≡ (room.layout_of layer 0).numbers = omega arith in
     let two : vec_capacity d.messages - 1 ≡ (room.layout_of layer 0).messages = omega arith in

@@ -9,14 +9,17 @@ pub mod Lists
 pub mod Parts
 pub mod Queues
 pub mod Found
+pub mod Read
 pub mod Ready
 pub mod ReadyCells
 pub mod ReadyScope
 pub mod ReadySent
 pub mod ReadyTaken
+pub mod Reserve
 pub mod Rows
 pub mod Scope
 pub mod Sending
 pub mod Stays
 pub mod Steps
+pub mod Typed
 pub mod Visit

@@ -13,6 +13,7 @@ use Rattle.layer_desk.specs.Laid.{assigned, queued, queued_first}
 use Rattle.layer_desk.specs.Need.{Layout}
 use Rattle.layer_desk.specs.Spent.{Begun}
 use Rattle.cell_store.specs.Kept.{KeptCell, numbers, queues, Kept, nothing_kept, queues_kept, capacity_of, kept_at, kept_rows, kept_capacity, keeps_room, number_set, rows_set, with_kept, with_kept_rows, with_last, with_kept_number, contents_seen, state_of}
+use Rattle.cell_store.specs.Fresh.{kept_form}
 use Rattle.pool_message.specs.Seen.{row_seen}
 use Rattle.pool_message.specs.declared.message.PoolMessage.{PoolMessage}
 use Rattle.pool_message.specs.declared.row.PoolRow.{PoolRow}
@@ -52,6 +53,28 @@ cell_fit l s c fits = all-get CellFits s.kept.cells c nothing_kept fits.cells (o
 -- The layout, where its rows are as before.
 pub layout_kept : (d l : Layout) (rows : List ℕ) → d ≡ l → rows ≡ l.rows → record d { rows = rows } ≡ l
 layout_kept d l rows same r = λ j. record (same j) { rows = r j }
+
+-- ---- forms
+
+number_form : (i v : ℕ) (cell : KeptCell PoolRow) → kept_form (number_set i v cell) ≡ kept_form cell
+number_form i v (numbers shape ns) = refl
+number_form i v (queues shape capacity qs) = refl
+
+rows_form : (i : ℕ) (rows : List PoolRow) (cell : KeptCell PoolRow) → kept_form (rows_set i rows cell) ≡ kept_form cell
+rows_form i rows (numbers shape ns) = refl
+rows_form i rows (queues shape capacity qs) = refl
+
+-- Cells are what they were.
+pub forms_number : (new old : Kept PoolRow) (c i v : ℕ) → new ≡ with_kept_number old c i v → map kept_form new.cells ≡ map kept_form old.cells
+forms_number new old c i v is =
+    ap (λ (k : Kept PoolRow). map kept_form k.cells) is ∙
+    map-set_same kept_form old.cells c (number_set i v (kept_at old c)) nothing_kept (number_form i v (kept_at old c))
+
+pub forms_rows : (new old : Kept PoolRow) (c i : ℕ) (rows : List PoolRow) → new ≡ with_kept_rows old c i rows →
+    map kept_form new.cells ≡ map kept_form old.cells
+forms_rows new old c i rows is =
+    ap (λ (k : Kept PoolRow). map kept_form k.cells) is ∙
+    map-set_same kept_form old.cells c (rows_set i rows (kept_at old c)) nothing_kept (rows_form i rows (kept_at old c))
 
 -- ---- rows
 

@@ -1,7 +1,6 @@
 -- A visit at a desk: it is ready where only rows lay on it, and behind the visit it is so again.
-use Rattle.std.proofs.Common.{◌≡◌, ℕ, ◌+◌, ◌-◌, ◌≤◌, List, [], ◌∷◌, ◌++◌, Option, Some, None, map, min, reverse, length, flat_map, refl, sym, ap, subst, ◌∙◌, arith}
+use Rattle.std.proofs.Common.{◌≡◌, ℕ, ◌+◌, ◌≤◌, List, [], ◌∷◌, ◌++◌, Option, Some, None, map, reverse, length, flat_map, refl, sym, ap, subst, ◌∙◌, arith}
 use Rattle.std.specs.List.{AllByRecursion}
-use Rattle.std.proofs.Math.Nat.{min-le_left, min-le_right, le-min}
 use Rattle.std.proofs.Math.Seq.{take-length}
 use Rattle.std.proofs.lemmas.List.{length-map, length-reverse}
 use Rattle.circular_buffer.specs.Buffer.{Buffer}
@@ -20,19 +19,19 @@ use Rattle.layer_desk.specs.Spent.{Begun, Suffices}
 use Rattle.layer_stage.specs.Room.{slots_needed, places_needed, headers_met, most_counted, CountsWithin}
 use Rattle.layer_stage.proofs.Needs.{slots_at_a_desk, places_at_a_desk, headers_at_a_desk}
 use Rattle.pool_message.specs.Seen.{refs, seen, Lies, refs_if, seen_if, event_refs, event_seen, EventLies}
-use Rattle.pool_message.specs.Sent.{sent_refs, SentLie}
+use Rattle.pool_message.specs.Sent.{sent_refs, SentLie, most_events}
 use Rattle.pool_message.specs.declared.event.PoolEvent.{PoolEvent}
 use Rattle.pool_message.specs.declared.message.PoolMessage.{PoolMessage}
 use Rattle.file_layer.specs.Stock.{Stock, kept_refs, stock_refs, laid}
-use Rattle.file_layer.specs.Fits.{IsShort, most_sent}
-use Rattle.file_layer.specs.Ready.{stock_of, layout_of, room_of, IsReady}
+use Rattle.file_layer.specs.Fits.{IsShort}
+use Rattle.file_layer.specs.Ready.{stock_of, layout_of, forms_of, room_of, IsReady}
 use Rattle.file_layer.specs.Rest.{IsMadeFor, KeepsFew, IsAtRest, begins, ends}
 use Rattle.file_layer.specs.declared.desk.FileDesk.{FileDesk}
 use Rattle.file_layer.proofs.Parts.{parts}
 
 -- How a visit at a desk begins.
 abbrev pub begun_at : List Held → FileDesk → Begun
-begun_at p d = record { pool = p; refs = stock_refs (stock_of d); layout = layout_of d; list = d.sent.capacity }
+begun_at p d = record { pool = p; refs = stock_refs (stock_of d); layout = layout_of d; list = d.sent.capacity; forms = forms_of d }
 
 -- The references of a desk on which there are rows, a message that arrived and what was sent.
 refs_at : (i : ℕ) (s : Stock) → s.messages ≡ [] → s.hand ≡ [] →
@@ -41,7 +40,7 @@ refs_at i s messages hand =
     let all = parts i s in let one = ap (λ ms. times i (flat_map refs ms)) messages in let two = ap (λ ms. times i (flat_map refs ms)) hand in omega arith
 
 module _ (layer : LayerTree) (p : List Held) (d : FileDesk) (rest : IsAtRest layer p d) (event : PoolEvent) (out : Buffer (Dir × PoolEvent)) (dir : Dir)
-    (within : length out.items ≤ out.capacity) where
+    (within : length out.items ≤ out.capacity) (few : out.capacity ≤ most_events) where
   abbrev first : FileDesk
   first = begins event.message out d
 
@@ -79,11 +78,12 @@ module _ (layer : LayerTree) (p : List Held) (d : FileDesk) (rest : IsAtRest lay
     };
     numbers = rest.numbers_room;
     messages = rest.messages_room;
+    forms = refl;
     sent = record {
       kept = refl;
       before = omega arith;
-      within = omega (arith, min-le_left (out.capacity - length out.items) most_sent);
-      few = omega (arith, min-le_right (out.capacity - length out.items) most_sent);
+      within = omega arith;
+      few = few;
       old = λ i.
           let whole = ap (λ events. times i (sent_refs events)) (take-length out.items) in
           let all = refs_at i (stock_of first) rest.messages rest.hand in omega arith;
@@ -96,10 +96,8 @@ module _ (layer : LayerTree) (p : List Held) (d : FileDesk) (rest : IsAtRest lay
       (visit_need (layout_of first) (handler_for layer dir event.kind (met dir (seen_if p event.message)).tag) (met dir (seen_if p event.message)))
   begins_with_room headers slots places =
       let m = met dir (seen_if p event.message) in
-      let few = rest.made.sends dir event.kind m in
       let hand = rest.made.hand first.places dir event.kind m in
       let none = ap length rest.hand in
-      let there : places_needed layer dir (event_seen p event) ≤ min (out.capacity - length out.items) most_sent = le-min (omega arith) few in
       let one = slots_at_a_desk (layout_of first) layer dir (event_seen p event) in
       let two = places_at_a_desk (layout_of first) layer dir (event_seen p event) in
       let three = headers_at_a_desk (layout_of first) layer dir (event_seen p event) in
@@ -145,6 +143,7 @@ module _ (layer : LayerTree) (p q : List Held) (d e : FileDesk) (rest : IsAtRest
       let made = ready.layout in record {
         lie = ready.pool.lies.kept;
         cells = ready.fits.cells;
+        forms = ready.forms ∙ rest.forms;
         numbers = ap (λ (l : Laid). l.scope.numbers) is ∙ ap (λ (l : Scope). l.numbers) scope;
         messages = messages_gone;
         arrived = arrived_gone;
@@ -154,7 +153,7 @@ module _ (layer : LayerTree) (p q : List Held) (d e : FileDesk) (rest : IsAtRest
         messages_room = ready.messages;
         few = subst KeepsFew (sym (ap (λ (l : Layout). record l { places = 0 }) made)) (record { rows = rest.few.rows; own = rest.few.own });
         made = subst (IsMadeFor layer) (sym (ap (λ (l : Layout). record l { places = 0 }) made))
-            (record { misfits = rest.made.misfits; hand = rest.made.hand; sends = rest.made.sends });
+            (record { misfits = rest.made.misfits; hand = rest.made.hand });
       }
 
   pub ends_moved : Moved p q (stock_refs (stock_of (begins event.message out d))) (stock_refs (stock_of e)) →

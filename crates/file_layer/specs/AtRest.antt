@@ -18,6 +18,7 @@ at_rest_stays layer p q a b d moved covers is =
       record {
         lie = stays.0;
         cells = is.cells;
+        forms = is.forms;
         numbers = is.numbers;
         messages = is.messages;
         arrived = is.arrived;

@@ -7,7 +7,7 @@ use Rattle.layer_ast.specs.declared.tokens.Dir.{Dir}
 use Rattle.cell_store.specs.Kept.{KeptCell, queues_kept, capacity_of}
 use Rattle.layer_desk.specs.Need.{Layout, most_above}
 use Rattle.pool_message.specs.declared.message.PoolMessage.{PoolMessage}
-use Rattle.pool_message.specs.Sent.{sent_refs}
+use Rattle.pool_message.specs.Sent.{sent_refs, most_events}
 use Rattle.pool_message.specs.declared.event.PoolEvent.{PoolEvent}
 use Rattle.pool_message.specs.declared.row.PoolRow.{PoolRow}
 use Rattle.file_layer.specs.Stock.{Stock}
@@ -21,10 +21,6 @@ most_members = 32
 
 abbrev pub most_own : ℕ
 most_own = 15728638
-
--- The most events that one visit sends.
-abbrev pub most_sent : ℕ
-most_sent = 1048576
 
 -- The most numbers that a scope has before its block declares any: those of the event, and the fields of a header. Of messages it has
 -- one at most.
@@ -66,10 +62,10 @@ pub record StockFits (l : Layout) (s : Stock) : Type 0 where
   pub few : rows_most l.rows + (l.messages + (2 + l.hand)) ≤ most_own
 
 -- What is sent is added to a list that keeps so many: so many events were there before, whose references are among those of the beginning, and
--- there may be so many.
+-- there may be so many, which are no more than any list of events has.
 pub record SentGrows (from : List ℕ) (list first places : ℕ) (sent : Buffer (Dir × PoolEvent)) : Type 0 where
   pub kept : sent.capacity ≡ list
   pub before : first ≤ length sent.items
   pub within : places ≤ sent.capacity
-  pub few : places ≤ first + most_sent
+  pub few : places ≤ most_events
   pub old : (i : ℕ) → times i (sent_refs (take first sent.items)) ≤ times i from

@@ -5,19 +5,16 @@ use Rattle.slot_pool.specs.Held.{Held}
 use Rattle.layer_mean.specs.Tree.{LayerTree}
 use Rattle.layer_mean.specs.Visit.{fresh}
 use Rattle.layer_room.specs.Layouts as room
+use Rattle.layer_room.specs.Reserved.{reserved}
+use Rattle.layer_room.specs.declared.reserve.Reserve.{Reserve}
 use Rattle.cell_store.specs.Kept.{state_of}
 use Rattle.cell_store.specs.Fresh.{kept_fresh}
 use Rattle.pool_message.specs.Seen.{row_seen}
 use Rattle.file_layer.specs.Stock.{kept_refs}
 use Rattle.file_layer.specs.Fits.{most_bound}
 use Rattle.file_layer.specs.Ready.{layout_of}
-use Rattle.file_layer.specs.Rest.{IsMadeFor, KeepsFew, IsAtRest}
+use Rattle.file_layer.specs.Rest.{KeepsFew, IsAtRest}
 use Rattle.file_layer.specs.declared.desk.FileDesk.{FileDesk}
-
--- A layer for which a desk can be made: what it needs is few, and is enough on every event.
-pub record HasDesk (layer : LayerTree) : Type 0 where
-  pub few : KeepsFew (room.layout_of layer 0)
-  pub made : IsMadeFor layer (room.layout_of layer 0)
 
 -- Nothing lies on the desk, and its cells are those of a layer that has seen no event.
 pub record IsEmpty (layer : LayerTree) (me n ltime : ℕ) (d : FileDesk) : Type 0 where
@@ -36,3 +33,8 @@ pub record IsFresh (layer : LayerTree) (me n ltime : ℕ) (d : FileDesk) : Type 
   pub rest : (p : List Held) → IsAtRest layer p d
   pub refs : kept_refs d.cells ≡ []
   pub state : (p : List Held) → state_of (row_seen p) d.cells ≡ fresh layer me n ltime
+
+-- What is reserved for a layer's desk, which keeps few rows, and few messages beside them.
+pub record IsReserved (layer : LayerTree) (r : Reserve) : Type 0 where
+  pub is : r ≡ reserved (room.layout_of layer 0)
+  pub few : KeepsFew (room.layout_of layer 0)

@@ -10,5 +10,9 @@ pub mod Taken
 pub mod Fresh
 pub mod Laws
 pub mod Ready
+pub mod Staged
 pub mod Stays
 pub mod Steps
+pub mod Keeps
+pub mod Layer
+pub mod Making

@@ -1,9 +1,11 @@
 -- A desk as its fields make it out, and that it is in order.
-use Rattle.std.specs.Prelude.{◌≡◌, ◌-◌, ◌≤◌, List, map, length, vec_capacity}
+use Rattle.std.specs.Prelude.{◌≡◌, ℕ, ◌-◌, ◌≤◌, List, Option, map, length, vec_capacity}
 use Rattle.slot_pool.specs.Held.{Held, spare}
+use Rattle.layer_ast.specs.declared.syntax.Shape.{Shape}
 use Rattle.layer_desk.specs.Need.{Layout, Room}
 use Rattle.layer_desk.specs.Spent.{Begun}
 use Rattle.cell_store.specs.Kept.{capacity_of}
+use Rattle.cell_store.specs.Fresh.{kept_form}
 use Rattle.file_layer.specs.Stock.{Stock}
 use Rattle.file_layer.specs.Steps.{InPool}
 use Rattle.file_layer.specs.Fits.{StockFits, SentGrows, most_bound}
@@ -18,6 +20,10 @@ stock_of d = record {
   hand = d.hand.items;
   sent = d.sent.items;
 }
+
+-- What its cells are: the shape of each, and the capacity where it has queues.
+abbrev pub forms_of : FileDesk → List (Shape × Option ℕ)
+forms_of d = map kept_form d.cells.cells
 
 -- What it is made for, and the room that is left.
 abbrev pub layout_of : FileDesk → Layout
@@ -36,11 +42,12 @@ room_of p d = record {
   hand = vec_capacity d.hand - length d.hand.items;
 }
 
--- Since a beginning its references alone have moved; and it has no more than it is made for, which is as it was.
+-- Since a beginning its references alone have moved; and it has no more than it is made for, which is as it was, as are its cells' forms.
 pub record IsReady (b : Begun) (p : List Held) (d : FileDesk) : Type 0 where
   pub pool : InPool b p (stock_of d)
   pub layout : layout_of d ≡ b.layout
   pub fits : StockFits b.layout (stock_of d)
   pub numbers : most_bound ≤ vec_capacity d.numbers
   pub messages : 1 ≤ vec_capacity d.messages
+  pub forms : forms_of d ≡ b.forms
   pub sent : SentGrows b.refs b.list d.first d.places d.sent

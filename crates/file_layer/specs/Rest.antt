@@ -1,5 +1,5 @@
 -- A desk between visits.
-use Rattle.std.specs.Prelude.{◌≡◌, ℕ, ◌+◌, ◌-◌, ◌≤◌, List, [], None, Option, length, min, vec_capacity}
+use Rattle.std.specs.Prelude.{◌≡◌, ℕ, ◌+◌, ◌≤◌, List, [], None, Option, length, vec_capacity}
 use Rattle.std.specs.List.{AllByRecursion}
 use Rattle.circular_buffer.specs.Buffer.{Buffer}
 use Rattle.slot_pool.specs.Held.{Held}
@@ -8,32 +8,33 @@ use Rattle.layer_ast.specs.declared.tokens.Kind.{Kind}
 use Rattle.layer_mean.specs.Tree.{LayerTree}
 use Rattle.layer_mean.specs.Visit.{Met, handler_for}
 use Rattle.layer_desk.specs.Need.{Layout, visit_need}
-use Rattle.layer_stage.specs.Room.{places_for, most_kept}
+use Rattle.layer_stage.specs.Room.{most_kept}
 use Rattle.pool_message.specs.declared.event.PoolEvent.{PoolEvent}
 use Rattle.pool_message.specs.declared.message.PoolMessage.{PoolMessage}
+use Rattle.cell_store.specs.Fresh.{IsFor}
 use Rattle.file_layer.specs.Stock.{CellLies}
-use Rattle.file_layer.specs.Fits.{CellFits, rows_most, most_own, most_sent, most_bound}
+use Rattle.file_layer.specs.Fits.{CellFits, rows_most, most_own, most_bound}
 use Rattle.file_layer.specs.Ready.{layout_of}
 use Rattle.file_layer.specs.declared.desk.FileDesk.{FileDesk}
 
--- A desk of this layout is made for a layer: on every event no part of the layer's tree is a misfit, a visit takes no more of the hand than
--- there is, and sends few events.
+-- A desk of this layout is made for a layer: on every event no part of the layer's tree is a misfit, and a visit takes no more of the hand
+-- than there is.
 pub record IsMadeFor (layer : LayerTree) (l : Layout) : Type 0 where
   pub misfits : (places : ℕ) (dir : Dir) (kind : Kind) (m : Met) →
       (visit_need (record l { places = places }) (handler_for layer dir kind m.tag) m).misfits ≡ 0
   pub hand : (places : ℕ) (dir : Dir) (kind : Kind) (m : Met) →
       (visit_need (record l { places = places }) (handler_for layer dir kind m.tag) m).hand ≤ l.hand
-  pub sends : (dir : Dir) (kind : Kind) (m : Met) → places_for (handler_for layer dir kind m.tag) ≤ most_sent
 
 -- It keeps few rows, and few messages beside them.
 pub record KeepsFew (l : Layout) : Type 0 where
   pub rows : rows_most l.rows ≤ most_kept
   pub own : rows_most l.rows + (l.messages + (2 + l.hand)) ≤ most_own
 
--- Rows alone lie on the desk, in the pool.
+-- Rows alone lie on the desk, in the pool; its cells are those of the layer.
 pub record IsAtRest (layer : LayerTree) (p : List Held) (d : FileDesk) : Type 0 where
   pub lie : AllByRecursion (CellLies p) d.cells.cells
   pub cells : AllByRecursion CellFits d.cells.cells
+  pub forms : IsFor layer d.cells
   pub numbers : d.numbers.items ≡ []
   pub messages : d.messages.items ≡ []
   pub arrived : d.arrived ≡ None
@@ -50,7 +51,7 @@ begins message out d = record d {
   arrived = message;
   sent = out;
   first = length out.items;
-  places = length out.items + min (out.capacity - length out.items) most_sent;
+  places = out.capacity;
 }
 
 -- A desk with another list of what is sent, to which it adds nothing.

@@ -10,7 +10,7 @@ use typed_layer::{Carried, Taken};
 
 impl Desk for FileDesk {
     ghost use Rattle.file_layer.specs.Stock.{stock_refs, laid};
-    ghost use Rattle.file_layer.specs.Ready.{stock_of, layout_of, room_of, IsReady};
+    ghost use Rattle.file_layer.specs.Ready.{stock_of, layout_of, forms_of, room_of, IsReady};
     ghost use Rattle.file_layer.specs.Laws.{hand_left, places_left};
 
     ghost refs = { λ d. stock_refs (stock_of d) };
@@ -18,6 +18,8 @@ impl Desk for FileDesk {
     ghost layout = { layout_of };
 
     ghost list = { λ d. d.sent.capacity };
+
+    ghost forms = { forms_of };
 
     ghost ready = { IsReady };
 

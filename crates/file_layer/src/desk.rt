@@ -9,8 +9,11 @@ pub(crate) const MOST_ABOVE: u32 = 23;
 /// The most numbers that a scope has before its block declares any: those of the event, and the fields of a header.
 pub(crate) const MOST_BOUND: usize = 6;
 
-/// The most events that one visit sends.
-pub(crate) const MOST_SENT: usize = 1_048_576;
+/// The most rows of a desk's queues, for as many members as a view has at most.
+pub(crate) const MOST_ROWS: u32 = 32_768;
+
+/// The most rows, messages of the scope and messages in hand of a desk.
+pub(crate) const MOST_OWN: u32 = 15_728_638;
 
 /// What a layer of a member works at: its cells, the scope of the handler's block, the message that arrived, the messages in hand,
 /// the newest last, and what it sends. Bodies of messages stand in the pool beside it.

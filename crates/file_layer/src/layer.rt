@@ -1,84 +1,163 @@
 //! A file's layer, as a stage of a run.
 
 use crate::desk::FileDesk;
-use crate::makes::{close, make};
+use crate::maker::Maker;
+use crate::makes::{close, make, restart};
 use crate::visits::visit;
 use layer_ast::Dir;
 use layer_eval::Predicted;
 use layer_stage::Stage;
-use pool_message::{Events, PoolEvent};
+use pool_message::{Events, PoolEvent, PoolRow};
 use slot_pool::{Memory, Pool};
 use std::alloc::Global;
+use std::rc::Rc;
 use typed_layer::TypedLayer;
 
-/// A layer at its place in a stack, with its desk.
-pub struct FileLayer<'a> {
+/// A layer at its place in a stack, with its desk, and how many events it took.
+pub struct FileLayer {
     pub(crate) place: u8,
-    pub(crate) layer: &'a TypedLayer,
+    pub(crate) layer: Rc<TypedLayer>,
     pub(crate) desk: FileDesk,
+    pub(crate) taken: u64,
 }
 
-impl<'a> FileLayer<'a> {
-    ghost use Rattle.std.specs.Prelude.{◌≡◌, ◌≤◌, IfOk};
+impl FileLayer {
+    ghost use Rattle.std.specs.Prelude.{◌≡◌, ℕ, ◌<◌, ◌≤◌, ◌^◌, length, List, option_map, IfSome};
+    ghost use Rattle.slot_pool.specs.Held.{Held};
     ghost use Rattle.slot_pool.specs.References.{Covers};
-    ghost use Rattle.typed_layer.specs.View.{layer_tree};
+    ghost use Rattle.layer_mean.specs.State.{number_at, numbers_in, queues_in, cell_at, rows_at, row_at};
+    ghost use Rattle.chain_laws.specs.Runs.{TypedStack};
     ghost use Rattle.pool_message.specs.Moves.{Returned};
-    ghost use Rattle.file_layer.specs.Fresh.{HasDesk, IsFresh};
-    ghost use Rattle.file_layer.specs.Rest.{IsAtRest};
-    ghost use Rattle.file_layer.specs.Stock.{kept_refs};
+    ghost use Rattle.pool_message.specs.Seen.{row_seen, RowLies};
+    ghost use Rattle.file_layer.specs.Layer.{refs_of, state_in, most_of, IsInOrder, BeginsAgain};
+    ghost use Rattle.file_layer.specs.Making.{making, Makes};
 
-    /// The layer at a place before its first event, at the member of rank `me` of `count`. All memory is taken here.
+    /// The layer at a place of the maker's stack before its first event, at the member of rank `me` of `count`. All memory is taken
+    /// here. A layer whose rows or hand would be more than a desk may have is answered as want of memory; the language's limits never
+    /// come to it for rows.
+    #[tactic(auto, unfolding(crate::specs::Making::making))]
     pub fn fresh(
         alloc: Global,
+        maker: &mut Maker,
         place: u8,
-        layer: &'a TypedLayer,
         me: u32,
         count: u32,
         ltime: u32,
-    ) -> Result<FileLayer<'a>, Memory>
-        requires members { count ≤ 32 }
-        requires desk { HasDesk (layer_tree layer.now) }
-        ensures place { IfOk result (λ s. s.place ≡ place) }
-        ensures layer { IfOk result (λ s. layer_tree s.layer.now ≡ layer_tree layer.now) }
-        ensures fresh { IfOk result (λ s. IsFresh (layer_tree layer.now) me count ltime s.desk) }
+    ) -> Result<FileLayer, Memory>
+        requires place { place < length (making maker.old).stack }
+        requires members { (me < count) × (count ≤ 32) }
+        requires typed { TypedStack (making maker.old).stack }
+        requires made { (making maker.old).made ≤ 2 ^ 63 }
+        ensures { Makes place me count ltime (making maker.old) (making maker.new) result }
     {
-        let desk = make(alloc, layer, me, count, ltime)?;
-        Ok(FileLayer { place, layer, desk })
+        maker.stack.is_within_limits();
+        let layer = maker.stack.layer(place).clone()?;
+        let desk = make(alloc, &layer, me, count, ltime)?;
+        maker.made += 1;
+        Ok(FileLayer {
+            place,
+            layer,
+            desk,
+            taken: 0,
+        })
+    }
+
+    /// Begins again, at the member of rank `me` of `count`, of whom there are no more than there is room for. Its rows go back.
+    #[tactic(auto, unfolding(crate::specs::Layer::refs_of, crate::specs::Layer::most_of, crate::specs::Layer::IsInOrder))]
+    pub fn reset(&mut self, pool: &mut Pool, me: u32, count: u32, ltime: u32)
+        requires order { IsInOrder pool.old self.old }
+        requires covers { Covers pool.old (refs_of self.old) }
+        requires members { (me < count) × (count ≤ most_of self.old) }
+        ensures returned { Returned pool.old pool.new (refs_of self.old) }
+        ensures begun { BeginsAgain me count ltime self.old self.new }
+    {
+        restart(&mut self.desk, pool, &self.layer, me, count, ltime);
     }
 
     /// Ends it, and gives its references and its memory back.
+    #[tactic(auto, unfolding(crate::specs::Layer::refs_of, crate::specs::Layer::IsInOrder))]
     pub fn close(self, pool: &mut Pool)
-        requires rest { IsAtRest (layer_tree self.layer.now) pool.old self.desk }
-        requires covered { Covers pool.old (kept_refs self.desk.cells) }
-        ensures { Returned pool.old pool.new (kept_refs self.entry.desk.cells) }
+        requires order { IsInOrder pool.old self }
+        requires covers { Covers pool.old (refs_of self) }
+        ensures { Returned pool.old pool.new (refs_of self) }
     {
         let FileLayer {
             place: _,
             layer,
             desk,
+            taken: _,
         } = self;
-        close(desk, pool, layer);
+        close(desk, pool, &layer);
+    }
+
+    /// The number of members, of whom there are no more than there is room for.
+    #[tactic(auto, unfolding(crate::specs::Layer::state_in, crate::specs::Layer::most_of))]
+    pub fn count(&self) -> u32
+        ensures count { (p : List Held) → result ≡ (state_in p self.now).count }
+        ensures few { result ≤ most_of self.now }
+    {
+        self.desk.cells.count()
+    }
+
+    /// A number of a cell; 0 outside.
+    #[tactic(auto, unfolding(crate::specs::Layer::state_in))]
+    pub fn number(&self, cell: u8, index: u32) -> u32
+        ensures { (p : List Held) → result ≡ number_at (state_in p self.now) cell index }
+    {
+        self.desk.cells.get(cell, index)
+    }
+
+    /// How many numbers a cell has.
+    #[tactic(auto, unfolding(crate::specs::Layer::state_in))]
+    pub fn numbers_count(&self, cell: u8) -> u32
+        ensures { (p : List Held) → result ≡ length (numbers_in (cell_at (state_in p self.now) cell)) }
+    {
+        self.desk.cells.numbers_count(cell)
+    }
+
+    /// How many queues a cell has.
+    #[tactic(auto, unfolding(crate::specs::Layer::state_in))]
+    pub fn queues_count(&self, cell: u8) -> u32
+        ensures { (p : List Held) → result ≡ length (queues_in (cell_at (state_in p self.now) cell)) }
+    {
+        self.desk.cells.queues_count(cell)
+    }
+
+    /// How many rows a queue has.
+    #[tactic(auto, unfolding(crate::specs::Layer::state_in))]
+    pub fn rows(&self, cell: u8, index: u32) -> u32
+        ensures { (p : List Held) → result ≡ length (rows_at (state_in p self.now) cell index) }
+    {
+        self.desk.cells.len(cell, index)
+    }
+
+    /// A row of a queue, the front being 0.
+    #[tactic(auto, unfolding(crate::specs::Layer::state_in, crate::specs::Layer::IsInOrder))]
+    pub fn row(&self, cell: u8, index: u32, row: u32) -> Option<&PoolRow>
+        ensures row { (p : List Held) → option_map (λ r. row_seen p r.now) result ≡ row_at (state_in p self.now) cell index row }
+        ensures lies { (p : List Held) → IsInOrder p self.now → IfSome result (λ r. RowLies p r.now) }
+    {
+        self.desk.cells.row(cell, index, row)
     }
 }
 
-impl<'a> Stage for FileLayer<'a> {
-    ghost use Rattle.typed_layer.specs.View.{layer_tree};
-    ghost use Rattle.cell_store.specs.Kept.{state_of};
-    ghost use Rattle.pool_message.specs.Seen.{row_seen};
-    ghost use Rattle.file_layer.specs.Rest.{IsAtRest};
-    ghost use Rattle.file_layer.specs.Stock.{kept_refs};
-    ghost use Rattle.file_layer.specs.AtRest.{at_rest_stays, keeps_few};
+impl Stage for FileLayer {
+    ghost use Rattle.file_layer.specs.Layer.{place_of, tree_of, refs_of, state_in, taken_by, IsInOrder};
+    ghost use Rattle.file_layer.specs.Staged.{layer_stays, layer_keeps_few, layer_keeps};
 
-    ghost place = { λ s. s.place };
+    ghost place = { place_of };
 
-    ghost layer = { λ s. layer_tree s.layer.now };
+    ghost layer = { tree_of };
 
-    ghost refs = { λ s. kept_refs s.desk.cells };
+    ghost refs = { refs_of };
 
-    ghost ready = { λ p s. IsAtRest (layer_tree s.layer.now) p s.desk };
+    ghost ready = { IsInOrder };
 
-    ghost state = { λ p s. state_of (row_seen p) s.desk.cells };
+    ghost state = { state_in };
 
+    ghost taken = { taken_by };
+
+    #[tactic(auto, unfolding(crate::specs::Layer::place_of, crate::specs::Layer::tree_of, crate::specs::Layer::refs_of, crate::specs::Layer::state_in, crate::specs::Layer::taken_by, crate::specs::Layer::IsInOrder))]
     fn take(
         &mut self,
         pool: &mut Pool,
@@ -86,9 +165,10 @@ impl<'a> Stage for FileLayer<'a> {
         event: PoolEvent,
         out: &mut Events,
     ) -> Predicted {
+        self.taken = self.taken.saturating_add(1);
         visit(
             self.place,
-            self.layer,
+            &self.layer,
             &mut self.desk,
             pool,
             direction,
@@ -97,7 +177,9 @@ impl<'a> Stage for FileLayer<'a> {
         )
     }
 
-    ghost frame = { λ p q a b s moved covers is. at_rest_stays (layer_tree s.layer.now) p q a b s.desk moved covers is };
+    ghost frame = { layer_stays };
 
-    ghost few = { λ p s is. keeps_few (layer_tree s.layer.now) p s.desk is };
+    ghost few = { layer_keeps_few };
+
+    ghost kept = { layer_keeps };
 }

@@ -4,10 +4,10 @@
 mod at_desk;
 mod desk;
 mod enters;
-mod laws;
 mod layer;
 mod leaves;
 mod lifts;
+mod maker;
 mod makes;
 mod puts;
 mod reads;
@@ -17,5 +17,5 @@ mod visits;
 mod writes;
 
 pub use desk::FileDesk;
-pub use laws::typed_layers_have_desks;
 pub use layer::FileLayer;
+pub use maker::Maker;

@@ -1,22 +1,26 @@
 //! Desks that are made, and that end.
 
-ghost use Rattle.std.specs.Prelude.{◌≡◌, ◌+◌, ◌≤◌, [], IfOk, vec_capacity};
+ghost use Rattle.std.specs.Prelude.{◌≡◌, ◌+◌, ◌≤◌, [], map, IfOk, IfSome, vec_capacity};
 ghost use Rattle.circular_buffer.specs.Buffer.{buffer};
 ghost use Rattle.slot_pool.specs.References.{Covers};
-ghost use Rattle.typed_layer.specs.View.{layer_tree};
+ghost use Rattle.layer_room.specs.Layouts as room;
+ghost use Rattle.layer_room.specs.Layouts.{rows_kept};
+ghost use Rattle.layer_stage.specs.Room.{most_kept};
+ghost use Rattle.typed_layer.specs.View.{cell_tree, form_tree, layer_tree};
 ghost use Rattle.cell_store.specs.Kept.{rows_in, emptied};
 ghost use Rattle.pool_message.specs.Moves.{Returned};
-ghost use Rattle.file_layer.specs.Fresh.{HasDesk, IsEmpty};
-ghost use Rattle.file_layer.specs.Rest.{IsAtRest};
+ghost use Rattle.file_layer.specs.Fits.{rows_most};
+ghost use Rattle.file_layer.specs.Fresh.{IsFresh, IsReserved};
+ghost use Rattle.file_layer.specs.Rest.{IsAtRest, IsMadeFor};
 ghost use Rattle.file_layer.specs.Stock.{kept_refs};
 
-use crate::desk::{FileDesk, MOST_BOUND};
-use cell_store::Cells;
-use layer_room::reserve_for;
+use crate::desk::{FileDesk, MOST_BOUND, MOST_OWN, MOST_ROWS};
+use cell_store::{Cells, MOST_MEMBERS};
+use layer_room::{Reserve, reserve_for};
 use pool_message::{Events, PoolMessage, PoolRow};
 use slot_pool::{Memory, Pool};
-use std::alloc::Global;
-use typed_layer::TypedLayer;
+use std::alloc::{AllocError, Global};
+use typed_layer::{Cell, Form, TypedLayer};
 
 /// Where messages lie, and a list of what is sent that keeps nothing.
 struct Lists {
@@ -65,6 +69,46 @@ impl Lists {
     }
 }
 
+/// How many rows each queue of a cell keeps; 0 where it has none.
+fn capacity_of(form: &Form) -> u8
+    ensures { result ≡ rows_kept (form_tree form.now) }
+{
+    match form {
+        Form::Numbers { .. } => 0,
+        Form::Queue { capacity, .. } | Form::Queues { capacity, .. } => *capacity,
+    }
+}
+
+/// How many rows cells keep at most, where these are no more than a desk may have.
+fn rows_at_most(cells: &[Cell]) -> Option<u32>
+    ensures { IfSome result (λ rows.
+        (rows ≡ rows_most (map (λ c. rows_kept c.form) (map cell_tree cells.now))) × (rows ≤ most_kept)) }
+{
+    let mut rows = 0;
+    for cell in cells {
+        rows += MOST_MEMBERS * u32::from(capacity_of(&cell.form));
+        if rows > MOST_ROWS {
+            return None;
+        }
+    }
+    Some(rows)
+}
+
+/// What a desk of a layer is made for, where that is no more than a desk may have; there is no memory for more.
+fn reserve_few(layer: &TypedLayer) -> Result<Reserve, Memory>
+    ensures { IfOk result (IsReserved (layer_tree layer.now)) }
+{
+    let reserve = reserve_for(layer);
+    let Some(rows) = rows_at_most(&layer.cells) else {
+        return Err(AllocError);
+    };
+    let beside = u32::from(reserve.messages) + 2;
+    if reserve.hand > MOST_OWN - rows - beside {
+        return Err(AllocError);
+    }
+    Ok(reserve)
+}
+
 /// An empty desk for a layer, at the member of rank `me` of `count`. All memory is taken here.
 pub(crate) fn make(
     alloc: Global,
@@ -74,10 +118,11 @@ pub(crate) fn make(
     ltime: u32,
 ) -> Result<FileDesk, Memory>
     requires members { count ≤ 32 }
-    requires desk { HasDesk (layer_tree layer.now) }
-    ensures { IfOk result (λ d. IsEmpty (layer_tree layer.now) me count ltime d) }
+    requires made { IsMadeFor (layer_tree layer.now) (room.layout_of (layer_tree layer.now) 0) }
+    ensures fresh { IfOk result (IsFresh (layer_tree layer.now) me count ltime) }
+    ensures most { IfOk result (λ d. d.cells.most ≡ count) }
 {
-    let reserve = reserve_for(layer);
+    let reserve = reserve_few(layer)?;
     let numbers = Vec::with_capacity(alloc, usize::from(reserve.numbers) + MOST_BOUND)?;
     let lists = Lists::fresh(
         alloc,
@@ -119,6 +164,26 @@ fn give_rows_back(cells: &mut Cells<PoolRow>, pool: &mut Pool)
     while let Some(row) = cells.take_any() {
         row.give_back(pool);
     }
+}
+
+/// Begins again with an empty desk, at the member of rank `me` of `count`. The references of all rows go back.
+pub(crate) fn restart(
+    desk: &mut FileDesk,
+    pool: &mut Pool,
+    layer: &TypedLayer,
+    me: u32,
+    count: u32,
+    ltime: u32,
+)
+    requires rest { IsAtRest (layer_tree layer.now) pool.old desk.old }
+    requires covered { Covers pool.old (kept_refs desk.old.cells) }
+    requires few { count ≤ desk.old.cells.most }
+    ensures returned { Returned pool.old pool.new (kept_refs desk.old.cells) }
+    ensures fresh { IsFresh (layer_tree layer.now) me count ltime desk.new }
+    ensures most { desk.new.cells.most ≡ desk.old.cells.most }
+{
+    give_rows_back(&mut desk.cells, pool);
+    desk.cells.reset(layer, me, count, ltime);
 }
 
 /// Ends a desk on which rows alone lie, and gives their references and its memory back.

@@ -10,11 +10,11 @@ ghost use Rattle.layer_eval.specs.Did.{as_predicted};
 ghost use Rattle.layer_stage.specs.Room.{slots_needed, places_needed, headers_met, most_counted, CountsWithin};
 ghost use Rattle.cell_store.specs.Kept.{state_of};
 ghost use Rattle.pool_message.specs.Seen.{row_seen, event_refs, event_seen, EventLies};
-ghost use Rattle.pool_message.specs.Sent.{sent_refs, sent_seen, SentLie};
+ghost use Rattle.pool_message.specs.Sent.{sent_refs, sent_seen, SentLie, most_events};
 ghost use Rattle.file_layer.specs.Rest.{IsAtRest, begins, ends};
 ghost use Rattle.file_layer.specs.Stock.{kept_refs};
 
-use crate::desk::{FileDesk, MOST_SENT};
+use crate::desk::FileDesk;
 use layer_ast::Dir;
 use layer_desk::Envelope;
 use layer_eval::{Predicted, take_event};
@@ -29,6 +29,7 @@ fn begin(desk: &mut FileDesk, message: Option<PoolMessage>, out: &mut Events)
     ensures desk { desk.new ≡ begins message out.old desk.old }
     ensures out { out.new ≡ desk.old.sent }
     ensures within { length out.old.items ≤ out.old.capacity }
+    ensures few { out.old.capacity ≤ most_events }
 {
     let first = out.len();
     let places = out.places();
@@ -37,7 +38,7 @@ fn begin(desk: &mut FileDesk, message: Option<PoolMessage>, out: &mut Events)
         Some(_) => unreachable!(),
     }
     desk.first = first;
-    desk.places = first + (places - first).min(MOST_SENT);
+    desk.places = places;
     mem::swap(&mut desk.sent, out);
 }
 

@@ -51,7 +51,7 @@ loop-index-preserved g c =
     c.loop-index.invariant.left c.loop-index.invariant.size within c.index_mut-slot.ensures.value
     within' read in
     record {
-      first = restarted_one _ _ _ _ _ c.args.cells.now _ _ _ c.loop-index.slots.items c.index_mut-slot.result.now _
+      first = restarted_one _ _ _ _ _ c.requires.few.0 c.args.cells.now _ _ _ c.loop-index.slots.items c.index_mut-slot.result.now _
           c.loop-index.invariant.first within' read
           c.in-Ok.ensures.numbers within known.form known.fits
           (c.restart.ensures ∙ ap (λ at. slot_again c.args.count at c.index_mut-slot.result.now) (c.len-at.ensures ∙ c.loop-index.block.ok.0));

@@ -14,7 +14,7 @@ loop-preserved g c =
     let places = ap (λ (l : Layout). l.messages) ready.layout in let some = ready.messages in
     let step = bare_more g.K.Start.begun c.args.pool.now (stock_of c.loop.desk) ready.pool ready.fits c.nothing.result c.push_reserved.new.self.items
     c.push_reserved.ensures.items c.nothing.ensures (omega arith) in (
-      record { pool = step.0; layout = search rules; fits = step.1; numbers = search rules; messages = search rules; sent = search rules },
+      record { pool = step.0; layout = search rules; fits = step.1; numbers = search rules; messages = search rules; forms = search rules; sent = search rules },
       step.2 (c.args.count - (c.loop.counter + 1)) ∙ ap (λ k. with_bare k (laid c.args.pool.now (stock_of c.loop.desk))) (sym left) ∙ c.loop.invariant.1,
       omega arith,
       c.loop.invariant.3,

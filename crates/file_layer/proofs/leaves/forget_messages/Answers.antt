@@ -10,7 +10,7 @@ loop-message-preserved g c =
     c.pop.new.self.items c.in-Some.message c.in-Some.ensures.items c.give_back.ensures in
     let spent = c.loop-message.invariant.2 in let same = c.loop-message.invariant.3 in
     let slots = spent.slots in let more = c.give_back.ensures.slots in (
-      record { pool = step.0; layout = search rules; fits = step.1; numbers = search rules; messages = search rules; sent = search rules },
+      record { pool = step.0; layout = search rules; fits = step.1; numbers = search rules; messages = search rules; forms = search rules; sent = search rules },
       step.2 ∙ c.loop-message.invariant.1,
       record { slots = omega arith; places = spent.places; hand = spent.hand },
       (c.pop.ensures.capacity ∙ same.0, same.1, same.2),

@@ -12,7 +12,7 @@ returns-clause-ready g c =
     c.forget_messages.ensures.ready.pool c.forget_messages.ensures.ready.fits c.clear.new.self.items c.take-arrived.new.self c.clear.ensures.items
     c.take-arrived.ensures.after
     (subst (λ m. Returned c.forget_messages.new.pool c.give_back_if_any.new.pool (refs_if m)) c.take-arrived.ensures.value c.give_back_if_any.ensures) in
-    record { pool = step.0; layout = search rules; fits = step.1; numbers = search rules; messages = search rules; sent = search rules }
+    record { pool = step.0; layout = search rules; fits = step.1; numbers = search rules; messages = search rules; forms = search rules; sent = search rules }
 
 pub returns-clause-shown : goal.returns-clause-shown
 returns-clause-shown g c =

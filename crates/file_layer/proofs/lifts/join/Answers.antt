@@ -29,7 +29,7 @@ returns-in-Some-join-clause-ready g c =
     let step = joined_fits g.K.Start.begun c.args.pool.now c.join.new.pool (stock_of c.args.desk.now) c.requires.pool c.requires.fits c.pop-2.new.self.items
     c.in-Some-pop.first c.in-Some.second (both_off _ _ _ _ _ c.in-Some.ensures.items c.in-Some-pop.ensures.items)
     c.in-Some-join.message c.push_reserved-in-Some-join.new.self.items c.push_reserved-in-Some-join.ensures.items c.in-Some-join.ensures in
-    record { pool = step.0; layout = search rules; fits = step.1; numbers = search rules; messages = search rules; sent = search rules }
+    record { pool = step.0; layout = search rules; fits = step.1; numbers = search rules; messages = search rules; forms = search rules; sent = search rules }
 
 pub returns-in-Some-join-clause-shown : goal.returns-in-Some-join-clause-shown
 returns-in-Some-join-clause-shown g c =
@@ -42,4 +42,4 @@ returns-in-None-clause-ready g c =
     let step = gone_fits g.K.Start.begun c.args.pool.now c.join.new.pool (stock_of c.args.desk.now) c.requires.pool c.requires.fits c.pop-2.new.self.items
     c.in-Some-pop.first c.in-Some.second (both_off _ _ _ _ _ c.in-Some.ensures.items c.in-Some-pop.ensures.items)
     c.in-None.ensures.returned in
-    record { pool = step.0; layout = search rules; fits = step.1; numbers = search rules; messages = search rules; sent = search rules }
+    record { pool = step.0; layout = search rules; fits = step.1; numbers = search rules; messages = search rules; forms = search rules; sent = search rules }

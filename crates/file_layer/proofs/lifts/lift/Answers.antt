@@ -17,7 +17,7 @@ returns-in-Some-clause-ready g c =
     let step = scope_lifted g.K.Start.begun c.args.pool.now c.keep-message.new.pool (stock_of c.args.desk.now) c.requires.pool c.requires.fits
     c.args.slot c.in-Some.message.now c.keep-message.result c.push_reserved.new.self.items (plain []) (sym c.message_at.ensures ∙ ap option_copied c.in-Some.is) c.keep-message.ensures.same
     c.push_reserved.ensures.items (omega arith) c.keep-message.ensures.kept in
-    record { pool = step.0; layout = search rules; fits = step.1; numbers = search rules; messages = search rules; sent = search rules }
+    record { pool = step.0; layout = search rules; fits = step.1; numbers = search rules; messages = search rules; forms = search rules; sent = search rules }
 
 pub returns-in-Some-clause-shown : goal.returns-in-Some-clause-shown
 returns-in-Some-clause-shown g c =

@@ -9,4 +9,4 @@ returns-in-Some-clause-ready g c =
     let step = changed_fits g.K.Start.begun c.args.pool.now c.args.pool.now (stock_of c.args.desk.now) c.requires.pool c.requires.fits
     (λ m. parts.tail m c.args.from) c.pop.new.self.items c.in-Some.message c.tail.result c.push_reserved.new.self.items
     c.in-Some.ensures.items c.push_reserved.ensures.items c.tail.ensures (omega arith) in
-    record { pool = step.0; layout = search rules; fits = step.1; numbers = search rules; messages = search rules; sent = search rules }
+    record { pool = step.0; layout = search rules; fits = step.1; numbers = search rules; messages = search rules; forms = search rules; sent = search rules }

@@ -3,15 +3,16 @@ use Rattle.typed_layer.specs.View.{layer_tree}
 use Rattle.layer_room.specs.Layouts as room
 use Rattle.layer_room.specs.declared.reserve.Reserve.{Reserve}
 use Rattle.file_layer.specs.declared.desk.FileDesk.{FileDesk}
-use Rattle.file_layer.proofs.Fresh.{layout_at_first}
+use Rattle.file_layer.specs.Fresh.{IsEmpty}
+use Rattle.file_layer.proofs.Fresh.{layout_at_first, empty_at_rest}
 use Rattle.file_layer.proofs.makes.make.Goals as goal
 
-pub returns-in-Ok : goal.returns-in-Ok
-returns-in-Ok c =
+pub returns-in-Ok-clause-fresh : goal.returns-in-Ok-clause-fresh
+returns-in-Ok-clause-fresh c =
     let layout = room.layout_of (layer_tree c.args.layer.now) 0 in
-    let one = ap (λ (r : Reserve). r.numbers) c.reserve_for-reserve.ensures in
-    let two = ap (λ (r : Reserve). r.messages) c.reserve_for-reserve.ensures in
-    let three = ap (λ (r : Reserve). r.hand) c.reserve_for-reserve.ensures in
+    let one = ap (λ (r : Reserve). r.numbers) c.in_ok-reserve.ensures.is in
+    let two = ap (λ (r : Reserve). r.messages) c.in_ok-reserve.ensures.is in
+    let three = ap (λ (r : Reserve). r.hand) c.in_ok-reserve.ensures.is in
     let four = c.from.ensures in let five = c.from-2.ensures in
     let places = c.in_ok-numbers.ensures.exact in let room = c.in_ok-lists.ensures.room in
     let messages = room.0 in
@@ -28,7 +29,7 @@ returns-in-Ok c =
       first = 0;
       places = 0;
     } in
-    record {
+    let empty : IsEmpty (layer_tree c.args.layer.now) c.args.me c.args.count c.args.ltime desk = record {
       cells = search rules;
       numbers = search rules;
       messages = search rules;
@@ -37,5 +38,6 @@ returns-in-Ok c =
       sent = search rules;
       numbers_room = omega arith;
       messages_room = omega arith;
-      layout = layout_at_first (layer_tree c.args.layer.now) c.args.me c.args.count c.args.ltime desk c.requires.desk (search rules) numbers_is messages_is hand_is (search rules);
-    }
+      layout = layout_at_first (layer_tree c.args.layer.now) c.args.me c.args.count c.args.ltime desk c.in_ok-reserve.ensures.few (search rules) numbers_is messages_is hand_is (search rules);
+    } in
+    empty_at_rest c.args.me c.args.count c.args.ltime (layer_tree c.args.layer.now) desk c.requires.members c.in_ok-reserve.ensures.few c.requires.made empty

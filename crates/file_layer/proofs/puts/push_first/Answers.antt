@@ -1,7 +1,7 @@
 use Rattle.std.proofs.Common.{rules, vec_capacity, ap, ◌∙◌, arith}
 use Rattle.pool_message.specs.Seen.{row_seen}
 use Rattle.file_layer.specs.Ready.{layout_of, stock_of}
-use Rattle.file_layer.proofs.ReadyCells.{layout_kept, room_for_row, top_fits}
+use Rattle.file_layer.proofs.ReadyCells.{layout_kept, forms_rows, room_for_row, top_fits}
 use Rattle.file_layer.proofs.puts.push_first.Goals as goal
 
 pub returns-clause-ready : goal.returns-clause-ready
@@ -16,6 +16,7 @@ returns-clause-ready g c =
       fits = step.1;
       numbers = search rules;
       messages = search rules;
+      forms = forms_rows _ _ c.args.cell c.args.index _ c.push.ensures ∙ c.requires.ready.forms;
       sent = search rules;
     }
 

@@ -14,4 +14,4 @@ returns-in-Some-clause-ready g c =
     c.event_of.result c.push.new.self.items (ap (λ (x : Buffer (Dir × PoolEvent)). x.items) c.push.ensures) (omega arith)
     c.in-Some.message c.sent_behind-message.result c.take.new.self (sym c.take.ensures.value ∙ c.in-Some.is) c.sent_behind-message.ensures c.event_of.ensures
     c.take.ensures.after in
-    record { pool = step.0; layout = search rules; fits = step.1; numbers = search rules; messages = search rules; sent = sent_grows g.K.Start.begun.refs g.K.Start.begun.list c.args.desk.now.first c.args.desk.now.places c.args.desk.now.sent c.push.new.self _ c.requires.sent c.push.ensures }
+    record { pool = step.0; layout = search rules; fits = step.1; numbers = search rules; messages = search rules; forms = search rules; sent = sent_grows g.K.Start.begun.refs g.K.Start.begun.list c.args.desk.now.first c.args.desk.now.places c.args.desk.now.sent c.push.new.self _ c.requires.sent c.push.ensures }

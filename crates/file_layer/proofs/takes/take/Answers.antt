@@ -7,7 +7,7 @@ use Rattle.file_layer.specs.Fits.{most_bound}
 use Rattle.file_layer.specs.Ready.{layout_of, stock_of, IsReady}
 use Rattle.file_layer.specs.Stock.{laid}
 use Rattle.file_layer.specs.Taken.{numbers_filled}
-use Rattle.file_layer.proofs.ReadyCells.{layout_kept}
+use Rattle.file_layer.proofs.ReadyCells.{layout_kept, forms_rows}
 use Rattle.file_layer.proofs.ReadyTaken.{nothing_taken, none_taken, one_found, old_covered, taken_step, let_go_step}
 use Rattle.file_layer.proofs.takes.take.Goals as goal
 
@@ -48,6 +48,7 @@ returns-in-Some-message-clause-ready g c =
       fits = step.1;
       numbers = search rules;
       messages = search rules;
+      forms = forms_rows _ _ c.args.cell c.args.index _ c.take.ensures.rest ∙ c.requires.forms;
       sent = search rules;
     }
 
@@ -74,6 +75,7 @@ returns-in-None-clause-ready g c =
       fits = step.1;
       numbers = search rules;
       messages = search rules;
+      forms = forms_rows _ _ c.args.cell c.args.index _ c.take.ensures.rest ∙ c.requires.forms;
       sent = search rules;
     }
 

@@ -8,4 +8,4 @@ pub take_event-predicted-requires-clause-ready : goal.take_event-predicted-requi
 take_event-predicted-requires-clause-ready c =
     subst (λ e. IsReady (begun_at c.args.pool.now e) c.args.pool.now e) (sym c.begin.ensures.desk)
     (begins_ready (layer_tree c.args.layer.now) c.args.pool.now c.args.desk.now c.requires.rest c.args.event c.args.out.now c.args.direction
-    c.begin.ensures.within c.requires.event c.requires.out c.requires.covered c.requires.counts)
+    c.begin.ensures.within c.begin.ensures.few c.requires.event c.requires.out c.requires.covered c.requires.counts)
