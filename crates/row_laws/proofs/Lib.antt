@@ -1,0 +1,5 @@
+pub mod Rows
+pub mod Counts
+pub mod Room
+pub mod Stages
+pub mod Views
