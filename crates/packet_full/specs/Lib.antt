@@ -5,4 +5,5 @@ pub mod Steps
 pub mod Reads
 pub mod Room
 pub mod Scanned
+pub mod Sent
 pub mod Taking

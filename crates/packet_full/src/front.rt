@@ -1,6 +1,6 @@
 //! What stands in front of a datagram, and whether it is meant for a member.
 
-ghost use Rattle.std.specs.Prelude.{◌≡◌, ◌==◌, ◌&&◌, ◌||◌, not, nat_lt, IfOk};
+ghost use Rattle.std.specs.Prelude.{◌≡◌, ◌==◌, ◌&&◌, ◌||◌, ◌≤◌, not, nat_lt, IfOk};
 ghost use Rattle.msg_core.specs.View.{member_count as members_of};
 ghost use Rattle.packet_mean.specs.Reading as reading;
 ghost use Rattle.packet_mean.specs.Received as received;
@@ -49,8 +49,9 @@ pub(crate) fn is_form(byte: u8) -> bool
 }
 
 /// How many members a view has.
-fn member_count(view: View) -> u32
-    ensures { result ≡ members_of view }
+pub fn member_count(view: View) -> u32
+    ensures count { result ≡ members_of view }
+    ensures few { result ≤ 32 }
 {
     view.mask.count_ones()
 }

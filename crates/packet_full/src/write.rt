@@ -3,10 +3,14 @@
 ghost use Rattle.std.specs.Prelude.{◌≡◌, ◌+◌, ◌*◌, ◌^◌, ◌≤◌, ◌∷◌, ◌++◌, [], IfNone, IfOk, IfSome, length, vec_len, vec_capacity};
 ghost use Rattle.std.specs.List.{flat_map};
 ghost use Rattle.packet_mean.specs.Spelling as spelling;
+ghost use Rattle.msg_core.specs.declared.packet.Dest.{Dest};
+ghost use Rattle.packet_mean.specs.declared.here.Here.{Here};
 ghost use Rattle.packet_full.specs.Room.{room_needed};
+ghost use Rattle.packet_full.specs.Sent.{sent_packet};
 
 use crate::front::{EVERYONE, FULL_FORM};
-use msg_core::{Dest, Header, Memory, Message, Packet};
+use msg_core::{Dest, Header, Headers, Memory, Message, Packet};
+use packet_mean::Here;
 use std::alloc::Global;
 
 /// The bytes in front of a packet's headers.
@@ -39,6 +43,22 @@ pub fn put_number(number: u32, into: &mut Vec<u8>)
     into.push_reserved(fourth);
 }
 
+/// Puts the 19 bytes in front of what a member sends.
+fn put_front(form: u8, here: &Here, dest: Dest, into: &mut Vec<u8>)
+    requires { vec_len into.old + 19 ≤ vec_capacity into.old }
+    ensures items { into.new.items ≡ into.old.items ++ spelling.preamble_bytes form (sent_packet here.now dest [] []) }
+    ensures len { vec_len into.new ≡ vec_len into.old + 19 }
+    ensures capacity { vec_capacity into.new ≡ vec_capacity into.old }
+{
+    into.push_reserved(form);
+    put_number(here.group, into);
+    put_number(here.stamp, into);
+    put_number(here.view.ltime, into);
+    put_number(here.view.mask, into);
+    into.push_reserved(here.rank);
+    into.push_reserved(dest_byte(dest));
+}
+
 /// Puts what stands in front of a packet's spelling of a form: 19 bytes.
 pub fn put_preamble(form: u8, packet: &Packet, into: &mut Vec<u8>)
     requires { vec_len into.old + 19 ≤ vec_capacity into.old }
@@ -46,13 +66,13 @@ pub fn put_preamble(form: u8, packet: &Packet, into: &mut Vec<u8>)
     ensures len { vec_len into.new ≡ vec_len into.old + 19 }
     ensures capacity { vec_capacity into.new ≡ vec_capacity into.old }
 {
-    into.push_reserved(form);
-    put_number(packet.group, into);
-    put_number(packet.stamp, into);
-    put_number(packet.view.ltime, into);
-    put_number(packet.view.mask, into);
-    into.push_reserved(packet.sender);
-    into.push_reserved(dest_byte(packet.dest));
+    let here = Here {
+        group: packet.group,
+        stamp: packet.stamp,
+        view: packet.view,
+        rank: packet.sender,
+    };
+    put_front(form, &here, packet.dest, into);
 }
 
 /// Puts a header: its tag, and its numbers.
@@ -80,6 +100,21 @@ fn put_headers(message: &Message, into: &mut Vec<u8>)
     }
 }
 
+/// Puts headers in place, the lowest layer's first.
+fn put_headers_of(headers: &Headers, into: &mut Vec<u8>)
+    requires { vec_len into.old + 17 * length headers.now ≤ vec_capacity into.old }
+    ensures items { into.new.items ≡ into.old.items ++ flat_map spelling.header_bytes headers.now }
+    ensures len { vec_len into.new ≤ vec_len into.old + 17 * length headers.now }
+    ensures capacity { vec_capacity into.new ≡ vec_capacity into.old }
+{
+    for k in 0..headers.len() {
+        match headers.at(k) {
+            Some(header) => put_header(&header, into),
+            None => unreachable!(),
+        }
+    }
+}
+
 /// Puts the bytes of a body.
 pub fn put_body(body: &[u8], into: &mut Vec<u8>)
     requires { vec_len into.old + length body.now ≤ vec_capacity into.old }
@@ -101,6 +136,25 @@ pub fn write_full_into(packet: &Packet, into: &mut Vec<u8>)
     put_preamble(FULL_FORM, packet, into);
     put_headers(&packet.message, into);
     put_body(packet.message.body(), into);
+}
+
+/// Puts in full what a member sends to a destination, with these headers and this body, behind what a vector holds. It takes no memory: there
+/// is to be room for 17 bytes of each header, and for the rest.
+pub fn put_full_of(here: &Here, dest: Dest, headers: &Headers, body: &[u8], into: &mut Vec<u8>)
+    requires { vec_len into.old + room_needed (sent_packet here.now dest headers.now body.now) ≤ vec_capacity into.old }
+    ensures items { into.new.items ≡ into.old.items ++ spelling.full_bytes (sent_packet here.now dest headers.now body.now) }
+    ensures capacity { vec_capacity into.old ≤ vec_capacity into.new }
+{
+    put_front(FULL_FORM, here, dest, into);
+    put_headers_of(headers, into);
+    put_body(body, into);
+}
+
+/// How much room these parts of a packet are given.
+pub fn room_of(headers: &Headers, body: &[u8]) -> usize
+    ensures { (here : Here) → (dest : Dest) → result ≡ room_needed (sent_packet here dest headers.now body.now) }
+{
+    headers.len() as usize * HEADER_BYTES + PREAMBLE_BYTES + body.len()
 }
 
 /// How much room a packet is given, where a number of 64 bits tells it.

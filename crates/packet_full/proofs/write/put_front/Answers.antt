@@ -1,5 +1,5 @@
 use Rattle.std.proofs.Common.{append_assoc}
-use Rattle.packet_full.proofs.write.put_preamble.Goals as goal
+use Rattle.packet_full.proofs.write.put_front.Goals as goal
 
 pub returns-clause-items : goal.returns-clause-items
 returns-clause-items c = rw (

@@ -1,0 +1,11 @@
+use Rattle.std.proofs.Common.{◌≡◌, ◌+◌, ◌*◌, ◌≤◌, ◌++◌, take, vec_len, vec_capacity}
+use Rattle.std.specs.List.{flat_map}
+use Rattle.packet_mean.specs.Spelling.{header_bytes}
+use Rattle.packet_full.proofs.write.put_headers_of.Given as goal
+
+abbrev pub invariant-loop-k : goal.invariant-loop-k
+invariant-loop-k l = record {
+  items : l.into.items ≡ l.fn.into.items ++ flat_map header_bytes (take l.k l.headers);
+  len : vec_len l.into ≤ vec_len l.fn.into + 17 * l.k;
+  capacity : vec_capacity l.into ≡ vec_capacity l.fn.into;
+}

@@ -1,0 +1,56 @@
+-- What outputs are that are kept, with the bytes of all.
+use Rattle.std.specs.Prelude.{◌≡◌, ℕ, ◌+◌, ◌*◌, ◌≤◌, List, length, Option, Some, None}
+use Rattle.std.specs.List.{AllByRecursion}
+use Rattle.slot_pool.specs.Held.{range}
+use Rattle.msg_core.specs.Parts.{longest_body}
+use Rattle.msg_core.specs.declared.message.Header.{Header}
+use Rattle.layer_ast.specs.declared.tokens.Dir.{Dir}
+use Rattle.layer_mean.specs.declared.run.Event.{Event}
+use Rattle.packet_full.specs.Sent.{sent_packet}
+use Rattle.packet_mean.specs.declared.here.Here.{Here}
+use Rattle.run_mean.specs.Member as member
+use Rattle.step_outputs.specs.Views.{signal_meant}
+use Rattle.step_outputs.specs.declared.kept.Kept.{Kept}
+use Rattle.step_outputs.specs.declared.kept.Span.{Span}
+use Rattle.step_outputs.specs.declared.kept.What.{What}
+use Rattle.step_outputs.specs.declared.kept.What.TheVariants.{Cast, Send, Block, Announce, Timer, Packet, Nowhere, Quiet}
+
+-- The bytes of a range.
+abbrev pub bytes_in : List ℕ → Span → List ℕ
+bytes_in bytes span = range span.from span.len bytes
+
+-- A range lies within these bytes.
+abbrev pub LiesWithin : List ℕ → Span → Type 0
+LiesWithin bytes span = span.from + span.len ≤ length bytes
+
+-- An output with these headers and this body, and its plan.
+abbrev pub output_with : Here → What → List Header → List ℕ → member.Output × Option ℕ
+output_with here (Cast peer) headers body = (member.deliver_cast peer body, None)
+output_with here (Send peer) headers body = (member.deliver_send peer body, None)
+output_with here (Block a) headers body = (member.block a, None)
+output_with here (Announce ranks) headers body = (member.announce ranks, None)
+output_with here (Timer moment) headers body = (member.timer moment, None)
+output_with here (Packet dest plan) headers body = (member.packet (sent_packet here dest headers body), plan)
+output_with here Nowhere headers body = (member.nowhere, None)
+output_with here (Quiet dir signal) headers body = (member.quiet dir (signal_meant signal), None)
+
+-- The output that is kept.
+abbrev pub output_in : Here → List ℕ → Kept → member.Output × Option ℕ
+output_in here bytes k = output_with here k.what k.headers (bytes_in bytes k.body)
+
+-- What an event is that leaves at the upper edge, or at the lower one, whatever its message.
+abbrev pub IsFor : Here → Dir → Event → What → Type 0
+IsFor here dir e what = output_with here what (member.content e).headers (member.content e).body ≡ (member.output_of here (dir, e), None)
+
+-- The view that it announces.
+abbrev pub announced_by : What → Option ℕ
+announced_by (Announce ranks) = Some ranks
+announced_by _ = None
+
+-- Outputs are kept in so many places: there is room for the rest of them, and for the longest body of each.
+pub record AreKept (places room room_of_bytes : ℕ) (bytes : List ℕ) (list : List Kept) : Type 0 where
+  pub outputs : places ≤ room
+  pub held : length list ≤ places
+  pub bodies : places * longest_body ≤ room_of_bytes
+  pub few : length bytes ≤ length list * longest_body
+  pub lie : AllByRecursion (λ k. LiesWithin bytes k.body) list

@@ -1,0 +1,208 @@
+//! What is kept of an output.
+
+ghost use Rattle.std.specs.Prelude.{◌≡◌, ◌==◌, ◌&&◌, ◌+◌, ◌<◌, ◌≤◌, ◌++◌, ℕ, true, not, nat_lt, is_some, List, None, length, vec_len, vec_capacity};
+ghost use Rattle.slot_pool.specs.Held.{Held};
+ghost use Rattle.msg_core.specs.Parts.{longest_body};
+ghost use Rattle.msg_core.specs.View.{member_count as members_of};
+ghost use Rattle.layer_ast.specs.declared.tokens.Dir.TheVariants.{Up, Down};
+ghost use Rattle.layer_ast.specs.declared.tokens.Kind.TheVariants as kind;
+ghost use Rattle.layer_mean.specs.Event.{carries};
+ghost use Rattle.layer_mean.specs.declared.run.Event.{Event};
+ghost use Rattle.packet_mean.specs.declared.here.Here.{Here};
+ghost use Rattle.pool_message.specs.Seen.{event_seen, EventLies};
+ghost use Rattle.run_mean.specs.Member.{content};
+ghost use Rattle.step_outputs.specs.Kept.{announced_by, bytes_in, LiesWithin, output_with, IsFor};
+ghost use Rattle.step_outputs.specs.Views.{output_meant, signal_meant};
+
+use crate::view::{OutputView, PacketView, Signal};
+use layer_ast::{Dir, Kind};
+use msg_core::{Dest, Headers};
+use packet_full::{member_count, put_body};
+use packet_mean::Here;
+use pool_message::PoolEvent;
+use slot_pool::Pool;
+
+/// A range of bytes.
+#[derive(Clone, Copy)]
+pub struct Span {
+    pub from: usize,
+    pub len: usize,
+}
+
+/// What an output is, but for its headers and its bytes.
+#[derive(Clone, Copy)]
+pub enum What {
+    Cast(u32),
+    Send(u32),
+    Block(u32),
+    Announce(u32),
+    Timer(u32),
+    /// A packet to this destination, and the plan under which it is sent short, if it is.
+    Packet(Dest, Option<u8>),
+    Nowhere,
+    Quiet(Dir, Signal),
+}
+
+/// An output. Its headers are in place, and its bytes stand among those of all outputs.
+#[derive(Drop)]
+pub struct Kept {
+    pub what: What,
+    pub headers: Headers,
+    pub body: Span,
+}
+
+/// The bytes of an event's message; there is none where it has no message.
+pub(crate) fn body_of<'p>(event: &'p PoolEvent, pool: &'p Pool) -> &'p [u8]
+    requires { EventLies pool.now event.now }
+    ensures is { result.now ≡ (content (event_seen pool.now event.now)).body }
+    ensures few { length result.now ≤ longest_body }
+{
+    match &event.message {
+        Some(message) => {
+            let _count = message.len();
+            message.body(pool)
+        }
+        None => &[],
+    }
+}
+
+/// Puts the bytes of a body behind those of the others, and tells where they are.
+pub(crate) fn keep_bytes(body: &[u8], bytes: &mut Vec<u8>) -> Span
+    requires { vec_len bytes.old + length body.now ≤ vec_capacity bytes.old }
+    ensures items { bytes.new.items ≡ bytes.old.items ++ body.now }
+    ensures kept { bytes_in bytes.new.items result ≡ body.now }
+    ensures within { LiesWithin bytes.new.items result }
+    ensures capacity { vec_capacity bytes.old ≤ vec_capacity bytes.new }
+{
+    let from = bytes.len();
+    put_body(body, bytes);
+    Span {
+        from,
+        len: body.len(),
+    }
+}
+
+/// The headers of an event's message; there is none where it has no message.
+fn headers_of(event: &PoolEvent) -> Headers
+    ensures { (p : List Held) → result ≡ (content (event_seen p event.now)).headers }
+{
+    match &event.message {
+        Some(message) => message.copied_headers(),
+        None => Headers::none(),
+    }
+}
+
+/// The numbers of an event.
+fn signal_of(event: &PoolEvent) -> Signal
+    requires { event.now.message ≡ None }
+    ensures { (p : List Held) → signal_meant result ≡ event_seen p event.now }
+{
+    Signal {
+        kind: event.kind,
+        peer: event.peer,
+        a: event.a,
+        b: event.b,
+    }
+}
+
+/// What an event is at the upper edge.
+fn above(here: &Here, event: &PoolEvent) -> What
+    requires { is_some event.now.message ≡ carries event.now.kind }
+    ensures { (p : List Held) → IsFor here.now Up (event_seen p event.now) result }
+{
+    match event.kind {
+        Kind::Cast => What::Cast(event.peer),
+        Kind::Send => What::Send(event.peer),
+        Kind::Block => What::Block(event.a),
+        Kind::View => What::Announce(event.a),
+        _ => What::Quiet(Dir::Up, signal_of(event)),
+    }
+}
+
+/// Whether a rank is that of another member.
+fn is_other(here: &Here, peer: u32) -> bool
+    ensures is { result ≡ nat_lt peer (members_of here.now.view) && not (peer == here.now.rank) }
+    ensures few { result ≡ true → peer < 32 }
+{
+    peer < member_count(here.view) && peer != u32::from(here.rank)
+}
+
+/// What a send to a rank is at the lower edge.
+fn sent_to(here: &Here, peer: u32) -> What
+    ensures { (e : Event) → e.peer ≡ peer → e.kind ≡ kind.Send → IsFor here.now Down e result }
+{
+    if is_other(here, peer) {
+        What::Packet(Dest::Rank(peer as u8), None)
+    } else {
+        What::Nowhere
+    }
+}
+
+/// What an event is at the lower edge.
+fn below(here: &Here, event: &PoolEvent) -> What
+    requires { is_some event.now.message ≡ carries event.now.kind }
+    ensures { (p : List Held) → IsFor here.now Down (event_seen p event.now) result }
+{
+    match event.kind {
+        Kind::Cast => What::Packet(Dest::All, None),
+        Kind::Send => sent_to(here, event.peer),
+        Kind::Timer => What::Timer(event.a),
+        _ => What::Quiet(Dir::Down, signal_of(event)),
+    }
+}
+
+/// What an event is at the edge at which it leaves.
+fn what_of(here: &Here, direction: Dir, event: &PoolEvent) -> What
+    requires { is_some event.now.message ≡ carries event.now.kind }
+    ensures { (p : List Held) → IsFor here.now direction (event_seen p event.now) result }
+{
+    match direction {
+        Dir::Up => above(here, event),
+        Dir::Down => below(here, event),
+    }
+}
+
+/// What is kept of an event whose bytes are these.
+pub(crate) fn kept_of(here: &Here, direction: Dir, event: &PoolEvent, body: Span) -> Kept
+    requires { is_some event.now.message ≡ carries event.now.kind }
+    ensures what { (p : List Held) → IsFor here.now direction (event_seen p event.now) result.what }
+    ensures headers { (p : List Held) → result.headers ≡ (content (event_seen p event.now)).headers }
+    ensures body { result.body ≡ body }
+{
+    Kept {
+        what: what_of(here, direction, event),
+        headers: headers_of(event),
+        body,
+    }
+}
+
+/// What is told of an output that is kept with these bytes.
+pub(crate) fn shown<'b>(kept: &'b Kept, body: &'b [u8]) -> OutputView<'b>
+    ensures { (here : Here) → output_meant here result ≡ output_with here kept.now.what kept.now.headers body.now }
+{
+    match kept.what {
+        What::Cast(peer) => OutputView::Cast(peer, body),
+        What::Send(peer) => OutputView::Send(peer, body),
+        What::Block(a) => OutputView::Block(a),
+        What::Announce(ranks) => OutputView::Announce(ranks),
+        What::Timer(moment) => OutputView::Timer(moment),
+        What::Packet(dest, plan) => OutputView::Packet(PacketView {
+            dest,
+            headers: &kept.headers,
+            body,
+            plan,
+        }),
+        What::Nowhere => OutputView::Nowhere,
+        What::Quiet(direction, signal) => OutputView::Quiet(direction, signal),
+    }
+}
+
+/// The ranks of the view that an output announces, if it announces one.
+pub(crate) fn announces(kept: &Kept) -> Option<u32>
+    ensures { result ≡ announced_by kept.now.what }
+{
+    match kept.what {
+        What::Announce(ranks) => Some(ranks),
+        _ => None,
+    }
+}

@@ -1,0 +1,14 @@
+//! What leaves a member's stack in a step: its outputs in order, gathered without memory.
+#![tactic(auto)]
+
+mod kept;
+mod laws;
+mod outputs;
+mod view;
+
+// A crate can name outputs in a contract only if the types of their fields are exported.
+#[doc(hidden)]
+pub use kept::{Kept, Span, What};
+pub use laws::an_accepted_stack_is_light;
+pub use outputs::Outputs;
+pub use view::{OutputView, PacketView, Signal};
