@@ -2,7 +2,9 @@
 #![tactic(auto)]
 
 mod refusal;
+mod step;
 mod views;
 
 pub use refusal::Refusal;
+pub use step::{Change, Did, Input, Stepped};
 pub use views::{MOST_MEMBERS, next_view, rank};

@@ -1,0 +1,10 @@
+pub mod Pools
+pub mod Standing
+pub mod Gathering
+pub mod Resetting
+pub mod Running
+pub mod Viewing
+pub mod Playing
+pub mod Taking
+pub mod Making
+pub mod Placing

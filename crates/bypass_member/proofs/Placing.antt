@@ -1,0 +1,127 @@
+-- Steps of a placed member, taken or refused.
+use Rattle.std.proofs.Common.{◌≡◌, ◌∙◌, ℕ, ◌+◌, ◌<◌, List, Option, Some, Result, Ok, Err, sym, ap, subst}
+use Rattle.std.specs.Prelude.{◌^◌}
+use Rattle.std.specs.Rc.{rc_value}
+use Rattle.msg_core.specs.View.{member_count}
+use Rattle.layer_mean.specs.Tree.{LayerTree}
+use Rattle.stack_mean.specs.Plans.{plans_of}
+use Rattle.chain_laws.specs.Runs.{TypedStack}
+use Rattle.event_graph.specs.Answer.{stack_tree}
+use Rattle.event_graph.specs.declared.stack.Stack.{Stack}
+use Rattle.packet_plans.specs.Trees.{plans_tree}
+use Rattle.packet_plans.specs.declared.kept.Plans.{Plans}
+use Rattle.entry_shapes.specs.Shapes.{short_shapes}
+use Rattle.member_laws.specs.Members.{IsView, IsInput, IsEntered, IsChainedMember}
+use Rattle.member_laws.proofs.Members.{opened_is_chained}
+use Rattle.step_laws.proofs.Numbered.{inputs_are_in_range}
+use Rattle.file_layer.specs.Making.{Making}
+use Rattle.bypass_member.specs.Judged.{entry_meant}
+use Rattle.bypass_member.specs.Making.{IsOpening}
+use Rattle.bypass_member.specs.Placing.{IsMember}
+use Rattle.bypass_member.specs.Viewing.{HasMembers, IsIn, IsAt}
+use Rattle.bypass_member.specs.declared.entry.Entry.{Entry}
+use Rattle.bypass_member.specs.declared.member.Member.TheInside.{Inside}
+use Rattle.msg_core.specs.declared.packet.View.{View}
+use Rattle.layer_mean.specs.State.{State}
+use Rattle.packet_mean.specs.declared.here.Here.{Here}
+use Rattle.job_mean.specs.Job.{layered}
+use Rattle.run_mean.specs.Common.{is_common, as_sent}
+use Rattle.run_mean.specs.Member.{Member, inside, out, Input, Refusal, Entered, entered, Step, step_from, member_behind}
+use Rattle.step_outputs.specs.Gathered.{Gathered}
+use Rattle.view_core.specs.Refusals.{refusal_meant}
+use Rattle.view_core.specs.Steps.{changed}
+use Rattle.view_core.specs.declared.refusal.Refusal as refusal
+use Rattle.view_core.specs.declared.refusal.Refusal.TheVariants as reasons
+use Rattle.member_shown.specs.Shown.{member_in}
+use Rattle.bypass_member.specs.Behind.{view_behind}
+use Rattle.bypass_member.specs.Placed.{Placed, here_in, step_in, step_at, step_of, member_after, SamePlace, Takes}
+use Rattle.bypass_member.specs.Stepping.{stack_of, plans_in, IsGround, step_over, HasTaken}
+use Rattle.bypass_member.specs.Working.{states_in, IsReady}
+use Rattle.bypass_member.specs.declared.ground.Ground.{Ground}
+use Rattle.bypass_member.specs.declared.ground.Took.{Took}
+use Rattle.bypass_member.specs.declared.works.Works.{Works}
+
+-- a member in no view refuses all
+pub refused_out : (p : Placed) (input : Input) → p.member ≡ out → step_of p input ≡ Err (refusal_meant reasons.Out)
+refused_out p input is = ap (λ (m : Member). step_at p m input) is
+
+module _ (p : Placed) (view : View) (states : List State) (input : Input) (is : p.member ≡ inside view states) where
+  -- one in a view refuses what doesn't enter
+  pub refused_in : (reason : refusal.Refusal) → entered p.stack p.plans (here_in p view) input ≡ Err (refusal_meant reason) →
+      step_of p input ≡ Err (refusal_meant reason)
+  refused_in reason not = ap (λ (m : Member). step_at p m input) is ∙ ap (λ (e : Result Entered Refusal). step_in p view states e) not
+
+  -- and takes what does
+  abbrev its : Entered → Step
+  its what = step_from p.stack (here_in p view) p.id states what
+
+  taken_in : (what : Entered) → entered p.stack p.plans (here_in p view) input ≡ Ok what → step_of p input ≡ Ok (its what)
+  taken_in what enters = ap (λ (m : Member). step_at p m input) is ∙ ap (λ (e : Result Entered Refusal). step_in p view states e) enters
+
+  pub takes : (g : Ground) (what : Entered) (works : Works) (gathered : Gathered) (before after : ℕ) (took : Took) (new : Placed) →
+      stack_of g ≡ p.stack → plans_in g ≡ p.plans → g.here ≡ here_in p view → g.id ≡ p.id →
+      entered p.stack p.plans (here_in p view) input ≡ Ok what → HasTaken g states what works gathered before after took →
+      new.member ≡ member_in (view_behind g.here.view took.change) (states_in works) → SamePlace p new →
+      Takes p input new gathered.outputs before after took.common took.change
+  takes g what works gathered before after took new stack plans here id enters taken member place =
+      let same : step_over g states what ≡ its what = λ i. step_from (stack i) (here i) (id i) states what in record {
+        step = its what;
+        is = taken_in what enters;
+        member =
+            member ∙ taken.member ∙ (λ i. member_behind (here i).view (same i))
+            ∙ ap (λ (m : Member). member_after m (its what)) (sym is);
+        outputs = taken.outputs ∙ (λ i. as_sent layered (stack i) (plans i) (same i));
+        common_is = taken.common ∙ (λ i. is_common (stack i) (plans i) (same i));
+        change_is = taken.change ∙ ap (λ (s : Step). changed s.installs) same;
+        visits = taken.visits ∙ ap (λ (s : Step). before + s.work.visits) same;
+        place = place;
+      }
+
+-- a member that opens is one between two steps
+pub opened_member : (stack : List LayerTree) (most : ℕ) (view : View) (id : ℕ) (old new : Making) (w : Works) → TypedStack stack → IsView view →
+    most ≡ member_count view → IsOpening stack view id old new w → IsReady stack most w × IsIn stack most view (states_in w)
+opened_member stack most view id old new w typed is_view same opening = (
+  subst (λ (n : ℕ). IsReady stack n w) (sym same) opening.ready,
+  record {
+    inside_is = subst (λ (m : Member). IsChainedMember stack m) opening.member (opened_is_chained stack view id typed is_view);
+    members = subst (λ (n : ℕ). HasMembers n view (states_in w)) (sym same) opening.members;
+  },
+)
+
+-- what a step works over is sound
+pub ground_is : (m : Inside) (g : Ground) (view : View) → IsMember m → m.view ≡ Some view → g.stack.now ≡ rc_value m.stack →
+    g.plans.now ≡ rc_value m.plans → g.entries.now ≡ rc_value m.entries → g.here.view ≡ view → g.here.group < 2 ^ 32 → g.here.stamp < 2 ^ 32 →
+    g.here.rank < 32 → IsGround g
+ground_is m g view is at stack plans entries here group stamp rank =
+    let there : IsAt (stack_tree (rc_value m.stack)) m.most (Some view) (states_in m.works) =
+    subst (λ (v : Option View). IsAt (stack_tree (rc_value m.stack)) m.most v (states_in m.works)) at is.at in record {
+      typed = subst (λ (s : Stack). TypedStack (stack_tree s)) (sym stack) is.typed;
+      plans = ap plans_tree plans ∙ is.plans_are ∙ ap (λ (s : Stack). plans_of (stack_tree s)) (sym stack);
+      entries = entries ∙ is.entries_are ∙ (λ i. short_shapes (stack_tree (sym stack i)) (plans_tree (sym plans i)));
+      here = record {
+        group = group;
+        stamp = stamp;
+        view = subst (λ (v : View). IsView v) (sym here) there.inside_is.view_is;
+        rank = rank;
+      };
+    }
+
+-- what is judged enters in range
+pub entered_is : (m : Inside) (stack other : Stack) (plans : Plans) (here : Here) (input : Input) (entry : Entry) → IsMember m → stack ≡ rc_value
+    m.stack →
+    other ≡ rc_value m.stack → plans ≡ rc_value m.plans → IsInput input →
+    entered (stack_tree stack) (plans_tree plans) here input ≡ Ok (entry_meant here entry) → IsEntered (stack_tree other) (entry_meant here entry)
+entered_is m stack other plans here input entry is at too with small enters =
+    let its : entered (stack_tree other) (plans_of (stack_tree other)) here input ≡ Ok (entry_meant here entry) =
+    (λ i. entered (stack_tree ((too ∙ sym at) i))
+    ((ap (λ (s : Stack). plans_of (stack_tree s)) too ∙ sym is.plans_are ∙ ap plans_tree (sym with)) i) here input)
+    ∙ enters in
+    inputs_are_in_range (stack_tree other) here input (entry_meant here entry) (subst (λ (s : Stack). TypedStack (stack_tree s)) (sym too)
+    is.typed) small its
+
+-- what enters is the same for what is equal
+pub entered_same : (stack stack' : Stack) (plans plans' : Plans) (here here' : Here) (input : Input) (r : Result Entered Refusal) → stack ≡ stack' →
+    plans ≡ plans' → here ≡ here' → entered (stack_tree stack) (plans_tree plans) here input ≡ r →
+    entered (stack_tree stack') (plans_tree plans') here' input ≡ r
+entered_same stack stack' plans plans' here here' input r at with there is =
+    (λ i. entered (stack_tree (sym at i)) (plans_tree (sym with i)) (sym there i) input) ∙ is

@@ -1,0 +1,84 @@
+-- A member comes into the view behind its own.
+use Rattle.std.proofs.Common.{◌≡◌, ◌∙◌, ℕ, ◌<◌, ◌≤◌, Bool, true, false, nat_lt, ltb-true, List, [], ◌∷◌, map, length, Option, Some, None, position, refl, sym, ap, subst, arith}
+use Rattle.std.specs.Prelude.{◌==◌, if◌then◌else◌}
+use Rattle.std.specs.List.{AllByRecursion, position_or_len}
+use Rattle.std.specs.Option.{option_map_or}
+use Rattle.slot_pool.specs.References.{Exact}
+use Rattle.slot_pool.proofs.References.{exact-moved}
+use Rattle.msg_core.specs.View.{ids, member_count, rank}
+use Rattle.msg_core.specs.declared.packet.View.{View}
+use Rattle.layer_mean.specs.State.{State}
+use Rattle.layer_mean.specs.Tree.{LayerTree}
+use Rattle.layer_mean.specs.Visit.{fresh}
+use Rattle.run_mean.specs.View.{next_view}
+use Rattle.run_mean.specs.Member.{inside, out, opened}
+use Rattle.chain_laws.proofs.Lists.{each_so}
+use Rattle.row_laws.proofs.Views.{views_shrink}
+use Rattle.bypass_member.specs.Viewing.{AreOf, HasMembers, Anew, ComesInto}
+use Rattle.bypass_member.specs.Working.{states_in, refs_in, IsReady}
+use Rattle.bypass_member.specs.declared.works.Works.{Works}
+
+-- a rank is below the number of members
+
+position_below : {A : Type 0} (p : A → Bool) (xs : List A) (k : ℕ) → position p xs ≡ Some k → k < length xs
+position_below p xs k is = go (nat_lt (position_or_len p xs) (length xs)) refl is where
+  go : (b : Bool) → nat_lt (position_or_len p xs) (length xs) ≡ b → (if b then Some (position_or_len p xs) else None) ≡ Some k → k < length xs
+  go true below is =
+      let e : position_or_len p xs ≡ k = cc is in
+      omega (arith, e, ltb-true (position_or_len p xs) (length xs) below)
+  go false below is = absurd (cc is)
+
+pub rank_below : (view : View) (id me : ℕ) → rank view id ≡ Some me → me < member_count view
+rank_below view id me is = position_below (λ other. other == id) (ids view) me is
+
+-- what was enough for a view is so for the one behind it
+
+pub fewer_now : (view next : View) (ranks count : ℕ) (states : List State) → next_view view ranks ≡ Some next → count ≡ member_count next →
+    AreOf (member_count view) states → AllByRecursion (λ (s : State). count ≤ s.count) states
+fewer_now view next ranks count states is same are =
+    let less = views_shrink view next ranks is in
+    each_so (λ (s : State). s.count ≡ member_count view) (λ (s : State). count ≤ s.count) (λ s at. omega (arith, at, less, same)) states are.counts
+
+fresh_counts : (me count ltime : ℕ) (stack : List LayerTree) →
+    AllByRecursion (λ (s : State). s.count ≡ count) (map (λ (layer : LayerTree). fresh layer me count ltime) stack)
+fresh_counts me count ltime [] = tt
+fresh_counts me count ltime (layer ∷ stack) = (refl, fresh_counts me count ltime stack)
+
+pub fresh_are_of : (me count ltime : ℕ) (stack : List LayerTree) → AreOf count (map (λ (layer : LayerTree). fresh layer me count ltime) stack)
+fresh_are_of me count ltime stack = record { counts = fresh_counts me count ltime stack }
+
+pub opened_is : (stack : List LayerTree) (view : View) (id me : ℕ) → rank view id ≡ Some me →
+    opened stack view id ≡ inside view (map (λ (layer : LayerTree). fresh layer me (member_count view) view.ltime) stack)
+opened_is stack view id me at =
+    ap (λ (o : Option ℕ). option_map_or (λ me. inside view (map (λ (layer : LayerTree). fresh layer me (member_count view) view.ltime) stack)) o
+    out) at
+
+module _ (stack : List LayerTree) (most : ℕ) (view next : View) (id ranks me : ℕ) where
+  pub comes_into : (count : ℕ) (old new : Works) → next_view view ranks ≡ Some next → rank next id ≡ Some me → count ≡ member_count next →
+      IsReady stack most old → HasMembers most view (states_in old) →
+      Anew me count next.ltime old.pool new.pool old.layers.items new.layers.items →
+      new.tasks ≡ old.tasks → new.emits ≡ old.emits → new.outs ≡ old.outs → ComesInto stack most view id ranks next new
+  comes_into count old new behind at same ready members anew tasks emits outs =
+      let states : states_in new ≡ map (λ (layer : LayerTree). fresh layer me (member_count next) next.ltime) stack =
+      anew.states new.pool
+      ∙ ap (λ (layers : List LayerTree). map (λ (layer : LayerTree). fresh layer me count next.ltime) layers) ready.stand.layers
+      ∙ ap (λ (n : ℕ). map (λ (layer : LayerTree). fresh layer me n next.ltime) stack) same in
+      let less = views_shrink view next ranks behind in let few = members.few in record {
+        member = ap (λ (o : Option View). option_map_or (λ n. opened stack n id) o out) behind ∙ opened_is stack next id me at ∙ ap (inside next)
+            (sym states);
+        members = record {
+          few = omega arith;
+          counts = subst (λ (all : List State). AreOf (member_count next) all) (sym states) (fresh_are_of me (member_count next) next.ltime stack);
+        };
+        ready = record {
+          stand = record {
+            places = anew.places ∙ ready.stand.places;
+            layers = anew.trees ∙ ready.stand.layers;
+            ready = anew.order new.pool;
+          };
+          exact = subst (λ (xs : List ℕ). Exact new.pool xs) (sym anew.refs) (exact-moved old.pool new.pool (refs_in old) [] ready.exact anew.moved);
+          quiet = record { tasks = tasks ∙ ready.quiet.tasks; emits = emits ∙ ready.quiet.emits; outs = outs ∙ ready.quiet.outs };
+          slots = anew.moved.slots ∙ ready.slots;
+          few = ready.few;
+        };
+      }

@@ -1,0 +1,13 @@
+pub mod Placed
+pub mod Opening
+pub mod Judged
+pub mod Entering
+pub mod Working
+pub mod Viewing
+pub mod Gathering
+pub mod Resetting
+pub mod Behind
+pub mod Stepping
+pub mod Making
+pub mod Placing
+pub mod Codes

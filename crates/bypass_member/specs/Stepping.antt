@@ -1,0 +1,70 @@
+-- A step of a member in a view, over what it works with.
+use Rattle.std.specs.Prelude.{◌≡◌, ℕ, ◌+◌, List, map, Option, None}
+use Rattle.layer_mean.specs.State.{State}
+use Rattle.layer_mean.specs.Tree.{LayerTree}
+use Rattle.stack_mean.specs.Plan.{Plan}
+use Rattle.stack_mean.specs.Plans.{plans_of}
+use Rattle.job_mean.specs.Job.{layered}
+use Rattle.run_mean.specs.Common.{is_common, as_sent}
+use Rattle.run_mean.specs.Member.{Entered, Output, Step, step_from, member_behind}
+use Rattle.chain_laws.specs.Runs.{TypedStack}
+use Rattle.member_laws.specs.Members.{IsHere}
+use Rattle.event_graph.specs.Answer.{stack_tree}
+use Rattle.packet_plans.specs.Trees.{plans_tree}
+use Rattle.entry_shapes.specs.Shapes.{short_shapes}
+use Rattle.layer_eval.specs.Did.{as_predicted}
+use Rattle.layer_eval.specs.declared.predicted.Predicted.{Predicted}
+use Rattle.step_outputs.specs.Gathered.{Gathered}
+use Rattle.view_core.specs.Steps.{changed}
+use Rattle.member_shown.specs.Shown.{member_in}
+use Rattle.bypass_member.specs.Behind.{view_behind}
+use Rattle.bypass_member.specs.Viewing.{HasMembers, IsAt}
+use Rattle.bypass_member.specs.Working.{states_in, IsReady}
+use Rattle.bypass_member.specs.declared.ground.Ground.{Ground}
+use Rattle.bypass_member.specs.declared.ground.Took.{Took}
+use Rattle.bypass_member.specs.declared.works.Works.{Works}
+
+-- The stack and the plans over which a member works.
+abbrev pub stack_of : Ground → List LayerTree
+stack_of g = stack_tree g.stack.now
+
+abbrev pub plans_in : Ground → List Plan
+plans_in g = plans_tree g.plans.now
+
+-- The stack is typed, the plans and the entries are the stack's, and it stands in a view.
+pub record IsGround (g : Ground) : Type 0 where
+  pub typed : TypedStack (stack_of g)
+  pub plans : plans_in g ≡ plans_of (stack_of g)
+  pub entries : g.entries.now ≡ short_shapes (stack_of g) (plans_in g)
+  pub here : IsHere g.here
+
+-- The step of a member whose layers have these states, from what entered.
+abbrev pub step_over : Ground → List State → Entered → Step
+step_over g states what = step_from (stack_of g) g.here g.id states what
+
+-- An output that isn't sent short.
+abbrev pub in_full : Output → Output × Option ℕ
+in_full o = (o, None)
+
+-- The run of a step was made, and what came out of it is gathered: the member is between two steps, with the states that its layers came to.
+pub record HasPlayed (g : Ground) (states : List State) (what : Entered) (new : Works) (out : Gathered) (before after : ℕ)
+    (result : Predicted) : Type 0 where
+  pub ready : IsReady (stack_of g) g.most new
+  pub states_are : states_in new ≡ (step_over g states what).work.states
+  pub members : HasMembers g.most g.here.view (states_in new)
+  pub outputs : out.outputs ≡ map in_full (step_over g states what).outputs
+  pub here : out.here ≡ g.here
+  pub predicted : result ≡ as_predicted (step_over g states what).work.decided
+  pub visits : after ≡ before + (step_over g states what).work.visits
+
+-- The step was taken.
+pub record HasTaken (g : Ground) (states : List State) (what : Entered) (new : Works) (out : Gathered) (before after : ℕ)
+    (result : Took) : Type 0 where
+  pub ready : IsReady (stack_of g) g.most new
+  pub at : IsAt (stack_of g) g.most (view_behind g.here.view result.change) (states_in new)
+  pub member : member_in (view_behind g.here.view result.change) (states_in new) ≡ member_behind g.here.view (step_over g states what)
+  pub outputs : out.outputs ≡ as_sent layered (stack_of g) (plans_in g) (step_over g states what)
+  pub here : out.here ≡ g.here
+  pub common : result.common ≡ is_common (stack_of g) (plans_in g) (step_over g states what)
+  pub change : result.change ≡ changed (step_over g states what).installs
+  pub visits : after ≡ before + (step_over g states what).work.visits

@@ -1,0 +1,20 @@
+//! A member of a group, run layer by layer: it takes its inputs, one step each, with its messages in a pool of its own. It takes memory only as it
+//! is opened.
+#![tactic(auto)]
+
+mod enters;
+mod entry;
+mod error;
+mod gathers;
+mod ground;
+mod member;
+mod opens;
+mod runs;
+mod steps;
+mod views;
+mod works;
+
+pub use error::OpenError;
+pub use member::Member;
+#[doc(hidden)]
+pub use works::Works;

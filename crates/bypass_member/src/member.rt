@@ -1,0 +1,199 @@
+//! Members.
+
+use crate::entry::judge;
+use crate::error::OpenError;
+use crate::ground::{Ground, Took, here_of, view_after};
+use crate::opens::{close_works, open_works};
+use crate::steps::take;
+use crate::works::Works;
+use entry_shapes::EntryShapes;
+use event_graph::Stack;
+use file_layer::Maker;
+use member_shown::Shown;
+use msg_core::View;
+use packet_full::member_count;
+use packet_plans::Plans;
+use std::alloc::Global;
+use std::marker::Model;
+use std::rc::Rc;
+use step_outputs::Outputs;
+use view_core::{Input, Refusal, Stepped};
+
+/// The most rows with messages that a member's layers may keep.
+const MOST_ROWS: u32 = 8192;
+
+/// A member of a group, run layer by layer. It takes memory as it begins, and no more. It can't be let go: it is closed.
+pub struct Member {
+    stack: Rc<Stack>,
+    plans: Rc<Plans>,
+    entries: Rc<EntryShapes>,
+    group: u32,
+    stamp: u32,
+    id: u8,
+    /// How many members its first view had.
+    most: u8,
+    /// The view that it is in, if it is in one.
+    view: Option<View>,
+    works: Works,
+}
+
+impl Model for Member {
+    ghost use Rattle.bypass_member.specs.Placed.{Placed};
+    ghost use Rattle.bypass_member.specs.Codes.{placed_code};
+
+    ghost Value = { Placed };
+
+    ghost coded = { placed_code };
+
+    ghost use Rattle.bypass_member.specs.Placing.{placed, IsMember};
+
+    ghost view = { placed };
+
+    ghost invariant = { IsMember };
+}
+
+impl Member {
+    ghost use Rattle.std.specs.Prelude.{◌≡◌, ◌^◌, ◌≤◌, true, is_some, Ok};
+    ghost use Rattle.std.specs.Rc.{rc_value};
+    ghost use Rattle.chain_laws.specs.Runs.{TypedStack};
+    ghost use Rattle.entry_shapes.specs.Shapes.{short_shapes};
+    ghost use Rattle.event_graph.specs.Answer.{stack_tree};
+    ghost use Rattle.file_layer.specs.Making.{making};
+    ghost use Rattle.member_laws.specs.Members.{IsChainedMember};
+    ghost use Rattle.msg_core.specs.View.{rank};
+    ghost use Rattle.packet_plans.specs.Trees.{plans_tree};
+    ghost use Rattle.slot_pool.specs.References.{Exact};
+    ghost use Rattle.stack_mean.specs.Acceptance.{accepted, largest_weight};
+    ghost use Rattle.stack_mean.specs.Plans.{plans_of};
+    ghost use Rattle.view_core.specs.Steps.{input_meant};
+    ghost use Rattle.bypass_member.specs.Opening.{Opens};
+    ghost use Rattle.bypass_member.specs.Placed.{Steps, StandsAt};
+
+    /// A member of this id in its first view, over a maker's stack, with the stack's plans and the shapes of its entries. All memory is
+    /// taken here. Err where its layers may keep more than 8,192 rows with messages, or where memory runs out.
+    pub fn begin(
+        alloc: Global,
+        maker: &mut Maker,
+        stack: &Rc<Stack>,
+        plans: &Rc<Plans>,
+        entries: &Rc<EntryShapes>,
+        group: u32,
+        stamp: u32,
+        view: View,
+        id: u8,
+    ) -> Result<Member, OpenError>
+        requires same { (making maker.old).stack ≡ stack_tree (rc_value stack.now) }
+        requires typed { TypedStack (stack_tree (rc_value stack.now)) }
+        requires plans { plans_tree (rc_value plans.now) ≡ plans_of (stack_tree (rc_value stack.now)) }
+        requires entries { rc_value entries.now ≡ short_shapes (stack_tree (rc_value stack.now)) (plans_tree (rc_value plans.now)) }
+        requires made { (making maker.old).made ≤ 2 ^ 62 }
+        requires member { is_some (rank view id) ≡ true }
+        ensures { Opens
+            (record {
+              stack = stack_tree (rc_value stack.now);
+              plans = plans_tree (rc_value plans.now);
+              group = group;
+              stamp = stamp;
+              view = view;
+              id = id;
+            })
+            (making maker.old) (making maker.new) result }
+    {
+        let most = member_count(view) as u8;
+        let rows = stack.rows(most);
+        if rows > MOST_ROWS {
+            return Err(OpenError::TooLarge);
+        }
+        let shared = stack.clone()?;
+        let plans = plans.clone()?;
+        let entries = entries.clone()?;
+        let works = open_works(alloc, maker, stack, view, id, rows)?;
+        Ok(Member {
+            stack: shared,
+            plans,
+            entries,
+            group,
+            stamp,
+            id,
+            most,
+            view: Some(view),
+            works,
+        })
+    }
+
+    /// Takes an input, one step, or refuses it, and then nothing has changed. Tells what came out by `out`, and adds the visits of the step.
+    pub fn step(&mut self, input: Input<'_>, out: &mut Outputs, visits: &mut u64) -> Stepped
+        requires out { out.old.places ≡ largest_weight self.old.stack }
+        requires visits { visits.old ≤ 2 ^ 63 }
+        ensures step { Steps self.old (input_meant input.entry) self.new out.new.outputs visits.old visits.new result }
+        ensures places { out.new.places ≡ out.old.places }
+        ensures here { StandsAt self.old out.new.here result }
+    {
+        out.clear();
+        let Some(view) = self.view else {
+            return Stepped::Refused(Refusal::Out)
+        };
+        let here = here_of(self.group, self.stamp, view, self.id);
+        let entry = match judge(&self.stack, &self.plans, &here, input) {
+            Ok(entry) => entry,
+            Err(reason) => return Stepped::Refused(reason),
+        };
+        let ground = Ground {
+            stack: &self.stack,
+            plans: &self.plans,
+            entries: &self.entries,
+            here,
+            id: self.id,
+            most: self.most,
+        };
+        let Took { common, change } = take(&mut self.works, &ground, entry, out, visits);
+        self.view = view_after(view, change);
+        Stepped::Taken { common, change }
+    }
+
+    /// Where it is, and what its layers keep.
+    pub fn shown(&self) -> Shown<'_>
+        ensures { result ≡ self.now.member }
+    {
+        Shown::of(self.view, self.works.layers.as_slice(), &self.works.pool)
+    }
+
+    /// Ends it, and gives its memory back.
+    pub fn close(self) {
+        let Member {
+            stack: _,
+            plans: _,
+            entries: _,
+            group: _,
+            stamp: _,
+            id: _,
+            most: _,
+            view: _,
+            works,
+        } = self;
+        close_works(works);
+    }
+
+    /// That what its layers refer to is all that its pool counts.
+    pub fn counts_are_exact(&self)
+        ensures { Exact self.now.pool self.now.refs }
+    {
+        let _works = &self.works;
+    }
+
+    /// That what its layers keep is chained.
+    pub fn is_chained(&self)
+        ensures { IsChainedMember self.now.stack self.now.member }
+    {
+        let _works = &self.works;
+    }
+
+    /// That its stack is typed and accepted, and that its plans are the stack's.
+    pub fn is_placed(&self)
+        ensures typed { TypedStack self.now.stack }
+        ensures plans { self.now.plans ≡ plans_of self.now.stack }
+        ensures accepted { accepted self.now.stack ≡ Ok self.now.stack }
+    {
+        self.stack.is_accepted();
+    }
+}

@@ -1,0 +1,179 @@
+//! What a member works with, made and ended.
+
+ghost use Rattle.std.specs.Prelude.{◌≡◌, ◌<◌, ◌≤◌, ◌^◌, [], true, is_some, IfOk, length};
+ghost use Rattle.std.specs.List.{AllByRecursion, flat_map};
+ghost use Rattle.chain_laws.specs.Runs.{TypedStack};
+ghost use Rattle.circular_buffer.specs.Buffer.{buffer};
+ghost use Rattle.event_graph.specs.Answer.{stack_tree};
+ghost use Rattle.file_layer.specs.Layer.{refs_of, IsInOrder};
+ghost use Rattle.file_layer.specs.Making.{making};
+ghost use Rattle.msg_core.specs.View as members;
+ghost use Rattle.slot_pool.specs.References.{Covers};
+ghost use Rattle.stack_mean.specs.Acceptance.{largest_weight, rows_of};
+ghost use Rattle.bypass_member.specs.Making.{MakesAll, OpensWorks};
+ghost use Rattle.bypass_member.specs.Opening.{rows_limit};
+ghost use Rattle.bypass_member.specs.Working.{refs_in};
+
+use crate::works::Works;
+use event_graph::Stack;
+use file_layer::{FileLayer, Maker};
+use msg_core::View;
+use packet_full::member_count;
+use pool_message::Events;
+use slot_pool::{Memory, Pool};
+use stack_queue::{Tasks, events_for};
+use std::alloc::Global;
+use view_core::rank;
+
+/// How many slots a member's pool has beyond one for each row with a message: one for the body of the event that begins a run, and one for
+/// each join of the run.
+const SLOTS_BEYOND: u32 = 1025;
+
+/// The lists of a run, which are empty between two runs.
+struct Lists {
+    tasks: Tasks,
+    emits: Events,
+    outs: Events,
+}
+
+impl Lists {
+    fn fresh(alloc: Global, stack: &Stack) -> Result<Lists, Memory>
+        ensures tasks { IfOk result (λ l. l.tasks ≡ buffer [] (largest_weight (stack_tree stack.now))) }
+        ensures emits { IfOk result (λ l. l.emits ≡ buffer [] (largest_weight (stack_tree stack.now))) }
+        ensures outs { IfOk result (λ l. l.outs ≡ buffer [] (largest_weight (stack_tree stack.now))) }
+    {
+        let tasks = Tasks::fresh(alloc, stack)?;
+        match events_for(alloc, stack) {
+            Ok(emits) => match events_for(alloc, stack) {
+                Ok(outs) => Ok(Lists { tasks, emits, outs }),
+                Err(error) => {
+                    tasks.end();
+                    emits.close();
+                    Err(error)
+                }
+            },
+            Err(error) => {
+                tasks.end();
+                Err(error)
+            }
+        }
+    }
+
+    fn close(self)
+        requires { (self.tasks.items ≡ []) × (self.emits.items ≡ []) × (self.outs.items ≡ []) }
+    {
+        let Lists { tasks, emits, outs } = self;
+        tasks.end();
+        emits.close();
+        outs.close();
+    }
+}
+
+/// Ends layers, and gives back what they refer to.
+fn close_layers(mut layers: Vec<FileLayer>, pool: &mut Pool)
+    requires order { AllByRecursion (IsInOrder pool.old) layers.items }
+    requires covers { Covers pool.old (flat_map refs_of layers.items) }
+{
+    while let Some(layer) = layers.pop() {
+        layer.close(pool);
+    }
+    layers.destroy_empty();
+}
+
+/// All layers of a maker's stack, at the member of rank `me` of `count`; none where memory runs out.
+fn make_layers(
+    alloc: Global,
+    maker: &mut Maker,
+    places: u8,
+    pool: &mut Pool,
+    me: u32,
+    count: u32,
+    ltime: u32,
+) -> Result<Vec<FileLayer>, Memory>
+    requires places { places ≡ length (making maker.old).stack }
+    requires typed { TypedStack (making maker.old).stack }
+    requires made { (making maker.old).made ≤ 2 ^ 62 }
+    requires members { (me < count) × (count ≤ 32) }
+    ensures all { MakesAll me count ltime (making maker.old) (making maker.new) result }
+    ensures pool { IfOk result (λ _. pool.new ≡ pool.old) }
+{
+    let mut layers = Vec::with_capacity(alloc, usize::from(places))?;
+    for place in 0..places {
+        match FileLayer::fresh(alloc, maker, place, me, count, ltime) {
+            Ok(layer) => layers.push_reserved(layer),
+            Err(error) => {
+                close_layers(layers, pool);
+                return Err(error);
+            }
+        }
+    }
+    Ok(layers)
+}
+
+/// What a member of a view works with, with room for so many rows with messages.
+pub(crate) fn open_works(
+    alloc: Global,
+    maker: &mut Maker,
+    stack: &Stack,
+    view: View,
+    id: u8,
+    rows: u32,
+) -> Result<Works, Memory>
+    requires same { (making maker.old).stack ≡ stack_tree stack.now }
+    requires typed { TypedStack (stack_tree stack.now) }
+    requires made { (making maker.old).made ≤ 2 ^ 62 }
+    requires member { is_some (members.rank view id) ≡ true }
+    requires rows { rows ≡ rows_of (stack_tree stack.now) (members.member_count view) }
+    requires few { rows ≤ rows_limit }
+    ensures { OpensWorks (stack_tree stack.now) view id (making maker.old) (making maker.new) result }
+{
+    let me = match rank(view, id) {
+        Some(me) => me,
+        None => unreachable!(),
+    };
+    let count = member_count(view);
+    let mut pool = Pool::with_slots(alloc, rows + SLOTS_BEYOND)?;
+    let lists = Lists::fresh(alloc, stack)?;
+    match make_layers(
+        alloc,
+        maker,
+        stack.places(),
+        &mut pool,
+        u32::from(me),
+        count,
+        view.ltime,
+    ) {
+        Ok(layers) => {
+            let Lists { tasks, emits, outs } = lists;
+            Ok(Works {
+                layers,
+                pool,
+                tasks,
+                emits,
+                outs,
+            })
+        }
+        Err(error) => {
+            lists.close();
+            Err(error)
+        }
+    }
+}
+
+/// Ends what a member worked with.
+pub(crate) fn close_works(works: Works)
+    requires order { AllByRecursion (IsInOrder works.pool) works.layers.items }
+    requires covers { Covers works.pool (refs_in works) }
+    requires empty { (works.tasks.items ≡ []) × (works.emits.items ≡ []) × (works.outs.items ≡ []) }
+{
+    let Works {
+        layers,
+        mut pool,
+        tasks,
+        emits,
+        outs,
+    } = works;
+    close_layers(layers, &mut pool);
+    let lists = Lists { tasks, emits, outs };
+    lists.close();
+}

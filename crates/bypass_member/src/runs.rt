@@ -1,0 +1,40 @@
+//! The run of a step.
+
+ghost use Rattle.std.specs.Prelude.{◌^◌, ◌≤◌};
+ghost use Rattle.chain_laws.specs.Runs.{TypedStack};
+ghost use Rattle.event_graph.specs.Answer.{stack_tree};
+ghost use Rattle.bypass_member.specs.Working.{CanRun, HasRun};
+
+use crate::works::Works;
+use event_graph::Stack;
+use layer_eval::Predicted;
+use row_laws::accepted_is_light;
+use stack_queue::{PoolTask, entries_fit, run};
+
+/// Runs the layers from a first task. What comes out is kept until it is gathered.
+pub(crate) fn run_layers(
+    works: &mut Works,
+    stack: &Stack,
+    first: PoolTask,
+    visits: &mut u64,
+) -> Predicted
+    requires typed { TypedStack (stack_tree stack.now) }
+    requires can { CanRun (stack_tree stack.now) works.old first }
+    requires visits { visits.old ≤ 2 ^ 63 }
+    ensures { HasRun (stack_tree stack.now) works.old first visits.old works.new visits.new result }
+{
+    entries_fit();
+    accepted_is_light();
+    stack.is_accepted();
+    let layers = works.layers.as_mut_slice();
+    run(
+        layers,
+        stack,
+        &mut works.pool,
+        first,
+        &mut works.tasks,
+        &mut works.emits,
+        &mut works.outs,
+        visits,
+    )
+}
