@@ -1,0 +1,262 @@
+-- A step of a member, and what happens by it in a world where the group stands.
+use Rattle.std.proofs.Common.{◌≡◌, Bool, ℕ, zero, suc, ◌<◌, List, [], ◌∷◌, ◌++◌, map, length, get_or, set, Option, Some, None, option_map, Result, Ok, Err, slice_get, slice_index_or, slice_set, refl, ap, sym, subst, ◌∙◌, zero-add}
+use Rattle.std.proofs.Math.Seq.{map-set_same}
+use Rattle.std.proofs.lemmas.List.{append-nil, get_or-map, map-append, map-set, set-get_or, length-map, length-set}
+use Rattle.std.proofs.lemmas.List.FromFn.{get_or-map-range_with_len, length-map-range_with_len}
+use Rattle.std.proofs.lemmas.Option.{slice_get-map}
+use Rattle.std.specs.List.{filter_map}
+use Rattle.std.specs.Option.{option_map_or}
+use Rattle.msg_core.specs.View.{rank}
+use Rattle.msg_core.specs.declared.packet.Packet.{Packet}
+use Rattle.msg_core.specs.declared.packet.View.{View}
+use Rattle.layer_mean.specs.State.{State}
+use Rattle.layer_mean.specs.Tree.{LayerTree}
+use Rattle.stack_mean.specs.Plan.{Plan}
+use Rattle.packet_mean.specs.Spelling.{full_bytes}
+use Rattle.packet_mean.specs.declared.here.Here.{Here}
+use Rattle.run_mean.specs.Common.{with_plans, plan_behind}
+use Rattle.run_mean.specs.Member.{Member, inside, out, Input, datagram, is_out, Entered, entered, Output, packet_in, Refusal, Step, step_from}
+use Rattle.run_mean.specs.World.{World, Happening, only, refused, taken, absent, here_of, member_at, packet_number, world_behind}
+use Rattle.run_mean.specs.World.{stepped, stepped_of, stepped_inside, given}
+use Rattle.view_core.specs.Happenings.{DidIs, IsTaken}
+use Rattle.view_core.specs.declared.step.Change.{Change}
+use Rattle.view_core.specs.declared.step.Did.TheVariants as told
+use Rattle.view_core.specs.declared.step.Stepped.{Stepped}
+use Rattle.view_core.specs.declared.step.Stepped.TheVariants.{Taken, Refused}
+use Rattle.bypass_member.specs.Placed.{Placed, Steps, here_in, step_at, step_in, step_of, member_after}
+use Rattle.world_core.specs.Feeding.{IsFed}
+use Rattle.world_core.specs.Seats.{Seat, member_of, seat_of, seat, seats, AreSeated}
+use Rattle.world_core.specs.Standing.{Peopled, Stands, Stays, spelled_number, spelled_of}
+
+-- outputs without their plans
+without_plans : (plans : List Plan) (next : Option ℕ) (outputs : List Output) → map (λ o. o.0) (with_plans plans next outputs) ≡ outputs
+without_plans plans next [] = refl
+without_plans plans next (o ∷ outputs) = ap (λ os. o ∷ os) (without_plans plans (plan_behind next o) outputs)
+
+-- members in their seats
+pub count_seats : (stack : List LayerTree) (plans : List Plan) (group stamp n : ℕ) (members : List Placed) →
+    map seat_of members ≡ seats stack plans group stamp n → length members ≡ n
+count_seats stack plans group stamp n members seated =
+    sym (length-map members seat_of) ∙ ap length seated ∙ length-map-range_with_len (seat stack plans group stamp) 0 n
+
+pub are_seated : (stack : List LayerTree) (plans : List Plan) (group stamp n : ℕ) (members : List Placed) →
+    map seat_of members ≡ seats stack plans group stamp n → AreSeated stack plans group stamp members
+are_seated stack plans group stamp n members seated =
+    seated ∙ ap (seats stack plans group stamp) (sym (count_seats stack plans group stamp n members seated))
+
+module _ (stack : List LayerTree) (plans : List Plan) (group stamp : ℕ) (members : List Placed) (id : ℕ) (p : Placed) where
+  seat_at : AreSeated stack plans group stamp members → id < length members → p ≡ get_or members id p →
+      seat_of p ≡ seat stack plans group stamp id
+  seat_at seated lt at =
+      ap seat_of at ∙ sym (get_or-map seat_of members id p (seat_of p) lt) ∙ ap (λ ss. get_or ss id (seat_of p)) seated ∙
+      get_or-map-range_with_len (seat stack plans group stamp) 0 (length members) id id (seat_of p) lt (zero-add id)
+
+-- one of them steps
+same_seat : (p : Placed) (input : Input) (p' : Placed) (outs : List (Output × Option ℕ)) (before after : ℕ) (st : Stepped) →
+    Steps p input p' outs before after st → seat_of p' ≡ seat_of p
+same_seat p input p' outs before after (Taken common change) is =
+    λ i. record { stack = is.place.stack i; plans = is.place.plans i; group = is.place.group i; stamp = is.place.stamp i; id = is.place.id i }
+same_seat p input p' outs before after (Refused reason) is = ap seat_of is.same
+
+pub seated_behind : (stack : List LayerTree) (plans : List Plan) (group stamp : ℕ) (members : List Placed) (place : ℕ) (p : Placed)
+    (input : Input) (p' : Placed) (outs : List (Output × Option ℕ)) (before after : ℕ) (st : Stepped) →
+    AreSeated stack plans group stamp members → p ≡ get_or members place p → Steps p input p' outs before after st →
+    AreSeated stack plans group stamp (set members place p')
+seated_behind stack plans group stamp members place p input p' outs before after st seated at is =
+    are_seated stack plans group stamp (length members) (set members place p')
+    (map-set_same seat_of members place p' p (same_seat p input p' outs before after st is ∙ ap seat_of at) ∙ seated)
+
+-- what a member in a seat makes of an input
+abbrev here_at : Seat → View → Here
+here_at s view = record { group = s.group; stamp = s.stamp; view = view; rank = option_map_or (λ r. r) (rank view s.id) 0 }
+
+abbrev step_in_seat : Seat → View → List State → Result Entered Refusal → Result Step Refusal
+step_in_seat s view states (Ok what) = Ok (step_from s.stack (here_at s view) s.id states what)
+step_in_seat s view states (Err reason) = Err reason
+
+abbrev step_seated : Seat → Member → Input → Result Step Refusal
+step_seated s out input = Err is_out
+step_seated s (inside view states) input = step_in_seat s view states (entered s.stack s.plans (here_at s view) input)
+
+same_step : (p : Placed) (m : Member) (input : Input) → step_at p m input ≡ step_seated (seat_of p) m input
+same_step p out input = refl
+same_step p (inside view states) input = go (entered p.stack p.plans (here_in p view) input) where
+  go : (e : Result Entered Refusal) → step_in p view states e ≡ step_in_seat (seat_of p) view states e
+  go (Ok what) = refl
+  go (Err reason) = refl
+
+-- what happens by the step of a member
+abbrev happened : World → ℕ → Member → Result Step Refusal → Happening
+happened w id m (Err reason) = only w (refused reason)
+happened w id out (Ok s) = only w absent
+happened w id (inside view states) (Ok s) = record { world = world_behind w view id s; did = taken s }
+
+world_step : (stack : List LayerTree) (plans : List Plan) (w : World) (id : ℕ) (input : Input) (m : Member) →
+    stepped_of stack plans w id input m ≡ happened w id m (step_seated (seat stack plans w.group w.stamp id) m input)
+world_step stack plans w id input out = refl
+world_step stack plans w id input (inside view states) = go (entered stack plans (here_of w view id) input) where
+  go : (e : Result Entered Refusal) →
+      stepped_inside stack w id view states e ≡ happened w id (inside view states) (step_in_seat (seat stack plans w.group w.stamp id) view states e)
+  go (Ok what) = refl
+  go (Err reason) = refl
+
+-- a member in its seat steps as the one of the world does
+placed_step : (stack : List LayerTree) (plans : List Plan) (w : World) (id : ℕ) (input : Input) (p : Placed) →
+    seat_of p ≡ seat stack plans w.group w.stamp id → member_at w id ≡ p.member →
+    stepped stack plans w id input ≡ happened w id p.member (step_of p input)
+placed_step stack plans w id input p sits at =
+    ap (stepped_of stack plans w id input) at ∙ world_step stack plans w id input p.member ∙
+    ap (λ s. happened w id p.member (step_seated s p.member input)) (sym sits) ∙ ap (happened w id p.member) (sym (same_step p p.member input))
+
+-- what is told of it, and the world behind it
+record IsBehind (stack : List LayerTree) (plans : List Plan) (w : World) (id : ℕ) (h : Happening) (m : Member) (outs : List (Output × Option ℕ))
+    (before after : ℕ) (st : Stepped) : Type 0 where
+  is_told : DidIs stack plans h.did outs before after (told.Stepped st)
+  group : h.world.group ≡ w.group
+  stamp : h.world.stamp ≡ w.stamp
+  members : h.world.members ≡ slice_set w.members id m
+  packets : h.world.packets ≡ w.packets ++ filter_map packet_in (map (λ o. o.0) outs)
+
+module _ (w : World) (id : ℕ) (p : Placed) (input : Input) (p' : Placed) (outs : List (Output × Option ℕ)) (before after : ℕ) where
+  taken_behind : (common : Bool) (change : Option Change) (m : Member) (s : Step) → step_at p m input ≡ Ok s → p'.member ≡ member_after m s →
+      IsTaken p.stack p.plans s outs before after common change →
+      IsBehind p.stack p.plans w id (happened w id m (Ok s)) p'.member outs before after (Taken common change)
+  taken_behind common change out s is behind told = absurd (cc is)
+  taken_behind common change (inside view states) s is behind told = record {
+    is_told = told;
+    group = refl;
+    stamp = refl;
+    members = ap (slice_set w.members id) (sym behind);
+    packets = ap (λ os. w.packets ++ filter_map packet_in os)
+        (sym (ap (map (λ o. o.0)) told.outs_are ∙ without_plans p.plans None s.outputs));
+  }
+
+  step_behind : (st : Stepped) → Steps p input p' outs before after st → member_at w id ≡ p.member →
+      IsBehind p.stack p.plans w id (happened w id p.member (step_of p input)) p'.member outs before after st
+  step_behind (Taken common change) is at =
+      subst (λ r. IsBehind p.stack p.plans w id (happened w id p.member r) p'.member outs before after (Taken common change)) (sym is.is)
+      (taken_behind common change p.member is.step is.is is.member
+      (record { outs_are = is.outputs; common_is = is.common_is; change_is = is.change_is; visits_are = is.visits }))
+  step_behind (Refused reason) is at =
+      subst (λ r. IsBehind p.stack p.plans w id (happened w id p.member r) p'.member outs before after (Refused reason)) (sym is.why)
+      (record {
+        is_told = record { cause_is = refl; quiet = record { outs_are = is.none; visits_are = is.visits } };
+        group = refl;
+        stamp = refl;
+        members = sym (ap (slice_set w.members id) (ap member_of is.same ∙ sym at) ∙ set-get_or w.members id out);
+        packets = sym (ap (λ os. w.packets ++ filter_map packet_in (map (λ o. o.0) os)) is.none ∙ append-nil w.packets);
+      })
+
+-- a group as it is kept
+abbrev pub kept : List LayerTree → List Plan → (group stamp : ℕ) → List Placed → List (List ℕ) → Peopled
+kept stack plans group stamp members spelled =
+    record { stack = stack; plans = plans; group = group; stamp = stamp; members = map member_of members; spelled = spelled }
+
+-- one of its members steps, and what it sends is kept
+kept_fed : (stack : List LayerTree) (plans : List Plan) (group stamp : ℕ) (members : List Placed) (spelled more : List (List ℕ))
+    (id place : ℕ) (p : Placed) (input : Input) (p' : Placed) (outs : List (Output × Option ℕ)) (before after : ℕ) (st : Stepped) →
+    AreSeated stack plans group stamp members → place ≡ id → id < length members → p ≡ get_or members place p →
+    Steps p input p' outs before after st → more ≡ spelled ++ spelled_of outs → (w : World) →
+    Stands (kept stack plans group stamp members spelled) w → IsFed (kept stack plans group stamp members spelled) (stepped stack plans w id input)
+    (kept stack plans group stamp (set members place p') more) outs before after (told.Stepped st)
+kept_fed stack plans group stamp members spelled more id place p input p' outs before after st seated is_place lt found is sent w stands =
+    let at_id : p ≡ get_or members id p = found ∙ ap (λ k. get_or members k p) is_place in
+    let sits : seat_of p ≡ seat stack plans group stamp id = seat_at stack plans group stamp members id p seated lt at_id in
+    let sits_there : seat_of p ≡ seat stack plans w.group w.stamp id =
+    sits ∙ sym (λ i. seat stack plans (stands.group i) (stands.stamp i) id) in
+    let at : member_at w id ≡ p.member =
+    ap (λ ms. slice_index_or ms id out) stands.members ∙ get_or-map member_of members id p out lt ∙ sym (ap member_of at_id) in
+    let h = happened w id p.member (step_of p input) in
+    let behind : IsBehind stack plans w id h p'.member outs before after st =
+    subst (λ (s : Seat). IsBehind s.stack s.plans w id h p'.member outs before after st) sits
+    (step_behind w id p input p' outs before after st is at) in
+    let old = kept stack plans group stamp members spelled in
+    let new = kept stack plans group stamp (set members place p') more in
+    let fed : IsFed old h new outs before after (told.Stepped st) =
+    record {
+      world = record {
+        group = behind.group ∙ stands.group;
+        stamp = behind.stamp ∙ stands.stamp;
+        members = behind.members ∙ ap (λ ms. slice_set ms id p'.member) stands.members ∙ sym (map-set member_of members id p') ∙
+            ap (λ k. map member_of (set members k p')) (sym is_place);
+        spelled = ap (map full_bytes) behind.packets ∙ map-append full_bytes w.packets (filter_map packet_in (map (λ o. o.0) outs)) ∙
+            ap (λ xs. xs ++ spelled_of outs) stands.spelled ∙ sym sent;
+      };
+      told = behind.is_told;
+    } in
+    subst (λ x. IsFed old x new outs before after (told.Stepped st))
+    (sym (placed_step stack plans w id input p sits_there at)) fed
+
+-- a packet that is given, or that there isn't
+found_number : (w : World) (spelled : List (List ℕ)) (number : ℕ) → map full_bytes w.packets ≡ spelled →
+    option_map full_bytes (packet_number w number) ≡ spelled_number spelled number
+found_number w spelled zero is = refl
+found_number w spelled (suc k) is = sym (slice_get-map full_bytes w.packets k) ∙ ap (λ xs. slice_get xs k) is
+
+given_is : (stack : List LayerTree) (plans : List Plan) (w : World) (id number : ℕ) (spelled : List (List ℕ)) (bytes : List ℕ) →
+    map full_bytes w.packets ≡ spelled → Some bytes ≡ spelled_number spelled number →
+    given stack plans w id (packet_number w number) ≡ stepped stack plans w id (datagram bytes)
+given_is stack plans w id number spelled bytes is found =
+    go (packet_number w number) (found_number w spelled number is ∙ sym found) where
+      go : (o : Option Packet) → option_map full_bytes o ≡ Some bytes → given stack plans w id o ≡ stepped stack plans w id (datagram bytes)
+      go None same = absurd (cc same)
+      go (Some packet) same =
+          let bytes_are : full_bytes packet ≡ bytes = cc same in
+          ap (λ xs. stepped stack plans w id (datagram xs)) bytes_are
+
+absent_is : (stack : List LayerTree) (plans : List Plan) (w : World) (id number : ℕ) (spelled : List (List ℕ)) →
+    map full_bytes w.packets ≡ spelled → None ≡ spelled_number spelled number →
+    given stack plans w id (packet_number w number) ≡ only w absent
+absent_is stack plans w id number spelled is none =
+    go (packet_number w number) (found_number w spelled number is ∙ sym none) where
+      go : (o : Option Packet) → option_map full_bytes o ≡ None → given stack plans w id o ≡ only w absent
+      go None same = refl
+      go (Some packet) same = absurd (cc same)
+
+-- a group that is told by its parts
+module _ (c : Peopled) (stack : List LayerTree) (plans : List Plan) (group stamp : ℕ) (members : List Placed) (spelled : List (List ℕ))
+    (shown : kept stack plans group stamp members spelled ≡ c) where
+  pub stays_behind : (more : List (List ℕ)) (place : ℕ) (p' : Placed) → Stays c (kept stack plans group stamp (set members place p') more)
+  stays_behind more place p' = record {
+    stack = ap (λ x. x.stack) shown;
+    plans = ap (λ x. x.plans) shown;
+    count = length-map (set members place p') member_of ∙ length-set members place p' ∙ sym (length-map members member_of) ∙
+        ap (λ x. length x.members) shown;
+  }
+
+  pub absent_fed : (id number : ℕ) (outs : List (Output × Option ℕ)) (visits : ℕ) → None ≡ spelled_number spelled number → outs ≡ [] →
+      (w : World) → Stands c w → IsFed c (given c.stack c.plans w id (packet_number w number)) c outs visits visits told.Absent
+  absent_fed id number outs visits there none w stands =
+      let same = stands.spelled ∙ sym (ap (λ x. x.spelled) shown) in
+      subst (λ h. IsFed c h c outs visits visits told.Absent) (sym (absent_is c.stack c.plans w id number spelled same there))
+      (record { world = stands; told = record { outs_are = none; visits_are = refl } })
+
+  module _ (id place : ℕ) (p : Placed) (seated : AreSeated stack plans group stamp members) (is_place : place ≡ id) (lt : id < length c.members)
+      (found : p ≡ get_or members place p) where
+    within : id < length members
+    within = subst (λ n. id < n) (sym (ap (λ x. length x.members) shown) ∙ length-map members member_of) lt
+
+    pub stack_at : p.stack ≡ c.stack
+    stack_at =
+        let at_id = found ∙ ap (λ k. get_or members k p) is_place in
+        ap (λ (s : Seat). s.stack) (seat_at stack plans group stamp members id p seated within at_id) ∙ ap (λ x. x.stack) shown
+
+    module _ (more : List (List ℕ)) (p' : Placed) (outs : List (Output × Option ℕ)) (before after : ℕ) (st : Stepped) where
+      abbrev new : Peopled
+      new = kept stack plans group stamp (set members place p') more
+
+      pub step_fed : (input : Input) → Steps p input p' outs before after st → more ≡ spelled ++ spelled_of outs → (w : World) → Stands c w →
+          IsFed c (stepped c.stack c.plans w id input) new outs before after (told.Stepped st)
+      step_fed input is sent w stands =
+          let stands_there = subst (λ x. Stands x w) (sym shown) stands in
+          subst (λ (x : Peopled). IsFed x (stepped x.stack x.plans w id input) new outs before after (told.Stepped st)) shown
+          (kept_fed stack plans group stamp members spelled more id place p input p' outs before after st seated is_place within found is sent
+          w stands_there)
+
+      pub give_fed : (number : ℕ) (bytes : List ℕ) → Some bytes ≡ spelled_number spelled number → Steps p (datagram bytes) p' outs before after st →
+          more ≡ spelled ++ spelled_of outs → (w : World) → Stands c w →
+          IsFed c (given c.stack c.plans w id (packet_number w number)) new outs before after (told.Stepped st)
+      give_fed number bytes there is sent w stands =
+          let same = stands.spelled ∙ sym (ap (λ x. x.spelled) shown) in
+          subst (λ h. IsFed c h new outs before after (told.Stepped st)) (sym (given_is c.stack c.plans w id number spelled bytes same there))
+          (step_fed (datagram bytes) is sent w stands)

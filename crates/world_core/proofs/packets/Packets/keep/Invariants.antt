@@ -1,0 +1,6 @@
+use Rattle.std.proofs.Common.{◌≡◌, ◌++◌, take}
+use Rattle.world_core.specs.Standing.{spelled_of}
+use Rattle.world_core.proofs.packets.Packets.keep.Given as goal
+
+abbrev pub invariant-loop-k : goal.invariant-loop-k
+invariant-loop-k l = l.self ≡ l.fn.self ++ spelled_of (take l.k l.out.outputs)

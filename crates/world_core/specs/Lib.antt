@@ -1,0 +1,5 @@
+pub mod Feeding
+pub mod Opening
+pub mod Parts
+pub mod Seats
+pub mod Standing

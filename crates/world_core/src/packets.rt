@@ -1,0 +1,128 @@
+//! The packets of a group.
+
+ghost use Rattle.std.specs.Prelude.{◌≡◌, ◌^◌, ◌<◌, ◌≤◌, [], ◌∷◌, ◌++◌, Some, OnOk, length, slice_get};
+ghost use Rattle.std.specs.Option.{option_map};
+ghost use Rattle.packet_full.specs.Sent.{sent_packet};
+ghost use Rattle.packet_mean.specs.Spelling.{full_bytes};
+ghost use Rattle.step_outputs.specs.Views.{output_meant};
+ghost use Rattle.world_core.specs.Parts.{parts_from, start_of, EndAt};
+ghost use Rattle.world_core.specs.Standing.{spelled_number, spelled_of};
+
+use msg_core::Memory;
+use packet_full::{put_full_of, room_of};
+use packet_mean::Here;
+use std::alloc::Global;
+use std::marker::Model;
+use step_outputs::{OutputView, Outputs, PacketView};
+
+/// Every packet ever sent, as its full spelling, in the order of output: the bytes of all, one behind the other, and where each ends.
+#[derive(Drop)]
+pub struct Packets {
+    bytes: Vec<u8>,
+    ends: Vec<usize>,
+}
+
+impl Model for Packets {
+    ghost use Rattle.std.specs.Prelude.{ℕ, List, length};
+    ghost use Rattle.world_core.specs.Parts.{parts_from, EndAt};
+
+    ghost Value = { List (List ℕ) };
+
+    ghost view = { λ p. parts_from p.bytes.items 0 p.ends.items };
+
+    ghost invariant = { λ p. EndAt (length p.bytes.items) 0 p.ends.items };
+}
+
+/// Where a part begins: where the one in front of it ends.
+fn start(ends: &[usize], index: usize) -> usize
+    requires { index ≤ length ends.now }
+    ensures { result ≡ start_of 0 ends.now index }
+{
+    if index == 0 { 0 } else { ends[index - 1] }
+}
+
+/// A part of bytes that has an end.
+#[tactic(auto, using(crate::proofs::Arena::starts_before, crate::proofs::Arena::ends_within, crate::proofs::Arena::part_at))]
+fn part<'b>(bytes: &'b [u8], ends: &[usize], index: usize) -> &'b [u8]
+    requires there { index < length ends.now }
+    requires within { EndAt (length bytes.now) 0 ends.now }
+    ensures { slice_get (parts_from bytes.now 0 ends.now) index ≡ Some result.now }
+{
+    let from = start(ends, index);
+    let end = ends[index];
+    &bytes[from..end]
+}
+
+impl Packets {
+    /// No packet.
+    pub fn none(alloc: Global) -> Packets
+        ensures { result ≡ [] }
+    {
+        Packets {
+            bytes: Vec::new(alloc),
+            ends: Vec::new(alloc),
+        }
+    }
+
+    /// How many there are.
+    pub fn len(&self) -> usize
+        ensures count { result ≡ length self.now }
+        ensures small { result < 2 ^ 63 }
+    {
+        self.ends.len()
+    }
+
+    /// The packet of a number, the first being 1, if there is one.
+    pub fn numbered(&self, number: u32) -> Option<&[u8]>
+        ensures { option_map (λ bytes. bytes.now) result ≡ spelled_number self.now number }
+    {
+        if number == 0 {
+            return None;
+        }
+        let index = number as usize - 1;
+        if index >= self.ends.len() {
+            return None;
+        }
+        Some(part(&self.bytes, &self.ends, index))
+    }
+
+    /// Puts a packet that a member sends behind the others.
+    fn put(&mut self, here: &Here, packet: &PacketView<'_>) -> Result<(), Memory>
+        ensures { OnOk result (self.new ≡ self.old
+            ++ full_bytes (sent_packet here.now packet.now.dest packet.now.headers.now packet.now.body.now) ∷ []) }
+    {
+        self.ends.reserve(1)?;
+        self.bytes.reserve(room_of(packet.headers, packet.body))?;
+        put_full_of(
+            here,
+            packet.dest,
+            packet.headers,
+            packet.body,
+            &mut self.bytes,
+        );
+        let end = self.bytes.len();
+        self.ends.push_reserved(end);
+        Ok(())
+    }
+
+    /// Puts an output of a step behind the others if it is a packet.
+    fn put_output(&mut self, here: &Here, output: &OutputView<'_>) -> Result<(), Memory>
+        ensures { OnOk result (self.new ≡ self.old ++ spelled_of (output_meant here.now output.now ∷ [])) }
+    {
+        match output {
+            OutputView::Packet(packet) => self.put(here, packet),
+            _ => Ok(()),
+        }
+    }
+
+    /// Puts the packets among the outputs of a step behind the others, in order.
+    pub fn keep(&mut self, out: &Outputs) -> Result<(), Memory>
+        ensures { OnOk result (self.new ≡ self.old ++ spelled_of out.now.outputs) }
+    {
+        let here = out.here();
+        for k in 0..out.len() {
+            self.put_output(&here, &out.at(k))?;
+        }
+        Ok(())
+    }
+}

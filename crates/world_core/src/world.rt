@@ -1,0 +1,236 @@
+//! The members of a group at work, and every packet ever sent in it.
+
+ghost use Rattle.std.specs.Prelude.{◌≡◌, ◌+◌, ◌^◌, ◌<◌, ◌≤◌, IfOk, length, slice_index_or};
+ghost use Rattle.std.specs.Rc.{rc_value};
+ghost use Rattle.stack_mean.specs.Acceptance.{largest_weight};
+ghost use Rattle.stack_mean.specs.Plans.{plans_of};
+ghost use Rattle.chain_laws.specs.Runs.{TypedStack};
+ghost use Rattle.event_graph.specs.Answer.{stack_tree};
+ghost use Rattle.packet_plans.specs.Trees.{plans_tree};
+ghost use Rattle.file_layer.specs.Making.{making};
+ghost use Rattle.entry_shapes.specs.Shapes.{short_shapes};
+ghost use Rattle.script_mean.specs.Event.{member_of};
+ghost use Rattle.run_mean.specs.Member.{out as is_in_none};
+ghost use Rattle.run_mean.specs.World as mean;
+ghost use Rattle.view_core.specs.Steps.{input_meant};
+ghost use Rattle.world_core.specs.Feeding.{Fed};
+ghost use Rattle.world_core.specs.Opening.{Begins};
+ghost use Rattle.world_core.specs.Standing.{Stands, Stays};
+
+use crate::members::{close_all, open_all};
+use crate::packets::Packets;
+use bypass_member::{Member, OpenError};
+use entry_shapes::EntryShapes;
+use event_graph::Stack;
+use file_layer::Maker;
+use member_shown::Shown;
+use msg_core::Memory;
+use packet_plans::Plans;
+use script_mean::ScriptEvent;
+use std::alloc::{AllocError, Global};
+use std::marker::Model;
+use std::rc::Rc;
+use step_outputs::Outputs;
+use view_core::{Did, Input};
+
+/// The members of a group, by id, and every packet ever sent in it. A packet that is lost is one that is never given.
+pub struct World {
+    stack: Rc<Stack>,
+    plans: Rc<Plans>,
+    group: u32,
+    stamp: u32,
+    members: Vec<Member>,
+    packets: Packets,
+}
+
+impl Model for World {
+    ghost use Rattle.std.specs.Prelude.{map};
+    ghost use Rattle.std.specs.Coded.{codes};
+    ghost use Rattle.std.specs.Rc.{rc_value};
+    ghost use Rattle.tree_codes.specs.Codes.{stack_code};
+    ghost use Rattle.event_graph.specs.Answer.{stack_tree};
+    ghost use Rattle.packet_plans.specs.Trees.{plans_tree};
+    ghost use Rattle.world_core.specs.Seats.{member_of, AreSeated};
+    ghost use Rattle.world_core.specs.Standing.{Peopled};
+
+    ghost Value = { Peopled };
+
+    ghost coded = { Prim.hlevel (codes, stack_code) };
+
+    ghost view = { λ w. record {
+      stack = stack_tree (rc_value w.stack);
+      plans = plans_tree (rc_value w.plans);
+      group = w.group;
+      stamp = w.stamp;
+      members = map member_of w.members.items;
+      spelled = w.packets;
+    } };
+
+    ghost invariant = { λ w. AreSeated (stack_tree (rc_value w.stack)) (plans_tree (rc_value w.plans)) w.group w.stamp w.members.items };
+}
+
+/// The same stack and plans once more.
+fn share(stack: &Rc<Stack>, plans: &Rc<Plans>) -> Result<(Rc<Stack>, Rc<Plans>), AllocError>
+    ensures stack { IfOk result (λ shared. rc_value shared.0 ≡ rc_value stack.now) }
+    ensures plans { IfOk result (λ shared. rc_value shared.1 ≡ rc_value plans.now) }
+{
+    Ok((stack.clone()?, plans.clone()?))
+}
+
+impl World {
+    /// The members 0 to n - 1 of a group in the first view, who have been given nothing.
+    pub fn begin(
+        alloc: Global,
+        maker: &mut Maker,
+        stack: &Rc<Stack>,
+        plans: &Rc<Plans>,
+        entries: &Rc<EntryShapes>,
+        group: u32,
+        stamp: u32,
+        n: u8,
+    ) -> Result<World, OpenError>
+        requires same { (making maker.old).stack ≡ stack_tree (rc_value stack.now) }
+        requires typed { TypedStack (stack_tree (rc_value stack.now)) }
+        requires plans { plans_tree (rc_value plans.now) ≡ plans_of (stack_tree (rc_value stack.now)) }
+        requires entries { rc_value entries.now
+            ≡ short_shapes (stack_tree (rc_value stack.now)) (plans_tree (rc_value plans.now)) }
+        requires made { (making maker.old).made ≤ 2 ^ 61 }
+        requires members { (1 ≤ n) × (n ≤ 32) }
+        ensures { Begins (stack_tree (rc_value stack.now)) (plans_tree (rc_value plans.now)) group stamp n (making maker.old) (making maker.new) result }
+    {
+        let (own_stack, own_plans) = match share(stack, plans) {
+            Ok(shared) => shared,
+            Err(_) => return Err(OpenError::Memory),
+        };
+        match open_all(alloc, maker, stack, plans, entries, group, stamp, n) {
+            Ok(members) => Ok(World {
+                stack: own_stack,
+                plans: own_plans,
+                group,
+                stamp,
+                members,
+                packets: Packets::none(alloc),
+            }),
+            Err(error) => Err(error),
+        }
+    }
+
+    /// One event of a script. Behind it `out` has the outputs of the step alone, and the visits that it made are counted. Where memory runs
+    /// out, the world may only be closed.
+    #[tactic(auto, unfolding(run_mean::specs::World::happens))]
+    pub fn feed(
+        &mut self,
+        event: &ScriptEvent,
+        out: &mut Outputs,
+        visits: &mut u64,
+    ) -> Result<Did, Memory>
+        requires member { member_of event.now < length self.old.members }
+        requires out { out.old.places ≡ largest_weight self.old.stack }
+        requires visits { visits.old ≤ 2 ^ 63 }
+        ensures fed { (w : mean.World) → Stands self.old w →
+            Fed self.old (mean.happens self.old.stack self.old.plans w event.now) self.new out.new.outputs visits.old visits.new result }
+        ensures stays { Stays self.old self.new }
+        ensures places { out.new.places ≡ out.old.places }
+        ensures few { visits.new ≤ visits.old + 65536 }
+    {
+        match event {
+            ScriptEvent::Cast(id, body) => self.step(*id, Input::Cast(body.slice()), out, visits),
+            ScriptEvent::Send(id, to, body) => {
+                self.step(*id, Input::Send(*to, body.slice()), out, visits)
+            }
+            ScriptEvent::Leave(id) => self.step(*id, Input::Leave, out, visits),
+            ScriptEvent::Tick(id, moment) => self.step(*id, Input::Tick(*moment), out, visits),
+            ScriptEvent::Give(number, id) => self.give(*number, *id, out, visits),
+            ScriptEvent::Raw(id, bytes) => {
+                self.step(*id, Input::Datagram(bytes.slice()), out, visits)
+            }
+            ScriptEvent::Show(_) => {
+                out.clear();
+                Ok(Did::Shown)
+            }
+        }
+    }
+
+    /// A member is given an input.
+    fn step(
+        &mut self,
+        id: u8,
+        input: Input<'_>,
+        out: &mut Outputs,
+        visits: &mut u64,
+    ) -> Result<Did, Memory>
+        requires member { id < length self.old.members }
+        requires out { out.old.places ≡ largest_weight self.old.stack }
+        requires visits { visits.old ≤ 2 ^ 63 }
+        ensures fed { (w : mean.World) → Stands self.old w →
+            Fed self.old (mean.stepped self.old.stack self.old.plans w id (input_meant input.entry)) self.new out.new.outputs visits.old visits.new
+            result }
+        ensures stays { Stays self.old self.new }
+        ensures places { out.new.places ≡ out.old.places }
+        ensures few { visits.new ≤ visits.old + 65536 }
+    {
+        let stepped = self.members[usize::from(id)].step(input, out, visits);
+        match self.packets.keep(out) {
+            Ok(()) => Ok(Did::Stepped(stepped)),
+            Err(Memory) => Err(Memory),
+        }
+    }
+
+    /// Packet `number` reaches a member, as a datagram.
+    fn give(
+        &mut self,
+        number: u32,
+        id: u8,
+        out: &mut Outputs,
+        visits: &mut u64,
+    ) -> Result<Did, Memory>
+        requires member { id < length self.old.members }
+        requires out { out.old.places ≡ largest_weight self.old.stack }
+        requires visits { visits.old ≤ 2 ^ 63 }
+        ensures fed { (w : mean.World) → Stands self.old w →
+            Fed self.old (mean.given self.old.stack self.old.plans w id (mean.packet_number w number)) self.new out.new.outputs visits.old
+            visits.new result }
+        ensures stays { Stays self.old self.new }
+        ensures places { out.new.places ≡ out.old.places }
+        ensures few { visits.new ≤ visits.old + 65536 }
+    {
+        let Some(datagram) = self.packets.numbered(number) else {
+            out.clear();
+            return Ok(Did::Absent);
+        };
+        let stepped = self.members[usize::from(id)].step(Input::Datagram(datagram), out, visits);
+        match self.packets.keep(out) {
+            Ok(()) => Ok(Did::Stepped(stepped)),
+            Err(Memory) => Err(Memory),
+        }
+    }
+
+    /// The number that the next packet gets.
+    pub fn next_number(&self) -> u64
+        ensures number { result ≡ length self.now.spelled + 1 }
+        ensures small { result ≤ 2 ^ 63 }
+    {
+        self.packets.len() as u64 + 1
+    }
+
+    /// A member, shown.
+    pub fn shown(&self, member: u8) -> Shown<'_>
+        requires { member < length self.now.members }
+        ensures { result ≡ slice_index_or self.now.members member is_in_none }
+    {
+        self.members[usize::from(member)].shown()
+    }
+
+    /// Lets the members go.
+    pub fn close(self) {
+        let World {
+            stack: _,
+            plans: _,
+            group: _,
+            stamp: _,
+            members,
+            packets: _,
+        } = self;
+        close_all(members);
+    }
+}
