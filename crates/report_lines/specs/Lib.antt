@@ -1,3 +1,4 @@
 pub mod Layer
 pub mod Lead
 pub mod Deliveries
+pub mod Cells

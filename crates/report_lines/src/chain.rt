@@ -52,14 +52,14 @@ fn push_header_name(line: &mut Line, layer: Option<&TypedLayer>, tag: u8) -> Res
 
 /// The separator that stands in front of piece `k`.
 #[tactic(auto, using(crate::proofs::Joined::lead_later))]
-fn push_lead(line: &mut Line, separator: &[u8], k: u32) -> Result<(), Memory>
+pub fn push_lead(line: &mut Line, separator: &[u8], k: u32) -> Result<(), Memory>
     ensures { OnOk result (line.new ≡ line.old ++ lead separator.now k) }
 {
     if k > 0 { line.text(separator) } else { Ok(()) }
 }
 
 /// The numbers of a header, with commas between.
-fn push_fields(line: &mut Line, fields: &Fields) -> Result<(), Memory>
+pub(crate) fn push_fields(line: &mut Line, fields: &Fields) -> Result<(), Memory>
     ensures { OnOk result (line.new ≡ line.old ++ join_by decimal (44 ∷ []) fields.now) }
 {
     for k in 0..fields.len() {

@@ -1,13 +1,17 @@
-//! The lines of a report, each put behind what a line holds: what is delivered, announced and sent, views, refusals, and headers by name.
+//! The lines of a report, each put behind what a line holds: what is delivered, announced and sent, views, refusals, headers by name, and
+//! what cells hold.
 #![tactic(auto)]
 
+mod cells;
 mod chain;
 mod line;
 mod lines;
 
-pub use chain::push_chain;
+pub use cells::{push_cell, push_index, push_message_row, push_numbers_row};
+pub use chain::{push_chain, push_lead};
 pub use line::Line;
 pub use lines::{
-    Delivery, absent_line, announce_line, block_line, deliver_line, out_line, packet_line,
-    refused_line, state_line, state_out_line, timer_line, view_line, wire_line,
+    Delivery, absent_line, announce_line, block_line, deliver_line, end_line, out_line,
+    packet_line, refused_line, state_line, state_out_line, timer_line, view_line, visits_line,
+    wire_line,
 };

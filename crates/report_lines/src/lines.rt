@@ -1,9 +1,10 @@
 //! Single lines. Each ends with a line feed.
 
-ghost use Rattle.std.specs.Prelude.{◌≡◌, ◌++◌, OnOk, codes};
+ghost use Rattle.std.specs.Prelude.{◌≡◌, ◌++◌, ◌∷◌, [], OnOk, codes};
 ghost use Rattle.std.specs.Fmt.{decimal};
 ghost use Rattle.event_graph.specs.Answer.{stack_tree};
 ghost use Rattle.run_mean.specs.Lines as report;
+ghost use Rattle.run_mean.specs.Report as whole;
 ghost use Rattle.view_core.specs.Refusals.{refusal_meant};
 ghost use Rattle.report_lines.specs.Deliveries.{contents_text, delivery_text, packet_text};
 
@@ -221,4 +222,28 @@ pub fn absent_line(line: &mut Line, id: u8, number: u32) -> Result<(), Memory>
     push_word(line, b"absent", id)?;
     line.spaced(number)?;
     line.text(b"\n")
+}
+
+/// `WORD N`
+fn count_line(line: &mut Line, word: &[u8], count: u64) -> Result<(), Memory>
+    ensures { OnOk result (line.new ≡ line.old ++ report.line (word.now ∷ decimal count ∷ [])) }
+{
+    line.text(word)?;
+    line.text(b" ")?;
+    line.number(count)?;
+    line.text(b"\n")
+}
+
+/// `end N`: the last line of a report, of N events.
+pub fn end_line(line: &mut Line, events: u64) -> Result<(), Memory>
+    ensures { OnOk result (line.new ≡ line.old ++ whole.end_line events) }
+{
+    count_line(line, b"end", events)
+}
+
+/// `visits V`: how many visits were counted.
+pub fn visits_line(line: &mut Line, visits: u64) -> Result<(), Memory>
+    ensures { OnOk result (line.new ≡ line.old ++ whole.visits_line visits) }
+{
+    count_line(line, b"visits", visits)
 }

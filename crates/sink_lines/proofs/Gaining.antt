@@ -73,17 +73,22 @@ one_put a b line (Ok done) put kept counted = line_gains a b line put.0 kept cou
 one_put a b line (Err sink.Failed) put kept counted = line_fails a b line put.0 put.1 put.2 kept counted
 one_put a b line (Err sink.Memory) put kept counted = line_begins a b line put
 
--- the one line of which a put failed
-one_of : (front behind : List (List ℕ)) (line other : List ℕ) → line ∷ [] ≡ front ++ other ∷ behind → (front ≡ []) × (line ≡ other)
-one_of [] behind line other e = (refl, cc)
-one_of (x ∷ []) behind line other e = absurd (cc e)
-one_of (x ∷ y ∷ front) behind line other e = absurd (cc e)
+-- what was written where a put failed or memory ran out, and what was left
+pub fails_part : (a b : Tells) (lines : List (List ℕ)) → Fails a b lines →
+    (part : List ℕ) × (rest : List ℕ) × Appends a.contents b.contents part × (concat lines ≡ part ++ rest)
+fails_part a b lines f = (
+  concat f.front ++ take f.part f.line,
+  drop f.part f.line ++ concat f.behind,
+  f.gained,
+  ap concat f.are ∙ concat-append f.front (f.line ∷ f.behind) ∙
+      ap (λ l. concat f.front ++ (l ++ concat f.behind)) (sym (take-append-drop f.part f.line)) ∙
+      ap (λ l. concat f.front ++ l) (append_assoc (take f.part f.line) (drop f.part f.line) (concat f.behind)) ∙
+      sym (append_assoc (concat f.front) (take f.part f.line) (drop f.part f.line ++ concat f.behind)),
+)
 
--- a put of one line that failed appended a front of it
-pub fails_once : (a b : Tells) (line : List ℕ) → Fails a b (line ∷ []) → (part : ℕ) × Appends a.contents b.contents (take part line)
-fails_once a b line f =
-    let one = one_of f.front f.behind line f.line f.are in
-    (f.part, subst (Appends a.contents b.contents) (λ i. concat (one.0 i) ++ take f.part (sym one.1 i)) f.gained)
+pub begins_part : (a b : Tells) (bytes : List ℕ) → Begins a b bytes →
+    (part : List ℕ) × (rest : List ℕ) × Appends a.contents b.contents part × (bytes ≡ part ++ rest)
+begins_part a b bytes k = (take k.count bytes, drop k.count bytes, k.gained, sym (take-append-drop k.count bytes))
 
 pub begins_after : (a b c : Tells) (xs ys zs : List ℕ) → Appends a.contents b.contents xs → Begins b c ys → zs ≡ xs ++ ys → Begins a c zs
 begins_after a b c xs ys zs h k is = record {

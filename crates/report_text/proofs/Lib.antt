@@ -1,0 +1,5 @@
+pub mod Numbered
+pub mod Shown
+pub mod Tallied
+pub mod Moments
+pub mod Gained

@@ -1,0 +1,11 @@
+use Rattle.std.proofs.lemmas.Result.{err_from_is_err_and}
+use Rattle.sink_lines.proofs.Turns.{wrote_both, wrote_part}
+use Rattle.report_text.proofs.event.write_taken.Goals as goal
+
+pub returns-in_err-write_outputs : goal.returns-in_err-write_outputs
+returns-in_err-write_outputs g c =
+    let p = err_from_is_err_and c.from_residual.result c.from_residual.ensures.1 in
+    rw (p.1, p.2) (wrote_part _ _ _ _ _ c.in_err-write_outputs.ensures)
+
+pub returns : goal.returns
+returns g c = wrote_both _ _ _ _ _ _ c.in_ok-write_outputs.ensures c.write_change.ensures

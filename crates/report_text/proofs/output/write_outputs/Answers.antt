@@ -1,0 +1,29 @@
+use Rattle.std.proofs.Common.{arith, sym, ap, ◌∙◌, Some}
+use Rattle.std.proofs.lemmas.Result.{err_from_is_err_and}
+use Rattle.event_graph.specs.Answer.{stack_tree}
+use Rattle.step_outputs.specs.Views.{output_meant}
+use Rattle.report_text.specs.Numbered.{full_annex}
+use Rattle.report_text.proofs.Numbered.{number_more, outputs_gain, outputs_cut}
+use Rattle.report_text.proofs.output.write_outputs.Goals as goal
+
+pub loop-k-preserved : goal.loop-k-preserved
+loop-k-preserved g c =
+    let at = c.at-output.ensures ∙ ap (λ here. Some (output_meant here c.at-output.result)) (sym c.here-here.ensures) in
+    record {
+      gained = outputs_gain (stack_tree c.args.stack.now) (full_annex c.args.wire) c.args.id c.args.first c.loop-k.k c.loop-k.number
+          c.args.outputs.now.outputs (output_meant c.here-here.result c.at-output.result) _ _ _
+          c.loop-k.invariant.gained c.in_ok-write_output.ensures c.loop-k.invariant.numbered
+          (omega (arith, c.loop-k-test.true, c.len-k-end.ensures)) at;
+      numbered = number_more c.args.outputs.now.outputs c.args.first c.loop-k.k c.loop-k.number _ _
+          c.loop-k.invariant.numbered c.behind-number.ensures.is (omega (arith, c.loop-k-test.true, c.len-k-end.ensures)) at;
+      few = omega (arith, c.behind-number.ensures.few, c.loop-k.invariant.few);
+    }
+
+pub returns-in_err-write_output : goal.returns-in_err-write_output
+returns-in_err-write_output g c =
+    let at = c.at-output.ensures ∙ ap (λ here. Some (output_meant here c.at-output.result)) (sym c.here-here.ensures) in
+    let p = err_from_is_err_and c.from_residual.result c.from_residual.ensures.1 in
+    rw (p.1, p.2) (outputs_cut (stack_tree c.args.stack.now) (full_annex c.args.wire) c.args.id c.args.first c.loop-k.k c.loop-k.number
+    c.args.outputs.now.outputs (output_meant c.here-here.result c.at-output.result) _ _ _ _
+    c.loop-k.invariant.gained c.in_err-write_output.ensures c.loop-k.invariant.numbered
+    (omega (arith, c.loop-k-test.true, c.len-k-end.ensures)) at)

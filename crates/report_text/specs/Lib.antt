@@ -1,0 +1,4 @@
+pub mod Told
+pub mod Counts
+pub mod Cells
+pub mod Numbered

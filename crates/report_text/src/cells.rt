@@ -1,0 +1,158 @@
+//! What the lines of cells are built of.
+
+ghost use Rattle.std.specs.Prelude.{◌≡◌, ◌++◌, ◌<◌, OnOk, length, slice_index_or, codes};
+ghost use Rattle.event_graph.specs.Answer.{stack_tree};
+ghost use Rattle.layer_mean.specs.State.{cell_at, numbers_in, rows_at};
+ghost use Rattle.member_shown.specs.Rows.{row_meant};
+ghost use Rattle.member_shown.specs.Shown.{state_shown};
+ghost use Rattle.report_lines.specs.Cells.{cell_front};
+ghost use Rattle.report_lines.specs.Lead.{lead};
+ghost use Rattle.run_mean.specs.Lines.{cell_line, numbers_text};
+ghost use Rattle.run_mean.specs.Text.{row_text, rows_text};
+ghost use Rattle.typed_layer.specs.View.{layer_tree};
+ghost use Rattle.report_text.specs.Cells.{index_if, no_row, queue_line};
+
+use event_graph::Stack;
+use layer_ast::Word;
+use member_shown::{RowView, Shown};
+use msg_core::Memory;
+use report_lines::{Line, push_cell, push_index, push_lead, push_message_row, push_numbers_row};
+use typed_layer::TypedLayer;
+
+/// A cell of a layer of a member.
+#[derive(Clone, Copy)]
+pub(crate) struct Spot {
+    pub(crate) id: u8,
+    pub(crate) place: u8,
+    pub(crate) cell: u8,
+}
+
+/// Appends the numbers of a cell, with spaces between.
+fn push_numbers(line: &mut Line, shown: &Shown<'_>, spot: Spot) -> Result<(), Memory>
+    ensures { OnOk result (line.new ≡ line.old ++ numbers_text (numbers_in (cell_at (state_shown shown.now spot.place) spot.cell))) }
+{
+    for k in 0..shown.numbers_count(spot.place, spot.cell) {
+        push_lead(line, b" ", k)?;
+        line.number(u64::from(shown.number(spot.place, spot.cell, k)))?;
+    }
+    Ok(())
+}
+
+/// Builds the line of a cell of numbers.
+pub(crate) fn build_numbers(
+    line: &mut Line,
+    shown: &Shown<'_>,
+    layer: &TypedLayer,
+    name: &Word,
+    spot: Spot,
+) -> Result<(), Memory>
+    ensures { OnOk result (line.new ≡ line.old
+        ++ cell_line spot.id spot.place (layer_tree layer.now) name.now
+        (numbers_text (numbers_in (cell_at (state_shown shown.now spot.place) spot.cell)))) }
+{
+    push_cell(line, spot.id, spot.place, layer.name.bytes(), name.bytes())?;
+    line.text(b" ")?;
+    push_numbers(line, shown, spot)?;
+    line.text(b"\n")
+}
+
+/// Appends a row.
+fn push_row(line: &mut Line, stack: &Stack, row: &RowView<'_>) -> Result<(), Memory>
+    ensures { OnOk result (line.new ≡ line.old ++ row_text (stack_tree stack.now) (row_meant row.now)) }
+{
+    match &row.message {
+        Some(message) => {
+            push_message_row(line, stack, row.numbers, message.headers, message.body)
+        }
+        None => push_numbers_row(line, stack, row.numbers),
+    }
+}
+
+/// Appends row number `k` of a queue, behind what separates it from the one in front.
+fn push_row_at(
+    line: &mut Line,
+    stack: &Stack,
+    shown: &Shown<'_>,
+    spot: Spot,
+    queue: u32,
+    k: u32,
+) -> Result<(), Memory>
+    requires { k < length (rows_at (state_shown shown.now spot.place) spot.cell queue) }
+    ensures { OnOk result (line.new ≡ line.old ++ lead (codes " ") k
+        ++ row_text (stack_tree stack.now) (slice_index_or (rows_at (state_shown shown.now spot.place) spot.cell queue) k no_row)) }
+{
+    push_lead(line, b" ", k)?;
+    match shown.row(spot.place, spot.cell, queue, k) {
+        Some(row) => push_row(line, stack, &row),
+        None => unreachable!(),
+    }
+}
+
+/// Appends the rows of a queue from the front, with spaces between, or `-` for none.
+fn push_rows(
+    line: &mut Line,
+    stack: &Stack,
+    shown: &Shown<'_>,
+    spot: Spot,
+    queue: u32,
+) -> Result<(), Memory>
+    ensures { OnOk result (line.new ≡ line.old ++ rows_text (stack_tree stack.now) (rows_at (state_shown shown.now spot.place) spot.cell queue)) }
+{
+    let count = shown.rows(spot.place, spot.cell, queue);
+    if count == 0 {
+        return line.text(b"-");
+    }
+    for k in 0..count {
+        push_row_at(line, stack, shown, spot, queue, k)?;
+    }
+    Ok(())
+}
+
+/// Appends the index of a queue of an array; a queue that is alone has none.
+fn push_queue_index(line: &mut Line, is_array: bool, queue: u32) -> Result<(), Memory>
+    ensures { OnOk result (line.new ≡ line.old ++ index_if is_array queue) }
+{
+    if is_array {
+        push_index(line, queue)
+    } else {
+        Ok(())
+    }
+}
+
+/// Appends the parts of the line of a queue.
+fn push_queue(
+    line: &mut Line,
+    stack: &Stack,
+    shown: &Shown<'_>,
+    layer: &TypedLayer,
+    name: &Word,
+    is_array: bool,
+    spot: Spot,
+    queue: u32,
+) -> Result<(), Memory>
+    ensures { OnOk result (line.new ≡ line.old ++ (cell_front spot.id spot.place (layer_tree layer.now).name name.now ++ index_if is_array queue
+        ++ codes " " ++ rows_text (stack_tree stack.now) (rows_at (state_shown shown.now spot.place) spot.cell queue) ++ codes "\n")) }
+{
+    push_cell(line, spot.id, spot.place, layer.name.bytes(), name.bytes())?;
+    push_queue_index(line, is_array, queue)?;
+    line.text(b" ")?;
+    push_rows(line, stack, shown, spot, queue)?;
+    line.text(b"\n")
+}
+
+/// Builds the line of a queue: the only one of a cell, or one of its array.
+pub(crate) fn build_queue(
+    line: &mut Line,
+    stack: &Stack,
+    shown: &Shown<'_>,
+    layer: &TypedLayer,
+    name: &Word,
+    is_array: bool,
+    spot: Spot,
+    queue: u32,
+) -> Result<(), Memory>
+    ensures { OnOk result (line.new ≡ line.old ++ queue_line (stack_tree stack.now) spot.id spot.place (layer_tree layer.now) is_array name.now
+        (queue, rows_at (state_shown shown.now spot.place) spot.cell queue)) }
+{
+    push_queue(line, stack, shown, layer, name, is_array, spot, queue)
+}

@@ -1,0 +1,213 @@
+//! The lines of what one event of a script came to.
+
+ghost use Rattle.std.specs.Prelude.{◌≡◌, ◌+◌, ◌^◌, ◌<◌, ◌∷◌, ◌++◌, [], OnOk, length};
+ghost use Rattle.event_graph.specs.Answer.{stack_tree};
+ghost use Rattle.packet_plans.specs.Trees.{plans_tree};
+ghost use Rattle.run_mean.specs.Lines as report;
+ghost use Rattle.run_mean.specs.Report.{end_line, packet_given, visits_line};
+ghost use Rattle.script_mean.specs.Event.{member_of};
+ghost use Rattle.sink_lines.specs.Lines.{Wrote};
+ghost use Rattle.sink_lines.specs.Tells.{tells};
+ghost use Rattle.view_core.specs.Refusals.{refusal_meant};
+ghost use Rattle.report_text.specs.Numbered.{full_annex};
+ghost use Rattle.report_text.specs.Told.{AreFull, change_line, change_lines, stepped_lines, taken_lines, told_lines};
+
+use crate::output::write_outputs;
+use crate::pen::Pen;
+use crate::state::write_member;
+use event_graph::Stack;
+use member_shown::Shown;
+use msg_core::Memory;
+use outside::{Sink, SinkError};
+use packet_plans::Plans;
+use report_lines::{Line, absent_line, out_line, refused_line, view_line};
+use script_mean::ScriptEvent;
+use sink_lines::put_line;
+use step_outputs::Outputs;
+use view_core::{Change, Did, Refusal, Stepped};
+
+/// The member that an event names.
+pub fn member_of(event: &ScriptEvent) -> u8
+    ensures { result ≡ member_of event.now }
+{
+    match event {
+        ScriptEvent::Cast(id, _)
+        | ScriptEvent::Send(id, _, _)
+        | ScriptEvent::Leave(id)
+        | ScriptEvent::Tick(id, _)
+        | ScriptEvent::Give(_, id)
+        | ScriptEvent::Raw(id, _)
+        | ScriptEvent::Show(id) => *id,
+    }
+}
+
+/// The packet that an event gives, 0 for none.
+fn packet_given(event: &ScriptEvent) -> u32
+    ensures { result ≡ packet_given event.now }
+{
+    match event {
+        ScriptEvent::Give(number, _) => *number,
+        _ => 0,
+    }
+}
+
+/// Builds the line of where a member is behind a step that installed something.
+fn build_change(line: &mut Line, id: u8, change: Change) -> Result<(), Memory>
+    ensures { OnOk result (line.new ≡ line.old ++ change_line id change) }
+{
+    match change {
+        Change::Into(view) => view_line(line, id, view),
+        Change::Out => out_line(line, id),
+    }
+}
+
+/// Puts the line of where a member is behind a step, if it installed something.
+fn write_change<O: Sink>(
+    pen: &mut Pen,
+    id: u8,
+    change: Option<Change>,
+    out: &mut O,
+) -> Result<(), SinkError>
+    ensures { Wrote (change_lines id change)
+        (tells (O.contents out.old) (O.failures out.old) (O.faults out.old))
+        (tells (O.contents out.new) (O.failures out.new) (O.faults out.new)) result }
+{
+    let Some(change) = change else { return Ok(()) };
+    pen.line.clear();
+    match build_change(&mut pen.line, id, change) {
+        Ok(()) => put_line(pen.line.slice(), out),
+        Err(Memory) => Err(SinkError::Memory),
+    }
+}
+
+/// Puts the lines of a step that was taken.
+fn write_taken<O: Sink>(
+    pen: &mut Pen,
+    stack: &Stack,
+    id: u8,
+    change: Option<Change>,
+    outputs: &Outputs,
+    first: u64,
+    wire: bool,
+    out: &mut O,
+) -> Result<(), SinkError>
+    requires { first + length outputs.now.outputs < 2 ^ 64 }
+    ensures { Wrote (taken_lines (stack_tree stack.now) (full_annex wire) id first outputs.now.outputs change)
+        (tells (O.contents out.old) (O.failures out.old) (O.faults out.old))
+        (tells (O.contents out.new) (O.failures out.new) (O.faults out.new)) result }
+{
+    write_outputs(pen, stack, id, first, outputs, wire, out)?;
+    write_change(pen, id, change, out)
+}
+
+/// Puts the line of a refusal.
+fn write_refusal<O: Sink>(
+    pen: &mut Pen,
+    id: u8,
+    refusal: Refusal,
+    out: &mut O,
+) -> Result<(), SinkError>
+    ensures { Wrote (report.refused_line id (refusal_meant refusal) ∷ [])
+        (tells (O.contents out.old) (O.failures out.old) (O.faults out.old))
+        (tells (O.contents out.new) (O.failures out.new) (O.faults out.new)) result }
+{
+    pen.line.clear();
+    match refused_line(&mut pen.line, id, refusal) {
+        Ok(()) => put_line(pen.line.slice(), out),
+        Err(Memory) => Err(SinkError::Memory),
+    }
+}
+
+/// Puts the lines of a step.
+fn write_stepped<O: Sink>(
+    pen: &mut Pen,
+    stack: &Stack,
+    id: u8,
+    stepped: Stepped,
+    outputs: &Outputs,
+    first: u64,
+    wire: bool,
+    out: &mut O,
+) -> Result<(), SinkError>
+    requires { first + length outputs.now.outputs < 2 ^ 64 }
+    ensures { Wrote (stepped_lines (stack_tree stack.now) (full_annex wire) id first outputs.now.outputs stepped)
+        (tells (O.contents out.old) (O.failures out.old) (O.faults out.old))
+        (tells (O.contents out.new) (O.failures out.new) (O.faults out.new)) result }
+{
+    match stepped {
+        Stepped::Taken { common: _, change } => {
+            write_taken(pen, stack, id, change, outputs, first, wire, out)
+        }
+        Stepped::Refused(refusal) => write_refusal(pen, id, refusal, out),
+    }
+}
+
+/// Puts the line of a packet that isn't there.
+fn write_absent<O: Sink>(pen: &mut Pen, id: u8, number: u32, out: &mut O) -> Result<(), SinkError>
+    ensures { Wrote (report.absent_line id number ∷ [])
+        (tells (O.contents out.old) (O.failures out.old) (O.faults out.old))
+        (tells (O.contents out.new) (O.failures out.new) (O.faults out.new)) result }
+{
+    pen.line.clear();
+    match absent_line(&mut pen.line, id, number) {
+        Ok(()) => put_line(pen.line.slice(), out),
+        Err(Memory) => Err(SinkError::Memory),
+    }
+}
+
+/// Puts the lines of what an event came to, one by one: those of a step's outputs, of which `first` is the number of the first packet, and of
+/// where the member is then; a refusal; a packet that isn't there; or the member that is shown. Where it is wanted, the bytes of each packet
+/// stand behind its line, in full.
+pub fn write_event<O: Sink>(
+    pen: &mut Pen,
+    stack: &Stack,
+    _plans: &Plans,
+    event: &ScriptEvent,
+    did: Did,
+    outputs: &Outputs,
+    shown: &Shown<'_>,
+    first: u64,
+    wire: bool,
+    out: &mut O,
+) -> Result<(), SinkError>
+    requires few { first + length outputs.now.outputs < 2 ^ 64 }
+    requires full { AreFull outputs.now.outputs }
+    ensures { Wrote (told_lines (stack_tree stack.now) (plans_tree _plans.now) wire event.now did outputs.now.outputs shown.now first)
+        (tells (O.contents out.old) (O.failures out.old) (O.faults out.old))
+        (tells (O.contents out.new) (O.failures out.new) (O.faults out.new)) result }
+{
+    let id = member_of(event);
+    match did {
+        Did::Stepped(stepped) => {
+            write_stepped(pen, stack, id, stepped, outputs, first, wire, out)
+        }
+        Did::Absent => write_absent(pen, id, packet_given(event), out),
+        Did::Shown => write_member(pen, stack, id, shown, out),
+    }
+}
+
+/// Puts the last line of a report.
+pub fn write_end<O: Sink>(pen: &mut Pen, events: u64, out: &mut O) -> Result<(), SinkError>
+    ensures { Wrote (end_line events ∷ [])
+        (tells (O.contents out.old) (O.failures out.old) (O.faults out.old))
+        (tells (O.contents out.new) (O.failures out.new) (O.faults out.new)) result }
+{
+    pen.line.clear();
+    match report_lines::end_line(&mut pen.line, events) {
+        Ok(()) => put_line(pen.line.slice(), out),
+        Err(Memory) => Err(SinkError::Memory),
+    }
+}
+
+/// Puts the line of how many visits were counted.
+pub fn write_visits<O: Sink>(pen: &mut Pen, visits: u64, out: &mut O) -> Result<(), SinkError>
+    ensures { Wrote (visits_line visits ∷ [])
+        (tells (O.contents out.old) (O.failures out.old) (O.faults out.old))
+        (tells (O.contents out.new) (O.failures out.new) (O.faults out.new)) result }
+{
+    pen.line.clear();
+    match report_lines::visits_line(&mut pen.line, visits) {
+        Ok(()) => put_line(pen.line.slice(), out),
+        Err(Memory) => Err(SinkError::Memory),
+    }
+}

@@ -1,0 +1,17 @@
+//! What a run writes: the lines of each event, put one by one on a sink, the last lines of a report, and counts of lines in place of them.
+#![tactic(auto)]
+
+mod cells;
+mod counts;
+mod event;
+mod laws;
+mod output;
+mod pen;
+mod state;
+mod tally;
+
+pub use counts::Counts;
+pub use event::{member_of, write_end, write_event, write_visits};
+pub use laws::{counted_is_the_tally, counted_with_the_moment, told_in_full, told_is_the_moment};
+pub use pen::Pen;
+pub use tally::{Tally, write_tally};

@@ -1,0 +1,179 @@
+//! The lines of a step's outputs.
+
+ghost use Rattle.std.specs.Prelude.{◌≡◌, ◌+◌, ◌^◌, ◌<◌, ◌≤◌, ◌++◌, [], true, IfOk, OnOk, length};
+ghost use Rattle.event_graph.specs.Answer.{stack_tree};
+ghost use Rattle.packet_full.specs.Sent.{sent_packet};
+ghost use Rattle.packet_mean.specs.Spelling.{full_bytes};
+ghost use Rattle.run_mean.specs.Lines as report;
+ghost use Rattle.run_mean.specs.Report.{lines_of_outputs, number_behind, output_lines};
+ghost use Rattle.sink_lines.specs.Lines.{Wrote};
+ghost use Rattle.sink_lines.specs.Tells.{tells};
+ghost use Rattle.step_outputs.specs.Views.{output_meant};
+ghost use Rattle.report_text.specs.Numbered.{full_annex, line_if};
+
+use crate::pen::Pen;
+use event_graph::Stack;
+use msg_core::Memory;
+use outside::{Sink, SinkError};
+use packet_full::{put_full_of, room_of};
+use packet_mean::Here;
+use report_lines::{
+    Delivery, Line, announce_line, block_line, deliver_line, packet_line, timer_line, wire_line,
+};
+use sink_lines::put_line;
+use step_outputs::{OutputView, Outputs, PacketView};
+
+/// Builds the line of an output, if it has one: whether it has.
+fn build_output(
+    line: &mut Line,
+    stack: &Stack,
+    _here: &Here,
+    id: u8,
+    number: u64,
+    output: &OutputView<'_>,
+) -> Result<bool, Memory>
+    requires { line.old ≡ [] }
+    ensures { IfOk result (λ has. line_if has line.new ≡ output_lines (stack_tree stack.now) id number (output_meant _here.now output.now).0) }
+{
+    match output {
+        OutputView::Cast(peer, body) => deliver_line(line, id, Delivery::Cast, *peer, body)?,
+        OutputView::Send(peer, body) => deliver_line(line, id, Delivery::Send, *peer, body)?,
+        OutputView::Block(a) => block_line(line, id, *a)?,
+        OutputView::Announce(ranks) => announce_line(line, id, *ranks)?,
+        OutputView::Timer(moment) => timer_line(line, id, *moment)?,
+        OutputView::Packet(packet) => packet_line(
+            line,
+            stack,
+            number,
+            id,
+            packet.dest,
+            packet.headers,
+            packet.body,
+        )?,
+        OutputView::Nowhere => return Ok(false),
+        OutputView::Quiet(_, _) => return Ok(false),
+    }
+    Ok(true)
+}
+
+/// Puts the line of an output, if it has one.
+fn put_output<O: Sink>(
+    pen: &mut Pen,
+    stack: &Stack,
+    here: &Here,
+    id: u8,
+    number: u64,
+    output: &OutputView<'_>,
+    out: &mut O,
+) -> Result<(), SinkError>
+    ensures { Wrote (output_lines (stack_tree stack.now) id number (output_meant here.now output.now).0)
+        (tells (O.contents out.old) (O.failures out.old) (O.faults out.old))
+        (tells (O.contents out.new) (O.failures out.new) (O.faults out.new)) result }
+{
+    pen.line.clear();
+    match build_output(&mut pen.line, stack, here, id, number, output) {
+        Ok(true) => put_line(pen.line.slice(), out),
+        Ok(false) => Ok(()),
+        Err(Memory) => Err(SinkError::Memory),
+    }
+}
+
+/// Builds the line of a packet's bytes.
+fn build_wire(
+    line: &mut Line,
+    bytes: &mut Vec<u8>,
+    here: &Here,
+    number: u64,
+    packet: &PacketView<'_>,
+) -> Result<(), Memory>
+    ensures { OnOk result (line.new ≡ line.old
+        ++ report.wire_line number (full_bytes (sent_packet here.now packet.now.dest packet.now.headers.now packet.now.body.now))) }
+{
+    bytes.clear();
+    bytes.reserve(room_of(packet.headers, packet.body))?;
+    put_full_of(here, packet.dest, packet.headers, packet.body, bytes);
+    wire_line(line, number, bytes.as_slice())
+}
+
+/// Puts the line of an output's bytes, if it is a packet.
+fn put_wire<O: Sink>(
+    pen: &mut Pen,
+    here: &Here,
+    number: u64,
+    output: &OutputView<'_>,
+    out: &mut O,
+) -> Result<(), SinkError>
+    ensures { Wrote (full_annex true number (output_meant here.now output.now))
+        (tells (O.contents out.old) (O.failures out.old) (O.faults out.old))
+        (tells (O.contents out.new) (O.failures out.new) (O.faults out.new)) result }
+{
+    let OutputView::Packet(packet) = output else {
+        return Ok(())
+    };
+    pen.line.clear();
+    match build_wire(&mut pen.line, &mut pen.bytes, here, number, packet) {
+        Ok(()) => put_line(pen.line.slice(), out),
+        Err(Memory) => Err(SinkError::Memory),
+    }
+}
+
+/// Puts the lines of an output: its own, and where it is wanted that of its bytes.
+fn write_output<O: Sink>(
+    pen: &mut Pen,
+    stack: &Stack,
+    here: &Here,
+    id: u8,
+    number: u64,
+    output: &OutputView<'_>,
+    wire: bool,
+    out: &mut O,
+) -> Result<(), SinkError>
+    ensures { Wrote (output_lines (stack_tree stack.now) id number (output_meant here.now output.now).0
+        ++ full_annex wire number (output_meant here.now output.now))
+        (tells (O.contents out.old) (O.failures out.old) (O.faults out.old))
+        (tells (O.contents out.new) (O.failures out.new) (O.faults out.new)) result }
+{
+    put_output(pen, stack, here, id, number, output, out)?;
+    if wire {
+        put_wire(pen, here, number, output, out)
+    } else {
+        Ok(())
+    }
+}
+
+/// The number of the next packet behind an output.
+fn behind(_here: &Here, number: u64, output: &OutputView<'_>) -> u64
+    requires { number + 1 < 2 ^ 64 }
+    ensures is { result ≡ number_behind number (output_meant _here.now output.now).0 }
+    ensures few { result ≤ number + 1 }
+{
+    match output {
+        OutputView::Packet(_) => number + 1,
+        _ => number,
+    }
+}
+
+/// Puts the lines of a step's outputs, whose packets are sent in full and numbered from `first` on.
+pub(crate) fn write_outputs<O: Sink>(
+    pen: &mut Pen,
+    stack: &Stack,
+    id: u8,
+    first: u64,
+    outputs: &Outputs,
+    wire: bool,
+    out: &mut O,
+) -> Result<(), SinkError>
+    requires { first + length outputs.now.outputs < 2 ^ 64 }
+    ensures { Wrote (lines_of_outputs (stack_tree stack.now) (full_annex wire) id first outputs.now.outputs)
+        (tells (O.contents out.old) (O.failures out.old) (O.faults out.old))
+        (tells (O.contents out.new) (O.failures out.new) (O.faults out.new)) result }
+{
+    let here = outputs.here();
+    let mut number = first;
+    for k in 0..outputs.len() {
+        let output = outputs.at(k);
+        write_output(pen, stack, &here, id, number, &output, wire, out)?;
+        number = behind(&here, number, &output);
+    }
+    Ok(())
+}

@@ -1,0 +1,225 @@
+//! The lines of a member that is shown.
+
+ghost use Rattle.std.specs.Prelude.{◌∷◌, [], codes};
+ghost use Rattle.event_graph.specs.Answer.{stack_tree};
+ghost use Rattle.layer_mean.specs.State.{cell_at, rows_at};
+ghost use Rattle.member_shown.specs.Shown.{state_shown};
+ghost use Rattle.run_mean.specs.Lines as report;
+ghost use Rattle.run_mean.specs.Report as whole;
+ghost use Rattle.sink_lines.specs.Lines.{Wrote};
+ghost use Rattle.sink_lines.specs.Tells.{tells};
+ghost use Rattle.typed_layer.specs.View.{cell_tree, layer_tree};
+ghost use Rattle.report_text.specs.Cells.{cells_shown, layers_shown, numbers_lines, one_queue, queue_lines};
+
+use crate::cells::{Spot, build_numbers, build_queue};
+use crate::pen::Pen;
+use event_graph::Stack;
+use layer_ast::Word;
+use member_shown::Shown;
+use msg_core::{Memory, View};
+use outside::{Sink, SinkError};
+use report_lines::{state_line, state_out_line};
+use sink_lines::put_line;
+use typed_layer::{Cell, Form, TypedLayer};
+
+/// The most cells of a layer that numbers of eight bits name.
+const MOST_CELLS: usize = 256;
+
+/// Puts the line of a cell of numbers.
+fn write_numbers<O: Sink>(
+    pen: &mut Pen,
+    shown: &Shown<'_>,
+    layer: &TypedLayer,
+    name: &Word,
+    spot: Spot,
+    out: &mut O,
+) -> Result<(), SinkError>
+    ensures { Wrote (numbers_lines spot.id spot.place (layer_tree layer.now) name.now (cell_at (state_shown shown.now spot.place) spot.cell))
+        (tells (O.contents out.old) (O.failures out.old) (O.faults out.old))
+        (tells (O.contents out.new) (O.failures out.new) (O.faults out.new)) result }
+{
+    pen.line.clear();
+    match build_numbers(&mut pen.line, shown, layer, name, spot) {
+        Ok(()) => put_line(pen.line.slice(), out),
+        Err(Memory) => Err(SinkError::Memory),
+    }
+}
+
+/// Puts the line of a queue.
+fn write_queue<O: Sink>(
+    pen: &mut Pen,
+    stack: &Stack,
+    shown: &Shown<'_>,
+    layer: &TypedLayer,
+    name: &Word,
+    is_array: bool,
+    spot: Spot,
+    queue: u32,
+    out: &mut O,
+) -> Result<(), SinkError>
+    ensures { Wrote (one_queue (stack_tree stack.now) spot.id spot.place (layer_tree layer.now) is_array name.now
+        (queue, rows_at (state_shown shown.now spot.place) spot.cell queue))
+        (tells (O.contents out.old) (O.failures out.old) (O.faults out.old))
+        (tells (O.contents out.new) (O.failures out.new) (O.faults out.new)) result }
+{
+    pen.line.clear();
+    match build_queue(
+        &mut pen.line,
+        stack,
+        shown,
+        layer,
+        name,
+        is_array,
+        spot,
+        queue,
+    ) {
+        Ok(()) => put_line(pen.line.slice(), out),
+        Err(Memory) => Err(SinkError::Memory),
+    }
+}
+
+/// Puts the lines of the queues of a cell.
+fn write_queues<O: Sink>(
+    pen: &mut Pen,
+    stack: &Stack,
+    shown: &Shown<'_>,
+    layer: &TypedLayer,
+    name: &Word,
+    is_array: bool,
+    spot: Spot,
+    out: &mut O,
+) -> Result<(), SinkError>
+    ensures { Wrote (queue_lines (stack_tree stack.now) spot.id spot.place (layer_tree layer.now) is_array name.now
+        (cell_at (state_shown shown.now spot.place) spot.cell))
+        (tells (O.contents out.old) (O.failures out.old) (O.faults out.old))
+        (tells (O.contents out.new) (O.failures out.new) (O.faults out.new)) result }
+{
+    for queue in 0..shown.queues_count(spot.place, spot.cell) {
+        write_queue(pen, stack, shown, layer, name, is_array, spot, queue, out)?;
+    }
+    Ok(())
+}
+
+/// Puts the lines of a cell.
+fn write_cell<O: Sink>(
+    pen: &mut Pen,
+    stack: &Stack,
+    shown: &Shown<'_>,
+    layer: &TypedLayer,
+    cell: &Cell,
+    spot: Spot,
+    out: &mut O,
+) -> Result<(), SinkError>
+    ensures { Wrote (whole.cell_lines (stack_tree stack.now) spot.id spot.place (layer_tree layer.now)
+        (state_shown shown.now spot.place) (spot.cell, cell_tree cell.now))
+        (tells (O.contents out.old) (O.failures out.old) (O.faults out.old))
+        (tells (O.contents out.new) (O.failures out.new) (O.faults out.new)) result }
+{
+    match &cell.form {
+        Form::Numbers {
+            shape: _,
+            initial: _,
+        } => { write_numbers(pen, shown, layer, &cell.name, spot, out) }
+        Form::Queue {
+            capacity: _,
+            items: _,
+        } => { write_queues(pen, stack, shown, layer, &cell.name, false, spot, out) }
+        Form::Queues {
+            capacity: _,
+            items: _,
+        } => { write_queues(pen, stack, shown, layer, &cell.name, true, spot, out) }
+    }
+}
+
+/// Puts the lines of a layer's cells. They have numbers of eight bits: a layer with more than 256 cells, which no file declares, is answered
+/// as want of memory.
+fn write_layer<O: Sink>(
+    pen: &mut Pen,
+    stack: &Stack,
+    shown: &Shown<'_>,
+    layer: &TypedLayer,
+    id: u8,
+    place: u8,
+    out: &mut O,
+) -> Result<(), SinkError>
+    ensures { Wrote (cells_shown (stack_tree stack.now) id place (layer_tree layer.now) (state_shown shown.now place))
+        (tells (O.contents out.old) (O.failures out.old) (O.faults out.old))
+        (tells (O.contents out.new) (O.failures out.new) (O.faults out.new)) result }
+{
+    let count = layer.cells.len();
+    if count > MOST_CELLS {
+        return Err(SinkError::Memory);
+    }
+    for number in 0..count {
+        let cell = number as u8;
+        let spot = Spot { id, place, cell };
+        let item = &layer.cells[number];
+        write_cell(pen, stack, shown, layer, item, spot, out)?;
+    }
+    Ok(())
+}
+
+/// Puts the lines of all layers' cells, the lowest layer's first.
+fn write_layers<O: Sink>(
+    pen: &mut Pen,
+    stack: &Stack,
+    shown: &Shown<'_>,
+    id: u8,
+    out: &mut O,
+) -> Result<(), SinkError>
+    ensures { Wrote (layers_shown (stack_tree stack.now) id shown.now)
+        (tells (O.contents out.old) (O.failures out.old) (O.faults out.old))
+        (tells (O.contents out.new) (O.failures out.new) (O.faults out.new)) result }
+{
+    for place in 0..stack.places() {
+        write_layer(pen, stack, shown, stack.layer(place), id, place, out)?;
+    }
+    Ok(())
+}
+
+/// Puts the line of the view that a member is in.
+fn write_view<O: Sink>(pen: &mut Pen, id: u8, view: View, out: &mut O) -> Result<(), SinkError>
+    ensures { Wrote (report.view_line (codes "state") id view ∷ [])
+        (tells (O.contents out.old) (O.failures out.old) (O.faults out.old))
+        (tells (O.contents out.new) (O.failures out.new) (O.faults out.new)) result }
+{
+    pen.line.clear();
+    match state_line(&mut pen.line, id, view) {
+        Ok(()) => put_line(pen.line.slice(), out),
+        Err(Memory) => Err(SinkError::Memory),
+    }
+}
+
+/// Puts the line of a member that is in no view.
+fn write_out<O: Sink>(pen: &mut Pen, id: u8, out: &mut O) -> Result<(), SinkError>
+    ensures { Wrote (report.state_out_line id ∷ [])
+        (tells (O.contents out.old) (O.failures out.old) (O.faults out.old))
+        (tells (O.contents out.new) (O.failures out.new) (O.faults out.new)) result }
+{
+    pen.line.clear();
+    match state_out_line(&mut pen.line, id) {
+        Ok(()) => put_line(pen.line.slice(), out),
+        Err(Memory) => Err(SinkError::Memory),
+    }
+}
+
+/// Puts the lines of a member that is shown: where it is, and what its layers' cells hold.
+pub(crate) fn write_member<O: Sink>(
+    pen: &mut Pen,
+    stack: &Stack,
+    id: u8,
+    shown: &Shown<'_>,
+    out: &mut O,
+) -> Result<(), SinkError>
+    ensures { Wrote (whole.member_lines (stack_tree stack.now) id shown.now)
+        (tells (O.contents out.old) (O.failures out.old) (O.faults out.old))
+        (tells (O.contents out.new) (O.failures out.new) (O.faults out.new)) result }
+{
+    match shown.view() {
+        Some(view) => {
+            write_view(pen, id, view, out)?;
+            write_layers(pen, stack, shown, id, out)
+        }
+        None => write_out(pen, id, out),
+    }
+}
