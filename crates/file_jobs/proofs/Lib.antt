@@ -1,4 +1,2 @@
-pub mod Comes
 pub mod Texts
-pub mod Seen
-pub mod Due
+pub mod Stops

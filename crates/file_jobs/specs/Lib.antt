@@ -1,4 +1,2 @@
-pub mod Shown
-pub mod Comes
-pub mod Seen
-pub mod Due
+pub mod Stack
+pub mod Report

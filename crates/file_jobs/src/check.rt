@@ -1,20 +1,20 @@
 //! The job `check`.
+#![tactic(auto, using(sink_lines::proofs::Gaining::begins_none))]
 
-ghost use Rattle.std.specs.Prelude.{ℕ, List};
+ghost use Rattle.std.specs.Prelude.{[], ◌∷◌, codes, ◌++◌};
+ghost use Rattle.std.specs.Fmt.{decimal};
 ghost use Rattle.job_mean.specs.Job as job;
+ghost use Rattle.job_mean.specs.Status.{done};
 ghost use Rattle.sink_lines.specs.Tells.{tells};
-ghost use Rattle.file_jobs.specs.Comes.{Comes, Judges, around};
-ghost use Rattle.file_jobs.specs.Shown.{shown};
+ghost use Rattle.job_ends.specs.Comes.{Comes, Writes, around};
+ghost use Rattle.job_ends.specs.Shown.{shown};
 
-use crate::ending::Ending;
 use crate::judged::{Output, write};
 use crate::lines::accepted_line;
-use file_judge::{FileError, judge};
-use outside::{Got, Shelf, ShelfError, Sink};
+use crate::stack::fetch_stack;
+use job_ends::Ending;
+use outside::{Shelf, Sink};
 use std::alloc::{AllocError, Global};
-
-/// The most bytes of a stack file.
-const MOST_FILE: u64 = 1_048_576;
 
 /// Judges a stack file, and writes how many places its stack has.
 pub fn check_stack<S: Shelf, O: Sink>(
@@ -23,35 +23,31 @@ pub fn check_stack<S: Shelf, O: Sink>(
     shelf: &mut S,
     out: &mut O,
 ) -> Ending
-    ensures { Comes (job.check file.now) file.now
+    ensures { Comes (job.check file.now)
         (around (S.told shelf.old) (S.faults shelf.old) (S.faults shelf.new)
         (tells (O.contents out.old) (O.failures out.old) (O.faults out.old))
         (tells (O.contents out.new) (O.failures out.new) (O.faults out.new))) (shown result) }
 {
-    let mut text = Vec::new(alloc);
-    match shelf.read(file, &mut text, MOST_FILE) {
-        Ok(Got::Whole) => match judged(alloc, &text) {
-            Ok(output) => write(&output, out),
-            Err(ending) => ending,
-        },
-        Ok(Got::TooLong) => Ending::File(FileError::TooLarge),
-        Err(ShelfError::Failed) => Ending::Read,
-        Err(ShelfError::Memory) => Ending::Memory,
+    match fetch_stack(alloc, file, shelf) {
+        Ok(stack) => accept(alloc, stack.places(), out),
+        Err(ending) => ending,
     }
 }
 
-/// The output for the bytes of a stack file, or why it is refused.
-fn judged(alloc: Global, text: &[u8]) -> Result<Output, Ending>
-    ensures { (name : List ℕ) → Judges (job.check name) text.now result }
+/// Writes that a stack of so many places is accepted.
+fn accept<O: Sink>(alloc: Global, places: u8, out: &mut O) -> Ending
+    ensures { Writes ((codes "accepted " ++ decimal places ++ codes "\n") ∷ []) done
+        (tells (O.contents out.old) (O.failures out.old) (O.faults out.old))
+        (tells (O.contents out.new) (O.failures out.new) (O.faults out.new)) (shown result) }
 {
-    match judge(alloc, text) {
-        Ok(stack) => match accepted_line(alloc, stack.places()) {
-            Ok(line) => Ok(Output {
+    match accepted_line(alloc, places) {
+        Ok(line) => {
+            let output = Output {
                 line,
                 breach: false,
-            }),
-            Err(AllocError) => Err(Ending::Memory),
-        },
-        Err(error) => Err(Ending::File(error)),
+            };
+            write(&output, out)
+        }
+        Err(AllocError) => Ending::Memory,
     }
 }

@@ -1,15 +1,13 @@
-//! The output of a job, and its writing.
+//! The output of a job of one line, and its writing.
 
-ghost use Rattle.std.specs.Prelude.{◌≡◌};
+ghost use Rattle.std.specs.Prelude.{[], ◌∷◌, if◌then◌else◌};
 ghost use Rattle.std.specs.String.{string_bytes};
-ghost use Rattle.job_mean.specs.Job.{Job};
 ghost use Rattle.job_mean.specs.Status.{breached, done};
-ghost use Rattle.file_jobs.specs.Shown.{shown};
-ghost use Rattle.sink_lines.specs.Lines.{Wrote};
+ghost use Rattle.job_ends.specs.Comes.{Writes};
+ghost use Rattle.job_ends.specs.Shown.{shown};
 ghost use Rattle.sink_lines.specs.Tells.{tells};
-ghost use Rattle.file_jobs.specs.Comes.{WritesOutput};
 
-use crate::ending::Ending;
+use job_ends::Ending;
 use outside::{Sink, SinkError};
 use sink_lines::put_line;
 
@@ -22,7 +20,7 @@ pub(crate) struct Output {
 
 /// Writes an output, and answers how the job ended.
 pub(crate) fn write<O: Sink>(output: &Output, out: &mut O) -> Ending
-    ensures { WritesOutput output.now
+    ensures { Writes (string_bytes output.now.line ∷ []) (if output.now.breach then breached else done)
         (tells (O.contents out.old) (O.failures out.old) (O.faults out.old))
         (tells (O.contents out.new) (O.failures out.new) (O.faults out.new)) (shown result) }
 {

@@ -1,16 +1,14 @@
-//! The jobs that read one file and write one line: `check` judges a stack file, and `audit` a law on a report.
-//!
-//! Each answers how it ended, and `say` says that.
+//! The jobs that read one file and write one line: `check` judges a stack file, and `audit` a law on a report; and the read of a stack
+//! file for every job that has one.
 #![tactic(auto)]
 
 mod audit;
 mod check;
-mod ending;
 mod judged;
 mod lines;
-mod saying;
+mod report;
+mod stack;
 
 pub use audit::audit_report;
 pub use check::check_stack;
-pub use ending::Ending;
-pub use saying::say;
+pub use stack::fetch_stack;

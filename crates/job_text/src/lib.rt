@@ -10,8 +10,6 @@ mod jobs;
 mod named;
 mod numbers;
 mod reading;
-#[cfg(test)]
-mod tests;
 
 pub use crate::named::{Audit, Job, Load, Mode, Node, Replay};
 pub use crate::reading::job;

@@ -1,5 +1,7 @@
 //! The jobs of the program.
 
+ghost use Rattle.std.specs.Prelude.{◌≤◌};
+
 use audit_mean::Law;
 
 /// How members run a stack.
@@ -48,6 +50,8 @@ pub struct Load<'w> {
     /// Whether the script has datagrams.
     pub raw: bool,
     pub mode: Mode,
+    ghost few: { events ≤ 99999 },
+    ghost within: { (1 ≤ members) × (members ≤ 32) },
 }
 
 /// Runs members of a group over a network.

@@ -1,6 +1,7 @@
 //! Numbers in words, and lists of members.
+#![tactic(auto, using(crate::proofs::Bounds::within_bounds))]
 
-ghost use Rattle.std.specs.Prelude.{◌≡◌, IfOk, ◌==◌, nat_lt, option_map};
+ghost use Rattle.std.specs.Prelude.{◌≡◌, ◌≤◌, IfOk, IfSome, ◌==◌, nat_lt, option_map};
 ghost use Rattle.std.specs.List.{list_all, slice_split};
 ghost use Rattle.script_mean.specs.Words as words;
 ghost use Rattle.job_mean.specs.Job as spec;
@@ -11,7 +12,8 @@ use std::alloc::{AllocError, Global};
 
 /// A number that has to be given, within bounds.
 pub(crate) fn a_number(low: u32, high: u32, given: Option<&str>) -> Option<u32>
-    ensures { result ≡ spec.a_number low high (text given.entry) }
+    ensures is { result ≡ spec.a_number low high (text given.entry) }
+    ensures bounds { IfSome result (λ number. (low ≤ number) × (number ≤ high)) }
 {
     number_within(low, high, given?.as_bytes())
 }

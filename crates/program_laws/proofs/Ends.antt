@@ -20,7 +20,7 @@ use Rattle.program_mean.specs.Judged.{Means, IsGood, Refuses}
 use Rattle.program_mean.specs.Output.{HasRoom, IsNode, is_failure, failures}
 use Rattle.program_mean.specs.Second.{crowded, after_script, after_plan, second_fault}
 use Rattle.program_mean.specs.Headline.{Counted, Run, Fails, IsSound, RoseBy, second_for, WritesOf, OfJob, end_found, whole_end, WritesWhole, gone_on, HeardAll, Began, ReadsStack, RefusesFile, IsNoReport, RefusesReport, RefusesSecond, ReadsFailed, LinksFail, Ends, Says, whole, cut_off, out_of_memory}
-use Rattle.program_laws.specs.OneEnd.{Counts, CountsAll, OneEnd, Came, WordsAreDue, FilesAreDue, ReportsAreDue, MissesAreDue, ChecksAreDue, FindingsAreDue, SecondsAreDue}
+use Rattle.program_laws.specs.OneEnd.{Counts, CountsAll, OneEnd, Came, WordsAreDue, FilesAreDue, ReportsAreDue, MissesAreDue, IsAlone, GoodAreDue, SecondMissesAreDue, SecondsAreDue}
 use Rattle.program_laws.proofs.Files.{one_meaning, one_refusal, good_or_refused}
 
 -- What is some, and known.
@@ -562,115 +562,74 @@ reports_are_due print r name law file fault ran is_job is_file refused = go ran.
   go end (went_on h m) came = absurd (reached m)
   go end (wanted is) came = want_of r end 1 is came
 
--- An audit that wrote its whole output ended by its finding.
-audit_ended : (print : List LayerTree → List ℕ) (r : Run) (name : Text) (law : Law) (file : List ℕ) (finding : Finding) (end : Ended) →
-    job_of_words r.words ≡ Some (audit name law) → r.file ≡ Some file → audit_of law file ≡ Ok finding → WritesWhole print r end →
-    end ≡ end_found (Ok finding)
-audit_ended print r name law file finding end is_job is_file found h =
-    let m = met r _ h.0 in
-    let job : m.job ≡ audit name law = some_once m.job (audit name law) (sym m.is_job ∙ is_job) in
-    let same : m.file ≡ file = some_once m.file file (sym m.is_file ∙ is_file) in
-    sym m.holds.1 ∙ (λ k. whole_end (job k) (same k)) ∙ ap end_found found
+-- What a run met, at the job and the files that are told.
+holds_there : (r : Run) (P : Job → (file second : List ℕ) → Type 0) (job : Job) (file second : List ℕ) → job_of_words r.words ≡ Some job →
+    r.file ≡ Some file → second_for job r.second ≡ Some second → OfJob r P → P job file second
+holds_there r P job file second is_job is_file is_second h =
+    let m = met r P h in
+    let same_job : m.job ≡ job = some_once m.job job (sym m.is_job ∙ is_job) in
+    let same_file : m.file ≡ file = some_once m.file file (sym m.is_file ∙ is_file) in
+    let same_second : m.second ≡ second =
+    some_once m.second second (sym m.is_second ∙ ap (λ j. second_for j r.second) same_job ∙ is_second) in
+    subst {A = Job × List ℕ × List ℕ} (λ x. P x.0 x.1 x.2) (λ k. (same_job k, same_file k, same_second k)) m.holds
 
--- Neither a check nor an audit ends at its network.
-no_links : (r : Run) (job : Job) → job_of_words r.words ≡ Some job → ((file second : List ℕ) → LinksFail job r file second → ⊥) →
-    OfJob r (λ job file second. LinksFail job r file second) → ⊥
-no_links r job is_job none h =
-    let m = met r _ h in
-    let same : m.job ≡ job = some_once m.job job (sym m.is_job ∙ is_job) in
-    none m.file m.second (subst (λ j. LinksFail j r m.file m.second) same m.holds)
+-- A job without a network doesn't end at it.
+no_links : (job : Job) (r : Run) (file second : List ℕ) → IsAlone job → LinksFail job r file second → ⊥
+no_links (node name plan turns me patience mode) r file second alone fails = alone
+no_links (check name) r file second alone fails = fails
+no_links (synth name) r file second alone fails = fails
+no_links (replay name script mode wire count) r file second alone fails = fails
+no_links (load name seed events members raw mode) r file second alone fails = fails
+no_links (audit name law) r file second alone fails = fails
 
-pub findings_are_due : FindingsAreDue
-findings_are_due print r name law file finding ran puts is_job is_file found =
+-- A read that failed, where both files are there.
+read_or_there : (r : Run) (job : Job) (file second : List ℕ) → job_of_words r.words ≡ Some job → r.file ≡ Some file →
+    second_for job r.second ≡ Some second → ReadsFailed r → ⊥
+read_or_there r job file second is_job is_file is_second h = known (job_of_words r.words) _ ⊥ h.unread (λ other too x. which other too x) where
+  which : (other : Job) → job_of_words r.words ≡ Some other →
+      ((r.file ≡ None) ⊎ ((second_for other r.second ≡ None) × IsSomeAnd r.file IsGood)) → ⊥
+  which other too (inl none) = let both : ◌≡◌ {A = Option (List ℕ)} None (Some file) = sym none ∙ is_file in cc
+  which other too (inr x) =
+      let same : other ≡ job = some_once other job (sym too ∙ is_job) in
+      let both : ◌≡◌ {A = Option (List ℕ)} None (Some second) = sym x.0 ∙ ap (λ j. second_for j r.second) same ∙ is_second in cc
+
+pub good_are_due : GoodAreDue
+good_are_due print r job file second out ran puts alone is_job is_file is_second writes =
     go ran.end (way print r ran.end ran.ends) (said r ran.end ran.says) where
-      no_stack : IsSomeAnd (job_of_words r.words) ReadsStack → ⊥
-      no_stack reads = stack_job r (audit name law) is_job reads
+      good : Good job file second
+      good = writes_good print job r file second out writes
 
-      no_fault : (other : AuditFault) → RefusesReport r other → ⊥
-      no_fault other i =
-          let m = met r _ i.refused in
-          let job : m.job ≡ audit name law = some_once m.job (audit name law) (sym m.is_job ∙ is_job) in
-          let same : m.file ≡ file = some_once m.file file (sym m.is_file ∙ is_file) in
-          let refused : audit_of law file ≡ Err other = subst {A = Job × List ℕ} (λ x. IsNoReport x.0 x.1 other) (λ k. (job k, same k)) m.holds in
-          let both : ◌≡◌ {A = Result Finding AuditFault} (Ok finding) (Err other) = sym found ∙ refused in cc
-
-      no_second : (b : SecondFault) → RefusesSecond r b → ⊥
-      no_second b i = let n = met r _ i.refused in
-          let job : n.job ≡ audit name law = some_once n.job (audit name law) (sym n.is_job ∙ is_job) in
-          subst ReadsStack job (reads_stack n.job i.stack n.second b n.holds.1)
-
-      stops : (end : Ended) → Stops r end → ⊥
-      stops words_refused h = named r (audit name law) is_job h
-      stops (file_refused other) h = no_stack h.job
-      stops (report_refused other) h = no_fault other h
-      stops (second_refused other) h = no_second other h
-      stops read_failed h = read_or_audited r name law file is_job is_file h
-      stops _ h = h
-
-      goes : (end : Ended) → GoesOn print r end → end ≡ end_found (Ok finding)
-      goes done h = audit_ended print r name law file finding done is_job is_file found h
-      goes breached h = audit_ended print r name law file finding breached is_job is_file found h
-      goes write_failed h = absurd (puts h)
-      goes link_failed h = absurd (no_links r (audit name law) is_job (λ text second fails. fails) h.1)
-      goes _ h = absurd h
-
-      go : (end : Ended) → Way print r end → Came r (status_number end) → Came r (status_number (end_found (Ok finding)))
-      go end (stopped h) came = absurd (stops end h)
-      go end (went_on h m) came = subst (λ e. Came r (status_number e)) (goes end h) came
-      go end (wanted is) came = want_of r end (status_number (end_found (Ok finding))) is came
-
-pub checks_are_due : ChecksAreDue
-checks_are_due print r name file stack ran puts is_job is_file means =
-    go ran.end (way print r ran.end ran.ends) (said r ran.end ran.says) where
-      reads : IsSomeAnd (job_of_words r.words) ReadsStack
-      reads = subst (λ o. IsSomeAnd o ReadsStack) (sym is_job) tt
+      at_job : (P : Job → (file second : List ℕ) → Type 0) → OfJob r P → P job file second
+      at_job P h = holds_there r P job file second is_job is_file is_second h
 
       at_file : (other : FileFault) → RefusesFile r other → ⊥
       at_file other h = known r.file (λ text. Refuses text other) ⊥ h.refused (λ text is x.
           let same : text ≡ file = some_once text file (sym is ∙ is_file) in
-          good_or_refused file stack other means (subst (λ t. Refuses t other) same x))
+          let g = good_stack job file second (stack_job r job is_job h.job) good in
+          good_or_refused file g.stack other g.means (subst (λ t. Refuses t other) same x))
 
-      no_report : (b : AuditFault) → RefusesReport r b → ⊥
-      no_report b i = let m = met r _ i.refused in no_report_or_stack m.job m.file b m.holds (stack_job r m.job m.is_job reads)
-
-      no_second : (b : SecondFault) → RefusesSecond r b → ⊥
-      no_second b i = let n = met r _ i.refused in
-          let job : n.job ≡ check name = some_once n.job (check name) (sym n.is_job ∙ is_job) in
-          let refused : ◌≡◌ {A = Option SecondFault} None (Some b) = subst (λ j. second_fault j i.stack n.second ≡ Some b) job n.holds.1 in cc
-
-      unread : ReadsFailed r → ⊥
-      unread h = which (subst (λ o. IsSomeAnd o Unread) is_job h.unread) where
-        Unread : Job → Type 0
-        Unread job = (r.file ≡ None) ⊎ ((second_for job r.second ≡ None) × IsSomeAnd r.file IsGood)
-
-        which : (r.file ≡ None) ⊎ ((second_for (check name) r.second ≡ None) × IsSomeAnd r.file IsGood) → ⊥
-        which (inl none) = let both : ◌≡◌ {A = Option (List ℕ)} None (Some file) = sym none ∙ is_file in cc
-        which (inr x) = let both : ◌≡◌ {A = Option (List ℕ)} (Some []) None = x.0 in cc
+      at_second : (other : SecondFault) → RefusesSecond r other → ⊥
+      at_second other h = let x = at_job _ h.refused in second_or_good job file second h.stack other x.0 x.1 good
 
       stops : (end : Ended) → Stops r end → ⊥
-      stops words_refused h = named r (check name) is_job h
+      stops words_refused h = named r job is_job h
       stops (file_refused other) h = at_file other h
-      stops (report_refused other) h = no_report other h
-      stops (second_refused other) h = no_second other h
-      stops read_failed h = unread h
+      stops (report_refused other) h = no_report_or_good job file second other (at_job _ h.refused) good
+      stops (second_refused other) h = at_second other h
+      stops read_failed h = read_or_there r job file second is_job is_file is_second h
       stops _ h = h
 
-      ended : (end : Ended) → WritesWhole print r end → end ≡ done
-      ended end h =
-          let m = met r _ h.0 in
-          sym m.holds.1 ∙ ap (λ j. whole_end j m.file) (some_once m.job (check name) (sym m.is_job ∙ is_job))
-
-      goes : (end : Ended) → GoesOn print r end → end ≡ done
-      goes done h = refl
-      goes breached h = ended breached h
+      goes : (end : Ended) → GoesOn print r end → end ≡ whole_end job file
+      goes done h = sym (at_job _ h.0).1
+      goes breached h = sym (at_job _ h.0).1
       goes write_failed h = absurd (puts h)
-      goes link_failed h = absurd (no_links r (check name) is_job (λ text second fails. fails) h.1)
+      goes link_failed h = absurd (no_links job r file second alone (at_job _ h.1))
       goes _ h = absurd h
 
-      go : (end : Ended) → Way print r end → Came r (status_number end) → Came r 0
+      go : (end : Ended) → Way print r end → Came r (status_number end) → Came r (status_number (whole_end job file))
       go end (stopped h) came = absurd (stops end h)
       go end (went_on h m) came = subst (λ e. Came r (status_number e)) (goes end h) came
-      go end (wanted is) came = want_of r end 0 is came
+      go end (wanted is) came = want_of r end (status_number (whole_end job file)) is came
 
 pub misses_are_due : MissesAreDue
 misses_are_due print r job ran is_job none = go ran.end (way print r ran.end ran.ends) (said r ran.end ran.says) where
@@ -737,3 +696,29 @@ seconds_are_due print r job file second stack fault ran is_job is_file is_second
       go end (stopped h) came = stops end h came
       go end (went_on h m) came = absurd (reached m)
       go end (wanted is) came = want_of r end 3 is came
+
+pub second_misses_are_due : SecondMissesAreDue
+second_misses_are_due print r job file stack ran is_job is_file means none =
+    go ran.end (way print r ran.end ran.ends) (said r ran.end ran.says) where
+      at_file : (other : FileFault) → RefusesFile r other → ⊥
+      at_file other h = known r.file (λ text. Refuses text other) ⊥ h.refused (λ text is x.
+          let same : text ≡ file = some_once text file (sym is ∙ is_file) in
+          good_or_refused file stack other means (subst (λ t. Refuses t other) same x))
+
+      met_none : (P : Job → (file second : List ℕ) → Type 0) → Met r P → ⊥
+      met_none P m =
+          let same : m.job ≡ job = some_once m.job job (sym m.is_job ∙ is_job) in
+          let both : ◌≡◌ {A = Option (List ℕ)} None (Some m.second) = sym none ∙ ap (λ j. second_for j r.second) (sym same) ∙ m.is_second in cc
+
+      stops : (end : Ended) → Stops r end → Came r (status_number end) → Came r 4
+      stops words_refused h came = absurd (named r job is_job h)
+      stops (file_refused other) h came = absurd (at_file other h)
+      stops (report_refused other) h came = absurd (met_none _ (met r _ h.refused))
+      stops (second_refused other) h came = absurd (met_none _ (met r _ h.refused))
+      stops read_failed h came = came
+      stops _ h came = absurd h
+
+      go : (end : Ended) → Way print r end → Came r (status_number end) → Came r 4
+      go end (stopped h) came = stops end h came
+      go end (went_on h m) came = absurd (met_none Good m)
+      go end (wanted is) came = want_of r end 4 is came

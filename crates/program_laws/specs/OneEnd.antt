@@ -1,18 +1,17 @@
 -- That a run of the program has one end, so that each status comes exactly where it is due.
-use Rattle.std.specs.Prelude.{◌≡◌, ◌≢◌, ◌⊎◌, ℕ, List, Some, None, Ok, Err}
+use Rattle.std.specs.Prelude.{◌≡◌, ◌≢◌, ◌⊎◌, ℕ, List, Some, None, Err}
 use Rattle.outside.specs.Count.{last_count}
 use Rattle.layer_ast.specs.Tree.{FileTree}
 use Rattle.layer_mean.specs.Tree.{LayerTree}
 use Rattle.file_mean.specs.Library.{IsFile}
 use Rattle.audit_mean.specs.Finding.{AuditFault, audit_of}
 use Rattle.audit_mean.specs.declared.law.Law.{Law}
-use Rattle.audit_mean.specs.declared.law.Finding.{Finding}
 use Rattle.clap.specs.Walk.{Text}
-use Rattle.job_mean.specs.Job.{Job, check, audit, job_of_words}
+use Rattle.job_mean.specs.Job.{Job, check, synth, replay, load, node, audit, job_of_words}
 use Rattle.job_mean.specs.Status.{FileFault, SecondFault, Ended, no_memory, status_number}
 use Rattle.program_mean.specs.Judged.{Means, Refuses}
 use Rattle.program_mean.specs.Second.{second_fault}
-use Rattle.program_mean.specs.Headline.{Counted, Run, Fails, second_for, end_found, ReadsStack, Ends, Ran}
+use Rattle.program_mean.specs.Headline.{Counted, Run, Fails, second_for, WritesOf, whole_end, ReadsStack, Ends, Ran}
 
 -- A text is one file at most, means one stack at most, and is refused for one cause at most; and what means a stack isn't refused.
 abbrev pub OneFile : Type 0
@@ -67,16 +66,21 @@ MissesAreDue = (print : List LayerTree → List ℕ) (r : Run) (job : Job) → R
 abbrev pub PutsAll : Run → Type 0
 PutsAll r = Fails r.puts → ⊥
 
--- A check whose file is read and means a stack ends with 0, if no write failed.
-abbrev pub ChecksAreDue : Type 0
-ChecksAreDue = (print : List LayerTree → List ℕ) (r : Run) (name : Text) (file : List ℕ) (stack : List LayerTree) → Ran print r → PutsAll r →
-    job_of_words r.words ≡ Some (check name) → r.file ≡ Some file → Means file stack → Came r 0
+-- A job without a network.
+abbrev pub IsAlone : Job → Type 0
+IsAlone (node name plan turns me patience mode) = ⊥
+IsAlone _ = Unit {0}
 
--- An audit whose file is read and is a report ends with 0 where the law holds and with 8 where there is a breach, if no write failed.
-abbrev pub FindingsAreDue : Type 0
-FindingsAreDue = (print : List LayerTree → List ℕ) (r : Run) (name : Text) (law : Law) (file : List ℕ) (finding : Finding) → Ran print r →
-    PutsAll r → job_of_words r.words ≡ Some (audit name law) → r.file ≡ Some file → audit_of law file ≡ Ok finding →
-    Came r (status_number (end_found (Ok finding)))
+-- A job without a network whose files are read and that has a whole output over them ends with the status of that, if no write failed.
+abbrev pub GoodAreDue : Type 0
+GoodAreDue = (print : List LayerTree → List ℕ) (r : Run) (job : Job) (file second out : List ℕ) → Ran print r → PutsAll r → IsAlone job →
+    job_of_words r.words ≡ Some job → r.file ≡ Some file → second_for job r.second ≡ Some second → WritesOf print job r file second out →
+    Came r (status_number (whole_end job file))
+
+-- A job whose file is good, and whose second file isn't there, ends with 4.
+abbrev pub SecondMissesAreDue : Type 0
+SecondMissesAreDue = (print : List LayerTree → List ℕ) (r : Run) (job : Job) (file : List ℕ) (stack : List LayerTree) → Ran print r →
+    job_of_words r.words ≡ Some job → r.file ≡ Some file → Means file stack → second_for job r.second ≡ None → Came r 4
 
 -- A job whose file is good, and whose second file is read and refused or whose members have too many rows, ends with 3.
 abbrev pub SecondsAreDue : Type 0

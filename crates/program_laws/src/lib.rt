@@ -2,9 +2,8 @@
 #![tactic(auto)]
 
 ghost use Rattle.program_laws.specs.OneEnd.{
-  ChecksAreDue,
   FilesAreDue,
-  FindingsAreDue,
+  GoodAreDue,
   GoodOrRefused,
   MissesAreDue,
   OneEnd,
@@ -12,6 +11,7 @@ ghost use Rattle.program_laws.specs.OneEnd.{
   OneMeaning,
   OneRefusal,
   ReportsAreDue,
+  SecondMissesAreDue,
   SecondsAreDue,
   WordsAreDue,
 };
@@ -61,17 +61,17 @@ pub fn misses_are_due()
     ensures { MissesAreDue }
 {}
 
-/// A check of a good file of which no write failed ends with status 0, or memory ran out.
-pub fn checks_are_due()
-    ensures { ChecksAreDue }
-{}
-
-/// An audit of a report of which no write failed ends with status 0 or 8, by what it finds, or memory ran out.
-pub fn findings_are_due()
-    ensures { FindingsAreDue }
+/// A job without a network that has a whole output and of which no write failed ends with the status of that, or memory ran out.
+pub fn good_are_due()
+    ensures { GoodAreDue }
 {}
 
 /// A second file that is refused ends with status 3, or memory ran out.
 pub fn seconds_are_due()
     ensures { SecondsAreDue }
+{}
+
+/// A second file that isn't there ends with status 4, or memory ran out.
+pub fn second_misses_are_due()
+    ensures { SecondMissesAreDue }
 {}

@@ -1,27 +1,33 @@
-use Rattle.std.proofs.Common.{rules, refl}
+use Rattle.std.proofs.Common.{refl, sym, subst, [], ◌∷◌}
+use Rattle.std.specs.String.{string_bytes}
 use Rattle.job_mean.specs.Job.{audit}
-use Rattle.sink_lines.specs.Tells.{tells}
-use Rattle.file_jobs.specs.Comes.{around}
-use Rattle.file_jobs.specs.Shown.{shown}
-use Rattle.file_jobs.proofs.Comes.{written, stopped, large_report}
+use Rattle.sink_lines.specs.Tells.{Tells, tells}
+use Rattle.job_ends.specs.Comes.{around, Writes}
+use Rattle.job_ends.specs.Shown.{shown}
+use Rattle.job_ends.proofs.Comes.{written}
+use Rattle.file_jobs.proofs.Stops.{audit_stops}
 use Rattle.file_jobs.proofs.audit.audit_report.Goals as goal
 
 pub returns-in-Ok : goal.returns-in-Ok
-returns-in-Ok g c = written (audit c.args.file.now c.args.law) c.args.file.now (around (g.S.Shelf.told c.args.shelf.now) (g.S.Shelf.faults c.args.shelf.now) (g.S.Shelf.faults c.read.new.self)
-    (tells (g.O.Sink.contents c.args.out.now) (g.O.Sink.failures c.args.out.now) (g.O.Sink.faults c.args.out.now))
-    (tells (g.O.Sink.contents c.write.new.out) (g.O.Sink.failures c.write.new.out) (g.O.Sink.faults c.write.new.out)))
-    c.deref.result.now c.in-Ok.output (shown c.write.result) (record { found = search rules; sound = search rules })
-    (c.in-Ok.ensures c.args.file.now) c.write.ensures
+returns-in-Ok g c =
+    let before : Tells = tells (g.O.Sink.contents c.args.out.now) (g.O.Sink.failures c.args.out.now) (g.O.Sink.faults c.args.out.now) in
+    let after : Tells = tells (g.O.Sink.contents c.write.new.out) (g.O.Sink.failures c.write.new.out) (g.O.Sink.faults c.write.new.out) in
+    let report = c.in-Ok.ensures in
+    written (audit c.args.file.now c.args.law)
+    (around (g.S.Shelf.told c.args.shelf.now) (g.S.Shelf.faults c.args.shelf.now) (g.S.Shelf.faults c.fetch_report.new.shelf) before after)
+    (record {
+      file = report.file;
+      second = [];
+      found = report.found;
+      beside = refl;
+      lines = string_bytes c.in-Ok.output.line ∷ [];
+      output = report.finds.output;
+    })
+    (shown c.write.result) report.sound
+    (subst (λ end. Writes (string_bytes c.in-Ok.output.line ∷ []) end before after (shown c.write.result)) (sym report.finds.ends) c.write.ensures)
 
-pub returns-in-Ok-Whole : goal.returns-in-Ok-Whole
-returns-in-Ok-Whole g c = stopped (audit c.args.file.now c.args.law) c.args.file.now (around (g.S.Shelf.told c.args.shelf.now) (g.S.Shelf.faults c.args.shelf.now) (g.S.Shelf.faults c.read.new.self)
+pub returns-in-Err : goal.returns-in-Err
+returns-in-Err g c = audit_stops c.args.file.now c.args.law (around (g.S.Shelf.told c.args.shelf.now) (g.S.Shelf.faults c.args.shelf.now) (g.S.Shelf.faults c.fetch_report.new.shelf)
     (tells (g.O.Sink.contents c.args.out.now) (g.O.Sink.failures c.args.out.now) (g.O.Sink.faults c.args.out.now))
     (tells (g.O.Sink.contents c.args.out.now) (g.O.Sink.failures c.args.out.now) (g.O.Sink.faults c.args.out.now)))
-    c.deref.result.now (shown c.in-Err.ending) (record { found = search rules; sound = search rules })
-    (c.in-Err.ensures c.args.file.now) refl
-
-pub returns-in-Ok-TooLong : goal.returns-in-Ok-TooLong
-returns-in-Ok-TooLong g c = large_report c.args.file.now c.args.law (around (g.S.Shelf.told c.args.shelf.now) (g.S.Shelf.faults c.args.shelf.now) (g.S.Shelf.faults c.read.new.self)
-    (tells (g.O.Sink.contents c.args.out.now) (g.O.Sink.failures c.args.out.now) (g.O.Sink.faults c.args.out.now))
-    (tells (g.O.Sink.contents c.args.out.now) (g.O.Sink.failures c.args.out.now) (g.O.Sink.faults c.args.out.now)))
-    (search rules) (search rules) refl
+    (shown c.in-Err.ending) c.in-Err.ensures refl

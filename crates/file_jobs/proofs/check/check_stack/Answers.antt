@@ -1,27 +1,35 @@
-use Rattle.std.proofs.Common.{rules, refl}
+use Rattle.std.proofs.Common.{refl, [], ◌∷◌, ◌++◌, codes, ap, ◌∙◌}
+use Rattle.std.specs.Fmt.{decimal}
+use Rattle.event_graph.specs.Answer.{stack_tree}
 use Rattle.job_mean.specs.Job.{check}
 use Rattle.sink_lines.specs.Tells.{tells}
-use Rattle.file_jobs.specs.Comes.{around}
-use Rattle.file_jobs.specs.Shown.{shown}
-use Rattle.file_jobs.proofs.Comes.{written, stopped, large_file}
+use Rattle.job_ends.specs.Comes.{around}
+use Rattle.job_ends.specs.Shown.{shown}
+use Rattle.job_ends.proofs.Comes.{written}
+use Rattle.file_jobs.proofs.Stops.{stops}
+use Rattle.file_jobs.proofs.Texts.{accepted_as}
 use Rattle.file_jobs.proofs.check.check_stack.Goals as goal
 
 pub returns-in-Ok : goal.returns-in-Ok
-returns-in-Ok g c = written (check c.args.file.now) c.args.file.now (around (g.S.Shelf.told c.args.shelf.now) (g.S.Shelf.faults c.args.shelf.now) (g.S.Shelf.faults c.read.new.self)
+returns-in-Ok g c = written (check c.args.file.now) (around (g.S.Shelf.told c.args.shelf.now) (g.S.Shelf.faults c.args.shelf.now) (g.S.Shelf.faults c.fetch_stack.new.shelf)
     (tells (g.O.Sink.contents c.args.out.now) (g.O.Sink.failures c.args.out.now) (g.O.Sink.faults c.args.out.now))
-    (tells (g.O.Sink.contents c.write.new.out) (g.O.Sink.failures c.write.new.out) (g.O.Sink.faults c.write.new.out)))
-    c.deref.result.now c.in-Ok.output (shown c.write.result) (record { found = search rules; sound = search rules })
-    (c.in-Ok.ensures c.args.file.now) c.write.ensures
+    (tells (g.O.Sink.contents c.accept.new.out) (g.O.Sink.failures c.accept.new.out) (g.O.Sink.faults c.accept.new.out)))
+    (record {
+      file = c.in-Ok.ensures.read.file;
+      second = [];
+      found = c.in-Ok.ensures.read.found;
+      beside = refl;
+      lines = (codes "accepted " ++ decimal c.places.result ++ codes "\n") ∷ [];
+      output = record {
+        stack = stack_tree c.in-Ok.stack;
+        means = c.in-Ok.ensures.read.means;
+        written = ap (λ n. (codes "accepted " ++ decimal n ++ codes "\n") ∷ []) c.places.ensures ∙ accepted_as _;
+      };
+    })
+    (shown c.accept.result) c.in-Ok.ensures.read.sound c.accept.ensures
 
-pub returns-in-Ok-Whole : goal.returns-in-Ok-Whole
-returns-in-Ok-Whole g c = stopped (check c.args.file.now) c.args.file.now (around (g.S.Shelf.told c.args.shelf.now) (g.S.Shelf.faults c.args.shelf.now) (g.S.Shelf.faults c.read.new.self)
+pub returns-in-Err : goal.returns-in-Err
+returns-in-Err g c = stops (check c.args.file.now) (around (g.S.Shelf.told c.args.shelf.now) (g.S.Shelf.faults c.args.shelf.now) (g.S.Shelf.faults c.fetch_stack.new.shelf)
     (tells (g.O.Sink.contents c.args.out.now) (g.O.Sink.failures c.args.out.now) (g.O.Sink.faults c.args.out.now))
     (tells (g.O.Sink.contents c.args.out.now) (g.O.Sink.failures c.args.out.now) (g.O.Sink.faults c.args.out.now)))
-    c.deref.result.now (shown c.in-Err.ending) (record { found = search rules; sound = search rules })
-    (c.in-Err.ensures c.args.file.now) refl
-
-pub returns-in-Ok-TooLong : goal.returns-in-Ok-TooLong
-returns-in-Ok-TooLong g c = large_file c.args.file.now (around (g.S.Shelf.told c.args.shelf.now) (g.S.Shelf.faults c.args.shelf.now) (g.S.Shelf.faults c.read.new.self)
-    (tells (g.O.Sink.contents c.args.out.now) (g.O.Sink.failures c.args.out.now) (g.O.Sink.faults c.args.out.now))
-    (tells (g.O.Sink.contents c.args.out.now) (g.O.Sink.failures c.args.out.now) (g.O.Sink.faults c.args.out.now)))
-    (search rules) (search rules) refl
+    (shown c.in-Err.ending) tt c.in-Err.ensures.read refl

@@ -1,9 +1,0 @@
-use Rattle.std.proofs.Common.{◌∙◌, ap, codes, ◌++◌}
-use Rattle.std.proofs.lemmas.Result.{IfOk-weaker}
-use Rattle.std.specs.Fmt.{decimal}
-use Rattle.file_jobs.proofs.Texts.{four_joined}
-use Rattle.file_jobs.proofs.lines.cycle.Goals as goal
-
-pub returns : goal.returns
-returns c = rw (← c.kind_word.ensures) (IfOk-weaker c.format.result _ _ (λ line is. is
-    ∙ ap (λ t. codes "file: cycle " ++ t) (four_joined (decimal c.args.place) (codes " ") c.kind_word.result.now (codes "\n"))) c.format.ensures.ok)

@@ -1,0 +1,53 @@
+-- What the read of a job's stack file comes to.
+use Rattle.std.specs.Prelude.{◌≡◌, ℕ, List, Option, Some, None, IfSome, Result, Ok, Err}
+use Rattle.clap.specs.Walk.{Text}
+use Rattle.outside.specs.Count.{Rose}
+use Rattle.outside.specs.Shelf.{Shelved, found_in}
+use Rattle.layer_mean.specs.Tree.{LayerTree}
+use Rattle.job_mean.specs.Status.{FileFault, Ended, file_refused, read_failed, no_memory}
+use Rattle.program_mean.specs.Judged.{Means, Refuses}
+use Rattle.event_graph.specs.Answer.{stack_tree}
+use Rattle.event_graph.specs.declared.stack.Stack.{Stack}
+use Rattle.job_ends.specs.Shown.{shown}
+use Rattle.job_ends.specs.declared.ending.Ending.{Ending}
+
+-- The next read of this name found a file that means this stack.
+pub record IsStack (name : Text) (told : Option Shelved) (reads reads_after : ℕ) (stack : List LayerTree) : Type 0 where
+  pub file : List ℕ
+  pub found : IfSome told (λ shelf. found_in shelf name ≡ Some file)
+  pub means : Means file stack
+  pub sound : reads_after ≡ reads
+
+-- It found a file that is refused for this cause.
+pub record IsRefused (name : Text) (told : Option Shelved) (reads reads_after : ℕ) (fault : FileFault) : Type 0 where
+  pub file : List ℕ
+  pub found : IfSome told (λ shelf. found_in shelf name ≡ Some file)
+  pub refused : Refuses file fault
+  pub sound : reads_after ≡ reads
+
+-- It found none, and the count of the shelf's faults rose.
+pub record IsMissed (name : Text) (told : Option Shelved) (reads reads_after : ℕ) : Type 0 where
+  pub none : IfSome told (λ shelf. found_in shelf name ≡ None)
+  pub rose : Rose reads reads_after
+
+-- A job ends so at its stack file.
+abbrev pub StopsAt : Text → Option Shelved → (reads reads_after : ℕ) → Ended → Type 0
+StopsAt name told reads reads_after (file_refused fault) = IsRefused name told reads reads_after fault
+StopsAt name told reads reads_after read_failed = IsMissed name told reads reads_after
+StopsAt name told reads reads_after no_memory = Unit {0}
+StopsAt name told reads reads_after _ = ⊥
+
+-- The stack of the file that was read, or how the job ends.
+abbrev pub Fetches : Text → Option Shelved → (reads reads_after : ℕ) → Result Stack Ending → Type 0
+Fetches name told reads reads_after (Ok stack) = IsStack name told reads reads_after (stack_tree stack)
+Fetches name told reads reads_after (Err ending) = StopsAt name told reads reads_after (shown ending)
+
+-- The stack that the bytes of a file mean, or why they are refused.
+abbrev pub Refused : List ℕ → Ended → Type 0
+Refused text (file_refused fault) = Refuses text fault
+Refused text no_memory = Unit {0}
+Refused text _ = ⊥
+
+abbrev pub JudgesStack : List ℕ → Result Stack Ending → Type 0
+JudgesStack text (Ok stack) = Means text (stack_tree stack)
+JudgesStack text (Err ending) = Refused text (shown ending)

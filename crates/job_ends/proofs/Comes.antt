@@ -1,0 +1,140 @@
+-- What a job comes to, from what was read and written.
+use Rattle.std.proofs.Common.{arith, ◌≡◌, refl, sym, ◌∙◌, ap, ℕ, zero, suc, ◌<◌, List, [], ◌∷◌, length, append-nil, Option, Some, None, inl, inr}
+use Rattle.std.specs.Prelude.{IfSome, IsSomeAnd}
+use Rattle.std.specs.List.{concat}
+use Rattle.std.specs.Option.{option_map}
+use Rattle.clap.specs.Walk.{Text}
+use Rattle.outside.specs.Shelf.{Shelved, found_in, after_read}
+use Rattle.program_laws.proofs.Files.{one_meaning}
+use Rattle.job_mean.specs.Job.{Job, check, synth, replay, load, node, audit}
+use Rattle.job_mean.specs.Status.{Ended, done, breached, write_failed, no_memory}
+use Rattle.program_mean.specs.Headline.{Run, second_for, whole_end, WritesOf}
+use Rattle.layer_mean.specs.Tree.{LayerTree}
+use Rattle.script_mean.specs.Generate.{generate}
+use Rattle.script_mean.specs.declared.script.Script.{Script}
+use Rattle.script_mean.specs.Script.{ScriptFault}
+use Rattle.audit_mean.specs.Finding.{AuditFault}
+use Rattle.audit_mean.specs.declared.law.Finding.{Finding}
+use Rattle.stack_mean.specs.Plans.{plans_of}
+use Rattle.run_mean.specs.Report.{output_in}
+use Rattle.run_mean.specs.Tally.{tally, accepted_lines}
+use Rattle.program_mean.specs.Output.{finding_line}
+use Rattle.std.specs.Prelude.{Result, Ok}
+use Rattle.job_ends.specs.Comes.{Around, Beside, Finds, file_name, IsOutput, Good, Writes, Comes}
+
+-- A job's output was written, or begun.
+pub written : (job : Job) (a : Around) (good : Good job a.told) (end : Ended) → a.reads_after ≡ a.reads →
+    Writes good.lines (whole_end job good.file) a.output a.output_after end → Comes job a end
+written job a good done sound w = record { good = good; ends = w.0; sound = sound; written = w.1 }
+written job a good breached sound w = record { good = good; ends = w.0; sound = sound; written = w.1 }
+written job a good write_failed sound w = record { good = good; sound = sound; written = w }
+written job a good no_memory sound w = inr (record { good = good; sound = sound; written = w })
+written job a good _ sound w = absurd w
+
+abbrev zeros : ℕ → List ℕ
+zeros zero = []
+zeros (suc n) = 0 ∷ zeros n
+
+length_zeros : (n : ℕ) → length (zeros n) ≡ n
+length_zeros zero = refl
+length_zeros (suc n) = ap suc (length_zeros n)
+
+-- A file of more than so many bytes: the one that was found, where the shelf tells, and else any.
+pub longer : (told : Option Shelved) (name : Text) (most : ℕ) → IfSome told (λ shelf. IsSomeAnd (found_in shelf name) (λ file. most < length file)) →
+    (file : List ℕ) × IfSome told (λ shelf. found_in shelf name ≡ Some file) × (most < length file)
+longer None name most h = let n = length_zeros (suc most) in (zeros (suc most), tt, omega (arith, n))
+longer (Some shelf) name most h = found (found_in shelf name) h where
+  found : (o : Option (List ℕ)) → IsSomeAnd o (λ file. most < length file) → (file : List ℕ) × (o ≡ Some file) × (most < length file)
+  found None h = absurd h
+  found (Some file) h = (file, refl, h)
+
+-- An output as the program's definitions have it.
+pub writes_of : (print : List LayerTree → List ℕ) (job : Job) (r : Run) (file second : List ℕ) (lines : List (List ℕ)) →
+    IsOutput job file second lines → r.sent ≡ [] → WritesOf print job r file second (concat lines)
+writes_of print (check name) r file second lines o none = (record { stack = o.stack; means = o.means; written = ap concat o.written }, none)
+writes_of print (synth name) r file second lines o none = absurd o
+writes_of print (replay name script mode wire count) r file second lines o none = (
+  record {
+    stack = o.stack;
+    means = o.means;
+    script = o.script;
+    spelled = o.spelled;
+    room = o.room;
+    written = ap concat o.written;
+  },
+  none,
+)
+writes_of print (load name seed events members raw mode) r file second lines o none =
+    (record { stack = o.stack; means = o.means; room = o.room; written = ap concat o.written }, none)
+writes_of print (node name plan turns me patience mode) r file second lines o none = absurd o
+writes_of print (audit name law) r file second lines o none =
+    (record { finding = o.finding; found = o.found; written = ap concat o.written ∙ append-nil (finding_line o.finding) }, none)
+
+-- Files have one output.
+pub output_once : (job : Job) (file second : List ℕ) (one other : List (List ℕ)) → IsOutput job file second one → IsOutput job file second other →
+    one ≡ other
+output_once (check name) file second one other x y =
+    x.written ∙ ap accepted_lines (one_meaning file x.stack y.stack x.means y.means) ∙ sym y.written
+output_once (synth name) file second one other x y = absurd x
+output_once (replay name script mode wire count) file second one other x y =
+    let stack = one_meaning file x.stack y.stack x.means y.means in
+    let both : ◌≡◌ {A = Result Script ScriptFault} (Ok x.script) (Ok y.script) = sym x.spelled ∙ y.spelled in
+    let same : x.script ≡ y.script = cc (both) in
+    x.written ∙ (λ k. output_in (stack k) (plans_of (stack k)) (same k) mode wire count) ∙ sym y.written
+output_once (load name seed events members raw mode) file second one other x y =
+    let stack = one_meaning file x.stack y.stack x.means y.means in
+    x.written ∙ ap (λ s. tally s (plans_of s) mode (generate seed events members raw)) stack ∙ sym y.written
+output_once (node name plan turns me patience mode) file second one other x y = absurd x
+output_once (audit name law) file second one other x y =
+    let both : ◌≡◌ {A = Result Finding AuditFault} (Ok x.finding) (Ok y.finding) = sym x.found ∙ y.found in
+    let same : x.finding ≡ y.finding = cc (both) in
+    x.written ∙ ap (λ f. finding_line f ∷ []) same ∙ sym y.written
+
+-- What a read finds is one.
+pub found_once : (job : Job) (shelf : Shelved) (one other : Option (List ℕ)) → Finds job (Some shelf) one → Finds job (Some shelf) other → one ≡ other
+found_once job shelf one other x y = sym x ∙ y
+
+pub beside_once : (job : Job) (shelf : Shelved) (one other : Option (List ℕ)) → Beside job (Some shelf) one → Beside job (Some shelf) other →
+    one ≡ other
+beside_once (check name) shelf one other x y = x ∙ sym y
+beside_once (synth name) shelf one other x y = x ∙ sym y
+beside_once (replay name script mode wire count) shelf one other x y = sym x ∙ y
+beside_once (load name seed events members raw mode) shelf one other x y = x ∙ sym y
+beside_once (node name plan turns me patience mode) shelf one other x y = sym x ∙ y
+beside_once (audit name law) shelf one other x y = x ∙ sym y
+
+-- The second file of a run that read this one.
+pub second_read : (job : Job) (told : Option Shelved) (text : List ℕ) → Beside job told (Some text) →
+    (second : Option (List ℕ)) × (second_for job second ≡ Some text)
+second_read (check name) told text is = (None, sym is)
+second_read (synth name) told text is = (None, sym is)
+second_read (replay name script mode wire count) told text is = (Some text, refl)
+second_read (load name seed events members raw mode) told text is = (None, sym is)
+second_read (node name plan turns me patience mode) told text is = (Some text, refl)
+second_read (audit name law) told text is = (None, sym is)
+
+-- That of a run that found none.
+pub second_missed : (job : Job) (told : Option Shelved) → Beside job told None → second_for job None ≡ None
+second_missed (check name) told is = absurd (cc is)
+second_missed (synth name) told is = absurd (cc is)
+second_missed (replay name script mode wire count) told is = refl
+second_missed (load name seed events members raw mode) told is = absurd (cc is)
+second_missed (node name plan turns me patience mode) told is = refl
+second_missed (audit name law) told is = absurd (cc is)
+
+-- What is found under a name, where the shelf tells.
+found_at : (told : Option Shelved) (name : Text) → (found : Option (List ℕ)) × IfSome told (λ shelf. found_in shelf name ≡ found)
+found_at None name = (None, tt)
+found_at (Some shelf) name = (found_in shelf name, refl)
+
+-- What the next reads of a job's files find.
+pub next_file : (job : Job) (told : Option Shelved) → (found : Option (List ℕ)) × Finds job told found
+next_file job told = found_at told (file_name job)
+
+pub next_second : (job : Job) (told : Option Shelved) → (second : Option (List ℕ)) × Beside job told (second_for job second)
+next_second (check name) told = (None, refl)
+next_second (synth name) told = (None, refl)
+next_second (replay name script mode wire count) told = found_at (option_map after_read told) script
+next_second (load name seed events members raw mode) told = (None, refl)
+next_second (node name plan turns me patience mode) told = found_at (option_map after_read told) plan
+next_second (audit name law) told = (None, refl)

@@ -1,0 +1,4 @@
+pub mod Shown
+pub mod Comes
+pub mod Seen
+pub mod Due

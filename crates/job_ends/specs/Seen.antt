@@ -1,0 +1,43 @@
+-- A run of the program as the definitions see it.
+use Rattle.std.specs.Prelude.{◌≡◌, ℕ, List, [], Option, IfSome}
+use Rattle.std.specs.Io.KnownBytes.{Appends}
+use Rattle.clap.specs.Walk.{Text}
+use Rattle.layer_mean.specs.Tree.{LayerTree}
+use Rattle.job_mean.specs.Job.{Job}
+use Rattle.program_mean.specs.Headline.{Counted, Run, second_for, Ran}
+use Rattle.sink_lines.specs.Said.{Errors}
+use Rattle.job_ends.specs.Comes.{Around, Finds, Beside}
+
+abbrev pub counted : ℕ → ℕ → Counted
+counted before after = record { before = before; after = after }
+
+-- A run of these words that met these files, wrote this and said this; it had no clock or network.
+abbrev pub run_of : List Text → Around → Errors → (file second : Option (List ℕ)) → (written said : List ℕ) → Run
+run_of words a e file second written said = record {
+  words = words;
+  file = file;
+  second = second;
+  surroundings = record { clock = []; heard = []; lost = [] };
+  sent = [];
+  reads = counted a.reads a.reads_after;
+  puts = counted a.output.faults a.output_after.faults;
+  links = counted 0 0;
+  sends = counted 0 0;
+  errors = counted e.before.faults e.after.faults;
+  written = written;
+  said = said;
+  status = e.status;
+}
+
+-- What the reads of a job's files find, where the shelf tells, what the sinks gained, and that this is a run of the program: it ended in one
+-- way, for the cause of its status. No bypass is printed, so nothing is said of how they are.
+pub record Seen (words : List Text) (job : Option Job) (a : Around) (e : Errors) : Type 0 where
+  pub file : Option (List ℕ)
+  pub second : Option (List ℕ)
+  pub met : IfSome job (λ j. Finds j a.told file)
+  pub beside : IfSome job (λ j. Beside j a.told (second_for j second))
+  pub written : List ℕ
+  pub put : Appends a.output.contents a.output_after.contents written
+  pub said : List ℕ
+  pub heard : Appends e.before.contents e.after.contents said
+  pub ran : (print : List LayerTree → List ℕ) → Ran print (run_of words a e file second written said)

@@ -1,0 +1,49 @@
+-- How jobs end, as the definitions see it.
+use Rattle.audit_mean.specs.Finding as report
+use Rattle.script_mean.specs.Script.{too_long, bad_line, no_member}
+use Rattle.job_mean.specs.Status as status
+use Rattle.job_mean.specs.Status.{Ended, done, breached, file_refused, report_refused, words_refused, second_refused, read_failed, write_failed, no_memory, misspelled, too_many_rows, status_number, error_line}
+use Rattle.sink_lines.specs.Said.{Errors, SaysLine, Silent}
+use Rattle.file_judge.specs.declared.error.FileError.{FileError}
+use Rattle.file_judge.specs.declared.error.FileError.TheVariants.{TooLarge, BadToken, Unexpected, Unknown, Twice, OverLimit, Kind, Arity, Direction, Header, Initial, Cycle, TooMany, TooManyJoins}
+use Rattle.file_judge.specs.declared.error.FileError.TheVariants as file
+use Rattle.job_ends.specs.declared.ending.Ending.{Ending}
+use Rattle.job_ends.specs.declared.ending.Ending.TheVariants.{Done, Breached, Words, File, ReportTooLarge, ReportLine, SecondTooLong, SecondLine, SecondMember, TooManyRows, Read, Write, Memory}
+
+-- the end of a job whose stack file is refused
+abbrev pub file_end : FileError → Ended
+file_end TooLarge = file_refused status.too_large
+file_end (BadToken at) = file_refused (status.bad_token at)
+file_end (Unexpected at) = file_refused (status.unexpected at)
+file_end (Unknown at) = file_refused (status.unknown at)
+file_end (Twice at) = file_refused (status.twice at)
+file_end (OverLimit at) = file_refused (status.over_limit at)
+file_end (Kind at) = file_refused (status.wrong_kind at)
+file_end (Arity at) = file_refused (status.arity at)
+file_end (Direction at) = file_refused (status.direction at)
+file_end (Header at) = file_refused (status.header at)
+file_end (Initial at) = file_refused (status.initial at)
+file_end (Cycle place kind) = file_refused (status.cycle place kind)
+file_end (TooMany weight) = file_refused (status.too_many weight)
+file_end TooManyJoins = file_refused status.too_many_joins
+file_end file.Memory = no_memory
+
+abbrev pub shown : Ending → Ended
+shown Done = done
+shown Breached = breached
+shown Words = words_refused
+shown (File error) = file_end error
+shown ReportTooLarge = report_refused report.too_large
+shown (ReportLine line) = report_refused (report.bad_line line)
+shown SecondTooLong = second_refused (misspelled too_long)
+shown (SecondLine line) = second_refused (misspelled (bad_line line))
+shown (SecondMember line) = second_refused (misspelled (no_member line))
+shown TooManyRows = second_refused too_many_rows
+shown Read = read_failed
+shown Write = write_failed
+shown Memory = no_memory
+
+-- what is said of an end: nothing where a job went well, and else its line
+abbrev pub Said : Ended → Errors → Type 0
+Said done e = Silent e
+Said end e = SaysLine (error_line end) (status_number end) e

@@ -1,0 +1,34 @@
+//! How a job ended.
+
+use file_judge::FileError;
+
+/// How a job ended.
+#[derive(Clone, Copy)]
+pub enum Ending {
+    /// The whole output was written.
+    Done,
+    /// The whole output was written, and it is a breach of a law.
+    Breached,
+    /// The words are no job, or one that isn't built.
+    Words,
+    /// The stack file is refused.
+    File(FileError),
+    /// The file of an audit has over 67,108,864 bytes.
+    ReportTooLarge,
+    /// This line of the file of an audit is the first out of form.
+    ReportLine(u32),
+    /// The second file has over 4,194,304 bytes or 100,000 lines.
+    SecondTooLong,
+    /// This line of the second file is the first out of form.
+    SecondLine(u32),
+    /// This line of the second file names a member that the group doesn't have.
+    SecondMember(u32),
+    /// A member has over 8,192 rows with messages.
+    TooManyRows,
+    /// A file couldn't be read.
+    Read,
+    /// The output couldn't be written.
+    Write,
+    /// Memory ran out.
+    Memory,
+}

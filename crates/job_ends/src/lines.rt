@@ -1,0 +1,89 @@
+//! The lines of refusals.
+
+ghost use Rattle.std.specs.Prelude.{◌≡◌, ◌++◌, IfOk, codes};
+ghost use Rattle.std.specs.String.{string_bytes};
+ghost use Rattle.std.specs.Fmt.{decimal};
+ghost use Rattle.job_mean.specs.Status as status;
+ghost use Rattle.job_ends.specs.Shown.{file_end};
+
+use file_judge::FileError;
+use layer_ast::{At, Kind};
+use std::alloc::{AllocError, Global};
+
+/// The line of a refused report.
+pub(crate) fn report_line(alloc: Global, line: u32) -> Result<String, AllocError>
+    ensures { IfOk result (λ text. string_bytes text ≡ codes "file: line " ++ decimal line ++ codes "\n") }
+{
+    format!(in alloc; "file: line {line}\n")
+}
+
+/// The line of a second file of which a line is out of form.
+pub(crate) fn second_line(alloc: Global, line: u32) -> Result<String, AllocError>
+    ensures { IfOk result (λ text. string_bytes text ≡ codes "script: line " ++ decimal line ++ codes "\n") }
+{
+    format!(in alloc; "script: line {line}\n")
+}
+
+/// The line of a second file of which a line names a member that the group doesn't have.
+pub(crate) fn second_member(alloc: Global, line: u32) -> Result<String, AllocError>
+    ensures { IfOk result (λ text. string_bytes text ≡ codes "script: member " ++ decimal line ++ codes "\n") }
+{
+    format!(in alloc; "script: member {line}\n")
+}
+
+/// The line of a refused stack file.
+pub(crate) fn file_line(alloc: Global, error: FileError) -> Result<String, AllocError>
+    ensures { IfOk result (λ line. string_bytes line ≡ status.error_line (file_end error)) }
+{
+    match error {
+        FileError::TooLarge => String::from_str(alloc, "file: too large\n"),
+        FileError::BadToken(at) => placed(alloc, "token", at),
+        FileError::Unexpected(at) => placed(alloc, "unexpected", at),
+        FileError::Unknown(at) => placed(alloc, "unknown", at),
+        FileError::Twice(at) => placed(alloc, "twice", at),
+        FileError::OverLimit(at) => placed(alloc, "limit", at),
+        FileError::Kind(at) => placed(alloc, "kind", at),
+        FileError::Arity(at) => placed(alloc, "arity", at),
+        FileError::Direction(at) => placed(alloc, "direction", at),
+        FileError::Header(at) => placed(alloc, "header", at),
+        FileError::Initial(at) => placed(alloc, "initial", at),
+        FileError::Cycle(place, kind) => cycle(alloc, place, kind),
+        FileError::TooMany(weight) => format!(in alloc; "file: too many {weight}\n"),
+        FileError::TooManyJoins => String::from_str(alloc, "file: joins\n"),
+        FileError::Memory => String::from_str(alloc, "no memory\n"),
+    }
+}
+
+/// A cause with its line and column.
+fn placed(alloc: Global, cause: &str, at: At) -> Result<String, AllocError>
+    ensures { IfOk result (λ line. string_bytes line ≡ codes "file: " ++ status.placed cause.now at ++ codes "\n") }
+{
+    format!(in alloc; "file: {cause} {}:{}\n", at.line, at.col)
+}
+
+/// A cycle with its place and its kind.
+fn cycle(alloc: Global, place: u8, kind: Kind) -> Result<String, AllocError>
+    ensures { IfOk result (λ line. string_bytes line ≡ codes "file: cycle " ++ decimal place ++ codes " " ++ status.kind_word kind ++ codes "\n") }
+{
+    format!(in alloc; "file: cycle {place} {}\n", kind_word(kind))
+}
+
+/// The word of a kind of event.
+fn kind_word(kind: Kind) -> &'static str
+    ensures { result.now ≡ status.kind_word kind }
+{
+    match kind {
+        Kind::Cast => "Cast",
+        Kind::Send => "Send",
+        Kind::Timer => "Timer",
+        Kind::Suspect => "Suspect",
+        Kind::Stable => "Stable",
+        Kind::Ack => "Ack",
+        Kind::Elect => "Elect",
+        Kind::Block => "Block",
+        Kind::BlockOk => "BlockOk",
+        Kind::Flushed => "Flushed",
+        Kind::View => "View",
+        Kind::Leave => "Leave",
+    }
+}
