@@ -1,0 +1,4 @@
+pub mod Stops
+pub mod Typed
+pub mod Events
+pub mod Plays

@@ -1,0 +1,37 @@
+//! The job `load`, layer by layer.
+
+ghost use Rattle.job_mean.specs.Job as job;
+ghost use Rattle.job_mean.specs.Job.{layered};
+ghost use Rattle.sink_lines.specs.Tells.{tells};
+ghost use Rattle.job_ends.specs.Comes.{Comes, around};
+ghost use Rattle.job_ends.specs.Shown.{shown};
+
+use crate::played::ending;
+use file_jobs::fetch_stack;
+use job_ends::Ending;
+use job_text::Load;
+use outside::{Shelf, Sink};
+use script_text::generate;
+use stack_play::play_load;
+use std::alloc::Global;
+
+/// Replays a script that is made from a seed, layer by layer, and writes how many lines of each kind its report has.
+pub fn load_stack<S: Shelf, O: Sink>(
+    alloc: Global,
+    load: &Load<'_>,
+    shelf: &mut S,
+    out: &mut O,
+) -> Ending
+    ensures { Comes (job.load load.now.file.now load.now.seed load.now.events load.now.members load.now.raw layered)
+        (around (S.told shelf.old) (S.faults shelf.old) (S.faults shelf.new)
+        (tells (O.contents out.old) (O.failures out.old) (O.faults out.old))
+        (tells (O.contents out.new) (O.failures out.new) (O.faults out.new))) (shown result) }
+{
+    match fetch_stack(alloc, load.file, shelf) {
+        Ok(stack) => match generate(alloc, load.seed, load.events, load.members as u8, load.raw) {
+            Ok(script) => ending(play_load(alloc, stack, &script, out)),
+            Err(_) => Ending::Memory,
+        },
+        Err(ending) => ending,
+    }
+}

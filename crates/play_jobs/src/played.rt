@@ -1,0 +1,20 @@
+//! How a run over a stack ended.
+
+ghost use Rattle.std.specs.Prelude.{◌≡◌};
+ghost use Rattle.job_ends.specs.Shown.{shown};
+ghost use Rattle.play_jobs.specs.Ends.{end_of};
+
+use job_ends::Ending;
+use stack_play::PlayError;
+
+/// How the job ends whose run came to this.
+pub(crate) fn ending(run: Result<(), PlayError>) -> Ending
+    ensures { shown result ≡ end_of run }
+{
+    match run {
+        Ok(()) => Ending::Done,
+        Err(PlayError::TooManyRows) => Ending::TooManyRows,
+        Err(PlayError::Failed) => Ending::Write,
+        Err(PlayError::Memory) => Ending::Memory,
+    }
+}

@@ -1,0 +1,55 @@
+-- What holds between the events of a script whose lines are counted.
+use Rattle.std.proofs.Common.{◌≡◌, ℕ, ◌+◌, ◌<◌, ◌≤◌, List, [], ◌∷◌, ◌++◌, length, take, get_or, refl, sym, ap, ◌∙◌, arith}
+use Rattle.std.proofs.lemmas.List.{take_all, length-take-le}
+use Rattle.std.specs.Prelude.{Option}
+use Rattle.layer_mean.specs.Tree.{LayerTree}
+use Rattle.script_mean.specs.declared.event.ScriptEvent.{ScriptEvent}
+use Rattle.script_mean.specs.declared.script.Script.{Script}
+use Rattle.stack_mean.specs.Plan.{Plan}
+use Rattle.run_mean.specs.Member.{Output}
+use Rattle.run_mean.specs.Report.{Moment, moments, run_of}
+use Rattle.run_mean.specs.World.{World, first_world, happens}
+use Rattle.view_core.specs.declared.step.Did.{Did}
+use Rattle.report_text.specs.Counts.{counted, counts_of}
+use Rattle.report_text.specs.declared.counts.Counts.{Counts}
+use Rattle.report_text.proofs.Gained.{counted_moment}
+use Rattle.world_core.specs.Standing.{Stands}
+use Rattle.stack_play.specs.Turns.{IsAtFirst, Keeps, moment_at, IsCounted}
+use Rattle.stack_play.specs.declared.run.Run.{Run}
+use Rattle.stack_play.proofs.Events.{Happened}
+use Rattle.stack_play.proofs.Held.{StandsAt, stands_first, stands_next}
+use Rattle.stack_play.proofs.Moments.{stands_at, front, front_more, moments_length}
+
+-- After k events the lines of each are counted.
+pub record Counted (stack : List LayerTree) (plans : List Plan) (s : Script) (k : ℕ) (r : Run) (counts : Counts) : Type 0 where
+  pub stands : StandsAt stack plans s k r
+  pub counts_are : counts ≡ counts_of stack plans (front stack plans s k)
+
+-- The lines of an event that happened are counted.
+pub counted_event : (stack : List LayerTree) (plans : List Plan) (w : World) (event : ScriptEvent) (old new : Run) (did : Did) (before after : Counts) →
+    Happened stack plans w event new.world new.outputs.outputs old.visits new.visits did → after ≡ counted before did new.outputs.outputs →
+    IsCounted stack plans w event new before after
+counted_event stack plans w event old new did before after h is = record {
+  world = h.world;
+  counts = λ run was. is ∙ ap (λ c. counted c did new.outputs.outputs) was
+      ∙ counted_moment stack plans run (moment_at stack plans w event) new.outputs.outputs old.visits new.visits did h.told;
+}
+
+module _ (stack : List LayerTree) (plans : List Plan) (s : Script) where
+  pub counted_more : (k : ℕ) (event : ScriptEvent) (r next : Run) (before after : Counts) → Counted stack plans s k r before → Keeps stack plans r next →
+      IsCounted stack plans (stands_at stack plans s k) event next before after → k < length s.events → event ≡ get_or s.events k event →
+      Counted stack plans s (k + 1) next after
+  counted_more k event r next before after held kept c lt is = record {
+    stands = stands_next stack plans s k event r next held.stands kept c.world lt is;
+    counts_are = c.counts (front stack plans s k) held.counts_are ∙ ap (counts_of stack plans) (sym (front_more stack plans s k event lt is));
+  }
+
+  -- as many events are counted as were played
+  pub events_counted : (k : ℕ) (r : Run) (counts : Counts) → Counted stack plans s k r counts → k ≤ length s.events → counts.events ≡ k
+  events_counted k r counts held le = ap (λ c. c.events) held.counts_are
+      ∙ moments_length stack plans (first_world stack s.group s.stamp s.members) (take k s.events) ∙ length-take-le k s.events le
+
+  pub counted_last : (k : ℕ) (r : Run) (counts : Counts) → Counted stack plans s k r counts → length s.events ≤ k →
+      counts ≡ counts_of stack plans (run_of stack plans s)
+  counted_last k r counts held all = held.counts_are
+      ∙ ap (λ es. counts_of stack plans (moments stack plans (first_world stack s.group s.stamp s.members) es)) (take_all k s.events all)

@@ -1,0 +1,5 @@
+pub mod Moments
+pub mod Events
+pub mod Held
+pub mod Counted
+pub mod Outputs

@@ -1,0 +1,37 @@
+-- Whole outputs, and what a run comes to that wrote one.
+use Rattle.std.proofs.Common.{◌≡◌, refl, subst, ℕ, Bool, true, false, List, ◌∷◌, ◌++◌, length, inr}
+use Rattle.std.specs.List.{flat_map, sum_by}
+use Rattle.std.specs.Prelude.{Result, Ok, Err}
+use Rattle.outside.specs.declared.sink.SinkError.{SinkError}
+use Rattle.outside.specs.declared.sink.SinkError.TheVariants.{Failed, Memory}
+use Rattle.job_mean.specs.Job.{layered}
+use Rattle.layer_mean.specs.Tree.{LayerTree}
+use Rattle.program_mean.specs.Output.{HasRoom}
+use Rattle.script_mean.specs.declared.script.Script.{Script}
+use Rattle.stack_mean.specs.Plan.{Plan}
+use Rattle.run_mean.specs.Report.{end_line, output_in, run_of}
+use Rattle.sink_lines.specs.Lines.{Wrote}
+use Rattle.sink_lines.specs.Tells.{Tells}
+use Rattle.stack_play.specs.Play.{Plays, cut_short}
+use Rattle.stack_play.specs.Turns.{visits_if}
+use Rattle.stack_play.proofs.Held.{lines_at, visits_at}
+
+-- The output of a script: the lines of its moments, and the last ones.
+pub output_is : (stack : List LayerTree) (plans : List Plan) (s : Script) (wire count : Bool) →
+    output_in stack plans s layered wire count
+    ≡ flat_map (lines_at stack plans wire) (run_of stack plans s)
+    ++ end_line (length s.events) ∷ visits_if count (sum_by (visits_at stack plans) (run_of stack plans s))
+unfolding output_in
+output_is stack plans s wire true = refl
+output_is stack plans s wire false = refl
+
+-- Lines that were written over a stack whose members have room, as another stack and plans that are the same see it.
+pub plays : (lines : List LayerTree → List Plan → List (List ℕ)) (stack own : List LayerTree) (plans own_plans : List Plan) (members : ℕ) (a b : Tells)
+    (r : Result (Unit {0}) SinkError) → own ≡ stack → own_plans ≡ plans → HasRoom stack members → Wrote (lines own own_plans) a b r →
+    Plays stack members (lines stack plans) a b (cut_short r)
+plays lines stack own plans own_plans members a b r same same_plans room wrote =
+    go r (subst {A = List LayerTree × List Plan} (λ x. Wrote (lines x.0 x.1) a b r) (λ k. (same k, same_plans k)) wrote) where
+      go : (r : Result (Unit {0}) SinkError) → Wrote (lines stack plans) a b r → Plays stack members (lines stack plans) a b (cut_short r)
+      go (Ok done) w = (room, w)
+      go (Err Failed) w = (room, w)
+      go (Err Memory) w = inr (room, w)

@@ -1,0 +1,14 @@
+use Rattle.std.proofs.Common.{ap, sym, subst}
+use Rattle.std.specs.Rc.{rc_value}
+use Rattle.event_graph.specs.Answer.{stack_tree}
+use Rattle.job_mean.specs.Job.{layered}
+use Rattle.packet_plans.specs.Trees.{plans_tree}
+use Rattle.run_mean.specs.Tally.{tally}
+use Rattle.stack_mean.specs.Plans.{plans_of}
+use Rattle.stack_play.proofs.Outputs.{plays}
+use Rattle.stack_play.proofs.counting.play_load.Goals as goal
+
+pub returns-in-Ok : goal.returns-in-Ok
+returns-in-Ok g c = rw c.with_room.ensures (plays (λ stack plans. tally stack plans layered c.args.script.now) (stack_tree c.args.stack) _
+    (plans_of (stack_tree c.args.stack)) _ c.args.script.now.members _ _ c.write_counts-wrote.result c.in-Ok.ensures.stack_is c.in-Ok.ensures.plans_are
+    c.in-Ok.ensures.room (rw (c.deref.ensures, c.deref-in-Ok.ensures) at c.write_counts-wrote.ensures))

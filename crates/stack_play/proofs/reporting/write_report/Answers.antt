@@ -1,0 +1,29 @@
+use Rattle.std.proofs.Common.{ℕ, ◌∷◌, length, ap, sym, subst}
+use Rattle.std.proofs.lemmas.Result.{err_from_is_err_and}
+use Rattle.event_graph.specs.Answer.{stack_tree}
+use Rattle.packet_plans.specs.Trees.{plans_tree}
+use Rattle.run_mean.specs.Report.{end_line}
+use Rattle.sink_lines.specs.Lines.{Wrote}
+use Rattle.sink_lines.specs.Tells.{tells}
+use Rattle.sink_lines.proofs.Turns.{part_of, wrote_as, wrote_both}
+use Rattle.stack_play.specs.Turns.{visits_if}
+use Rattle.stack_play.proofs.Outputs.{output_is}
+use Rattle.stack_play.proofs.reporting.write_report.Goals as goal
+
+pub returns-in_err-write_events : goal.returns-in_err-write_events
+returns-in_err-write_events g c =
+    let p = err_from_is_err_and c.from_residual.result c.from_residual.ensures.1 in
+    rw (p.1, p.2) (part_of _ _ _ _ _ _ (output_is (stack_tree c.args.stack.now) (plans_tree c.args.plans.now) c.args.script.now c.args.wire c.args.count)
+    c.in_err-write_events.ensures.lines)
+
+pub returns : goal.returns
+returns g c =
+    let before = tells (g.O.Sink.contents c.write_events.new.out) (g.O.Sink.failures c.write_events.new.out) (g.O.Sink.faults c.write_events.new.out) in
+    let after = tells (g.O.Sink.contents c.write_last.new.out) (g.O.Sink.failures c.write_last.new.out) (g.O.Sink.faults c.write_last.new.out) in
+    let events = ap length c.slice.ensures in
+    let visits = c.in_ok-write_events.ensures.visits in
+    wrote_as _ _ _ _ c.write_last.result
+    (sym (output_is (stack_tree c.args.stack.now) (plans_tree c.args.plans.now) c.args.script.now c.args.wire c.args.count))
+    (wrote_both _ _ _ _ _ c.write_last.result c.in_ok-write_events.ensures.lines
+    (subst {A = ℕ × ℕ} (λ x. Wrote (end_line x.0 ∷ visits_if c.args.count x.1) before after c.write_last.result) (λ k. (events k, visits k))
+    c.write_last.ensures))

@@ -1,0 +1,39 @@
+-- What opening a run comes to.
+use Rattle.std.specs.Prelude.{◌≡◌, ℕ, ◌<◌, List, length, Result, Ok, Err}
+use Rattle.std.specs.Rc.{rc_value}
+use Rattle.layer_mean.specs.Tree.{LayerTree}
+use Rattle.script_mean.specs.declared.script.Script.{Script}
+use Rattle.stack_mean.specs.Acceptance.{rows_of, largest_weight}
+use Rattle.stack_mean.specs.Plans.{plans_of}
+use Rattle.event_graph.specs.Answer.{stack_tree}
+use Rattle.packet_plans.specs.Trees.{plans_tree}
+use Rattle.entry_shapes.specs.Shapes.{short_shapes}
+use Rattle.file_layer.specs.Making.{making}
+use Rattle.program_mean.specs.Output.{most_rows, HasRoom}
+use Rattle.stack_play.specs.Turns.{IsAtFirst}
+use Rattle.stack_play.specs.declared.error.PlayError.{PlayError}
+use Rattle.stack_play.specs.declared.error.PlayError.TheVariants.{TooManyRows, Failed, Memory}
+use Rattle.stack_play.specs.declared.run.Opened.{Opened}
+use Rattle.stack_play.specs.declared.run.Parts.{Parts}
+
+-- What a run over a stack is made of: its plans, what is predicted of its entries, room for its outputs, and a maker that made no layer yet.
+pub record IsPrepared (stack : List LayerTree) (p : Parts) : Type 0 where
+  pub maker : making p.maker ≡ record { stack = stack; made = 0 }
+  pub stack_is : stack_tree (rc_value p.stack) ≡ stack
+  pub plans_are : plans_tree (rc_value p.plans) ≡ plans_of stack
+  pub entries_are : rc_value p.entries ≡ short_shapes stack (plans_of stack)
+  pub places : p.outputs.places ≡ largest_weight stack
+
+-- A run at the beginning of a script, whose members have room.
+pub record IsOpen (stack : List LayerTree) (s : Script) (o : Opened) : Type 0 where
+  pub stack_is : stack_tree (rc_value o.stack) ≡ stack
+  pub plans_are : plans_tree (rc_value o.plans) ≡ plans_of stack
+  pub first : IsAtFirst stack (plans_of stack) s o.run
+  pub room : HasRoom stack s.members
+
+-- It is open, or its members would keep too many rows, or memory ran out.
+abbrev pub Opens : List LayerTree → Script → Result Opened PlayError → Type 0
+Opens stack s (Ok o) = IsOpen stack s o
+Opens stack s (Err TooManyRows) = most_rows < rows_of stack s.members
+Opens stack s (Err Memory) = Unit {0}
+Opens stack s (Err Failed) = ⊥

@@ -1,0 +1,30 @@
+-- What a run over a stack comes to.
+use Rattle.std.specs.Prelude.{◌≡◌, ◌⊎◌, ℕ, ◌<◌, List, Result, Ok, Err}
+use Rattle.std.specs.List.{concat}
+use Rattle.layer_mean.specs.Tree.{LayerTree}
+use Rattle.stack_mean.specs.Acceptance.{rows_of}
+use Rattle.program_mean.specs.Output.{most_rows, HasRoom}
+use Rattle.sink_lines.specs.Tells.{Tells}
+use Rattle.sink_lines.specs.Lines.{Begins, Gains, Fails}
+use Rattle.outside.specs.declared.sink.SinkError.{SinkError}
+use Rattle.outside.specs.declared.sink.SinkError.TheVariants as sink
+use Rattle.stack_play.specs.declared.error.PlayError.{PlayError}
+use Rattle.stack_play.specs.declared.error.PlayError.TheVariants.{TooManyRows, Failed, Memory}
+
+-- The most events of a script that is played: as many as one has lines.
+abbrev pub most_events : ℕ
+most_events = 100000
+
+-- Where so many members of a stack have room, lines were written: all, or those in front of a put that failed, or a prefix of their bytes
+-- before memory ran out; where they have none, and where memory ran out before, nothing was.
+abbrev pub Plays : List LayerTree → (members : ℕ) → List (List ℕ) → Tells → Tells → Result (Unit {0}) PlayError → Type 0
+Plays stack members lines old new (Ok run) = HasRoom stack members × Gains old new lines
+Plays stack members lines old new (Err TooManyRows) = (most_rows < rows_of stack members) × (new ≡ old)
+Plays stack members lines old new (Err Failed) = HasRoom stack members × Fails old new lines
+Plays stack members lines old new (Err Memory) = (new ≡ old) ⊎ (HasRoom stack members × Begins old new (concat lines))
+
+-- What lines came to, as a run's.
+abbrev pub cut_short : Result (Unit {0}) SinkError → Result (Unit {0}) PlayError
+cut_short (Ok wrote) = Ok wrote
+cut_short (Err sink.Failed) = Err Failed
+cut_short (Err sink.Memory) = Err Memory

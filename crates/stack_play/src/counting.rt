@@ -1,0 +1,126 @@
+//! How many lines of each kind the report of a run has.
+
+ghost use Rattle.std.specs.Prelude.{◌≡◌, ◌^◌, ◌<◌, ◌≤◌, OnOk, length};
+ghost use Rattle.chain_laws.specs.Runs.{TypedStack};
+ghost use Rattle.script_mean.specs.Event.{member_of};
+ghost use Rattle.script_mean.specs.Script.{IsRunnable};
+ghost use Rattle.stack_mean.specs.Plans.{plans_of};
+ghost use Rattle.event_graph.specs.Answer.{stack_tree};
+ghost use Rattle.packet_plans.specs.Trees.{plans_tree};
+ghost use Rattle.job_mean.specs.Job.{layered};
+ghost use Rattle.run_mean.specs.Report.{run_of};
+ghost use Rattle.run_mean.specs.Tally.{tally};
+ghost use Rattle.run_mean.specs.World as mean;
+ghost use Rattle.sink_lines.specs.Lines.{Wrote};
+ghost use Rattle.sink_lines.specs.Tells.{tells};
+ghost use Rattle.report_text.specs.Counts.{counts_of, no_counts};
+ghost use Rattle.world_core.specs.Standing.{Stands};
+ghost use Rattle.stack_play.specs.Play.{Plays, most_events};
+ghost use Rattle.stack_play.specs.Turns.{CountsEvent, IsAtFirst, IsReady, Keeps, SomeWorld};
+
+use crate::error::{PlayError, with_room};
+use crate::opening::open;
+use crate::run::{Opened, Run};
+use event_graph::Stack;
+use msg_core::Memory;
+use outside::{Sink, SinkError};
+use packet_plans::Plans;
+use report_text::{Tally, write_tally};
+use script_mean::{Script, ScriptEvent};
+use std::alloc::Global;
+use step_outputs::an_accepted_stack_is_light;
+
+/// Plays a script in the world in which it begins, layer by layer, and writes how many lines of each kind its report has.
+pub fn play_load<O: Sink>(
+    alloc: Global,
+    stack: Stack,
+    script: &Script,
+    out: &mut O,
+) -> Result<(), PlayError>
+    requires typed { TypedStack (stack_tree stack) }
+    requires runs { IsRunnable script.now }
+    requires few { length script.now.events ≤ most_events }
+    ensures { Plays (stack_tree stack) script.now.members (tally (stack_tree stack) (plans_of (stack_tree stack)) layered script.now)
+        (tells (O.contents out.old) (O.failures out.old) (O.faults out.old))
+        (tells (O.contents out.new) (O.failures out.new) (O.faults out.new)) result }
+{
+    match open(alloc, stack, script) {
+        Ok(opened) => {
+            let Opened {
+                stack,
+                plans,
+                mut run,
+            } = opened;
+            let wrote = write_counts(&stack, &plans, &mut run, script, out);
+            run.close();
+            with_room(wrote)
+        }
+        Err(error) => Err(error),
+    }
+}
+
+/// Writes the counts of a run that begins.
+fn write_counts<O: Sink>(
+    stack: &Stack,
+    plans: &Plans,
+    run: &mut Run,
+    script: &Script,
+    out: &mut O,
+) -> Result<(), SinkError>
+    requires first { IsAtFirst (stack_tree stack.now) (plans_tree plans.now) script.now run.old }
+    requires runs { IsRunnable script.now }
+    requires few { length script.now.events ≤ most_events }
+    ensures { Wrote (tally (stack_tree stack.now) (plans_tree plans.now) layered script.now)
+        (tells (O.contents out.old) (O.failures out.old) (O.faults out.old))
+        (tells (O.contents out.new) (O.failures out.new) (O.faults out.new)) result }
+{
+    let mut counts = Tally::new();
+    match count_events(stack, plans, run, script, &mut counts) {
+        Ok(()) => write_tally(&mut run.pen, &counts, out),
+        Err(Memory) => Err(SinkError::Memory),
+    }
+}
+
+/// Plays all events of a script, and counts the lines of each.
+fn count_events(
+    stack: &Stack,
+    plans: &Plans,
+    run: &mut Run,
+    script: &Script,
+    counts: &mut Tally,
+) -> Result<(), Memory>
+    requires first { IsAtFirst (stack_tree stack.now) (plans_tree plans.now) script.now run.old }
+    requires runs { IsRunnable script.now }
+    requires few { length script.now.events ≤ most_events }
+    requires nothing { counts.old ≡ no_counts }
+    ensures { OnOk result (counts.new
+        ≡ counts_of (stack_tree stack.now) (plans_tree plans.now) (run_of (stack_tree stack.now) (plans_tree plans.now) script.now)) }
+{
+    for event in script.events.slice() {
+        count_event(stack, plans, run, event, counts)?;
+    }
+    Ok(())
+}
+
+/// Plays an event, and counts its lines.
+fn count_event(
+    stack: &Stack,
+    _plans: &Plans,
+    run: &mut Run,
+    event: &ScriptEvent,
+    counts: &mut Tally,
+) -> Result<(), Memory>
+    requires ready { IsReady (stack_tree stack.now) (plans_tree _plans.now) run.old }
+    requires member { member_of event.now < length run.old.world.members }
+    requires visits { run.old.visits ≤ 2 ^ 63 }
+    requires events { counts.old.events < 2 ^ 32 }
+    ensures kept { Keeps (stack_tree stack.now) (plans_tree _plans.now) run.old run.new }
+    ensures counted { (w : mean.World) → Stands run.old.world w →
+        CountsEvent (stack_tree stack.now) (plans_tree _plans.now) w event.now run.new counts.old counts.new result }
+{
+    let did = run.world.feed(event, &mut run.outputs, &mut run.visits)?;
+    an_accepted_stack_is_light(stack);
+    run.outputs.has_places_for_all();
+    counts.count_event(did, &run.outputs);
+    Ok(())
+}

@@ -1,0 +1,12 @@
+//! A script played over a stack, layer by layer: its report on a sink, or in place of it how many lines of each kind it has.
+#![tactic(auto)]
+
+mod counting;
+mod error;
+mod opening;
+mod reporting;
+mod run;
+
+pub use counting::play_load;
+pub use error::PlayError;
+pub use reporting::play;

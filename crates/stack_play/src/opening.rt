@@ -1,0 +1,80 @@
+//! Runs, and what they begin with.
+
+ghost use Rattle.std.specs.Prelude.{IfOk};
+ghost use Rattle.chain_laws.specs.Runs.{TypedStack};
+ghost use Rattle.script_mean.specs.Script.{IsRunnable};
+ghost use Rattle.event_graph.specs.Answer.{stack_tree};
+ghost use Rattle.stack_play.specs.Opening.{IsPrepared, Opens};
+
+use crate::error::PlayError;
+use crate::run::{Opened, Parts, Run};
+use bypass_member::OpenError;
+use entry_shapes::EntryShapes;
+use event_graph::Stack;
+use file_layer::Maker;
+use msg_core::Memory;
+use packet_plans::Plans;
+use report_text::Pen;
+use script_mean::Script;
+use std::alloc::Global;
+use std::rc::Rc;
+use step_outputs::Outputs;
+use world_core::World;
+
+/// What a run over a stack is made of.
+fn prepare(alloc: Global, stack: Stack) -> Result<Parts, Memory>
+    ensures { IfOk result (IsPrepared (stack_tree stack)) }
+{
+    let (maker, stack) = Maker::of(alloc, stack)?;
+    let plans = Plans::of(alloc, &stack)?;
+    let entries = EntryShapes::of(alloc, &stack, &plans)?;
+    let outputs = Outputs::fresh(alloc, &stack)?;
+    Ok(Parts {
+        maker,
+        stack,
+        plans: Rc::new(alloc, plans)?,
+        entries: Rc::new(alloc, entries)?,
+        outputs,
+    })
+}
+
+/// Opens the group of a script over a stack.
+pub(crate) fn open(alloc: Global, stack: Stack, script: &Script) -> Result<Opened, PlayError>
+    requires typed { TypedStack (stack_tree stack) }
+    requires runs { IsRunnable script.now }
+    ensures { Opens (stack_tree stack) script.now result }
+{
+    let Parts {
+        mut maker,
+        stack,
+        plans,
+        entries,
+        outputs,
+    } = match prepare(alloc, stack) {
+        Ok(parts) => parts,
+        Err(Memory) => return Err(PlayError::Memory),
+    };
+    match World::begin(
+        alloc,
+        &mut maker,
+        &stack,
+        &plans,
+        &entries,
+        script.group,
+        script.stamp,
+        script.members,
+    ) {
+        Ok(world) => Ok(Opened {
+            stack,
+            plans,
+            run: Run {
+                world,
+                outputs,
+                visits: 0,
+                pen: Pen::new(alloc),
+            },
+        }),
+        Err(OpenError::TooLarge) => Err(PlayError::TooManyRows),
+        Err(OpenError::Memory) => Err(PlayError::Memory),
+    }
+}

@@ -1,0 +1,172 @@
+//! Reports of runs.
+
+ghost use Rattle.std.specs.Prelude.{◌≡◌, ◌^◌, ◌<◌, ◌≤◌, ◌∷◌, OnOk, length};
+ghost use Rattle.std.specs.List.{flat_map, sum_by};
+ghost use Rattle.chain_laws.specs.Runs.{TypedStack};
+ghost use Rattle.script_mean.specs.Event.{member_of};
+ghost use Rattle.script_mean.specs.Script.{IsRunnable};
+ghost use Rattle.stack_mean.specs.Plans.{plans_of};
+ghost use Rattle.event_graph.specs.Answer.{stack_tree};
+ghost use Rattle.packet_plans.specs.Trees.{plans_tree};
+ghost use Rattle.job_mean.specs.Job.{layered};
+ghost use Rattle.run_mean.specs.Report.{end_line, mode_if, moment_lines, output_in, run_of, visits_of};
+ghost use Rattle.run_mean.specs.World as mean;
+ghost use Rattle.sink_lines.specs.Lines.{Wrote};
+ghost use Rattle.sink_lines.specs.Tells.{tells};
+ghost use Rattle.world_core.specs.Standing.{Stands};
+ghost use Rattle.stack_play.specs.Play.{Plays, most_events};
+ghost use Rattle.stack_play.specs.Turns.{IsAtFirst, IsReady, Keeps, SomeWorld, TellsEvent, visits_if};
+
+use crate::error::{PlayError, with_room};
+use crate::opening::open;
+use crate::run::{Opened, Run};
+use event_graph::Stack;
+use msg_core::Memory;
+use outside::{Sink, SinkError};
+use packet_plans::Plans;
+use report_text::{Pen, member_of, write_end, write_event, write_visits};
+use script_mean::{Script, ScriptEvent};
+use std::alloc::Global;
+use step_outputs::an_accepted_stack_is_light;
+
+/// Plays a script in the world in which it begins, layer by layer, and writes its report: with the packets' bytes and the number of visits
+/// where these are wanted.
+pub fn play<O: Sink>(
+    alloc: Global,
+    stack: Stack,
+    script: &Script,
+    wire: bool,
+    count: bool,
+    out: &mut O,
+) -> Result<(), PlayError>
+    requires typed { TypedStack (stack_tree stack) }
+    requires runs { IsRunnable script.now }
+    requires few { length script.now.events ≤ most_events }
+    ensures { Plays (stack_tree stack) script.now.members (output_in (stack_tree stack) (plans_of (stack_tree stack)) script.now layered wire count)
+        (tells (O.contents out.old) (O.failures out.old) (O.faults out.old))
+        (tells (O.contents out.new) (O.failures out.new) (O.faults out.new)) result }
+{
+    match open(alloc, stack, script) {
+        Ok(opened) => {
+            let Opened {
+                stack,
+                plans,
+                mut run,
+            } = opened;
+            let wrote = write_report(&stack, &plans, &mut run, script, wire, count, out);
+            run.close();
+            with_room(wrote)
+        }
+        Err(error) => Err(error),
+    }
+}
+
+/// Writes the report of a run that begins.
+fn write_report<O: Sink>(
+    stack: &Stack,
+    plans: &Plans,
+    run: &mut Run,
+    script: &Script,
+    wire: bool,
+    count: bool,
+    out: &mut O,
+) -> Result<(), SinkError>
+    requires first { IsAtFirst (stack_tree stack.now) (plans_tree plans.now) script.now run.old }
+    requires runs { IsRunnable script.now }
+    requires few { length script.now.events ≤ most_events }
+    ensures { Wrote (output_in (stack_tree stack.now) (plans_tree plans.now) script.now layered wire count)
+        (tells (O.contents out.old) (O.failures out.old) (O.faults out.old))
+        (tells (O.contents out.new) (O.failures out.new) (O.faults out.new)) result }
+{
+    write_events(stack, plans, run, script, wire, out)?;
+    let events = script.events.slice().len() as u64;
+    write_last(&mut run.pen, events, count, run.visits, out)
+}
+
+/// Writes the last lines of a report.
+#[tactic(auto, using(sink_lines::proofs::Turns::part_of, sink_lines::proofs::Turns::wrote_both))]
+fn write_last<O: Sink>(
+    pen: &mut Pen,
+    events: u64,
+    count: bool,
+    visits: u64,
+    out: &mut O,
+) -> Result<(), SinkError>
+    ensures { Wrote (end_line events ∷ visits_if count visits)
+        (tells (O.contents out.old) (O.failures out.old) (O.faults out.old))
+        (tells (O.contents out.new) (O.failures out.new) (O.faults out.new)) result }
+{
+    write_end(pen, events, out)?;
+    if count {
+        write_visits(pen, visits, out)
+    } else {
+        Ok(())
+    }
+}
+
+/// Plays all events of a script, and writes the lines of each.
+fn write_events<O: Sink>(
+    stack: &Stack,
+    plans: &Plans,
+    run: &mut Run,
+    script: &Script,
+    wire: bool,
+    out: &mut O,
+) -> Result<(), SinkError>
+    requires first { IsAtFirst (stack_tree stack.now) (plans_tree plans.now) script.now run.old }
+    requires runs { IsRunnable script.now }
+    requires few { length script.now.events ≤ most_events }
+    ensures lines { Wrote (flat_map (moment_lines (stack_tree stack.now) (plans_tree plans.now) (mode_if wire layered))
+        (run_of (stack_tree stack.now) (plans_tree plans.now) script.now))
+        (tells (O.contents out.old) (O.failures out.old) (O.faults out.old))
+        (tells (O.contents out.new) (O.failures out.new) (O.faults out.new)) result }
+    ensures visits { OnOk result (run.new.visits
+        ≡ sum_by (visits_of layered (stack_tree stack.now) (plans_tree plans.now)) (run_of (stack_tree stack.now) (plans_tree plans.now) script.now)) }
+{
+    for event in script.events.slice() {
+        play_event(stack, plans, run, event, wire, out)?;
+    }
+    Ok(())
+}
+
+/// Plays an event, and writes its lines.
+fn play_event<O: Sink>(
+    stack: &Stack,
+    plans: &Plans,
+    run: &mut Run,
+    event: &ScriptEvent,
+    wire: bool,
+    out: &mut O,
+) -> Result<(), SinkError>
+    requires ready { IsReady (stack_tree stack.now) (plans_tree plans.now) run.old }
+    requires world { SomeWorld run.old }
+    requires member { member_of event.now < length run.old.world.members }
+    requires visits { run.old.visits ≤ 2 ^ 63 }
+    ensures kept { Keeps (stack_tree stack.now) (plans_tree plans.now) run.old run.new }
+    ensures told { (w : mean.World) → Stands run.old.world w →
+        TellsEvent (stack_tree stack.now) (plans_tree plans.now) wire w event.now run.old run.new
+        (tells (O.contents out.old) (O.failures out.old) (O.faults out.old))
+        (tells (O.contents out.new) (O.failures out.new) (O.faults out.new)) result }
+{
+    let first = run.world.next_number();
+    match run.world.feed(event, &mut run.outputs, &mut run.visits) {
+        Ok(did) => {
+            an_accepted_stack_is_light(stack);
+            run.outputs.has_places_for_all();
+            let shown = run.world.shown(member_of(event));
+            write_event(
+                &mut run.pen,
+                stack,
+                plans,
+                event,
+                did,
+                &run.outputs,
+                &shown,
+                first,
+                wire,
+                out,
+            )
+        }
+        Err(Memory) => Err(SinkError::Memory),
+    }
+}

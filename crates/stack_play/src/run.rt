@@ -1,0 +1,49 @@
+//! A group at work, with what its steps and lines are made in.
+
+use entry_shapes::EntryShapes;
+use event_graph::Stack;
+use file_layer::Maker;
+use packet_plans::Plans;
+use report_text::Pen;
+use std::rc::Rc;
+use step_outputs::Outputs;
+use world_core::World;
+
+/// What a run over a stack is made of.
+#[derive(Drop)]
+pub(crate) struct Parts {
+    pub maker: Maker,
+    pub stack: Rc<Stack>,
+    pub plans: Rc<Plans>,
+    pub entries: Rc<EntryShapes>,
+    pub outputs: Outputs,
+}
+
+/// A group at work: its outputs are those of the last step, its visits those of all steps. What lines are built in is kept from line to
+/// line.
+pub(crate) struct Run {
+    pub world: World,
+    pub outputs: Outputs,
+    pub visits: u64,
+    pub pen: Pen,
+}
+
+/// A run with the stack that it is over, and the plans of that.
+pub(crate) struct Opened {
+    pub stack: Rc<Stack>,
+    pub plans: Rc<Plans>,
+    pub run: Run,
+}
+
+impl Run {
+    /// Lets the group go.
+    pub fn close(self) {
+        let Run {
+            world,
+            outputs: _,
+            visits: _,
+            pen: _,
+        } = self;
+        world.close();
+    }
+}
