@@ -1,4 +1,4 @@
-//! `stackc`: replays a script over a stack of protocol layers.
+//! `stackc`: replays scripts over a stack of protocol layers, judges stack files, and audits reports.
 #![tactic(auto)]
 
 use stackc_run::program;

@@ -1,4 +1,4 @@
-//! The program's run on a file that isn't of the form that is built so far: it ends with status 1.
+//! The program's run on a file in which a name isn't declared: it ends with status 1.
 #![tactic(auto)]
 
 use stackc_run::program;

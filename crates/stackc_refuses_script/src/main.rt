@@ -1,4 +1,4 @@
-//! The program's run on a script that isn't of the form that is built so far: it ends with status 3.
+//! The program's run on a script that names a member that the group doesn't have: it ends with status 3.
 #![tactic(auto)]
 
 use stackc_run::program;

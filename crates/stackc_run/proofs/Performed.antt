@@ -1,102 +1,56 @@
 -- What `run` does, from what its job came to and what was said of that.
-use Rattle.std.proofs.Common.{◌≡◌, refl, sym, subst, inl, inr, ℕ, List, Option, Some, None}
-use Rattle.std.specs.Prelude.{Result, Ok, Err}
-use Rattle.outside.specs.Shelf.{Shelved}
-use Rattle.first_mean.specs.Tree.{LayerTree}
-use Rattle.first_run.specs.Report.{report_lines}
-use Rattle.script_mean.specs.declared.script.Script.{Script}
-use Rattle.stackc_run.specs.Tells.{Tells}
-use Rattle.stackc_run.specs.Wrote.{Wrote}
-use Rattle.stackc_run.specs.File.{IsStack}
-use Rattle.stackc_run.specs.Fetched.{IsScript}
-use Rattle.stackc_run.specs.Ended.{Ended, second}
-use Rattle.stackc_run.specs.Run.{around}
-use Rattle.stackc_run.specs.declared.fault.Fault.{Fault}
+use Rattle.std.proofs.Common.{◌≡◌, refl, inl, inr, ⊎_elim, ℕ, Bool, true, false, List, Option, Some, None}
 use Rattle.clap.specs.Walk.{Text}
-use Rattle.job_mean.specs.Job.{Job, check, synth, replay, load, node, audit, job_of_words}
+use Rattle.outside.specs.Shelf.{Shelved}
+use Rattle.job_mean.specs.Job.{Job, layered, bypass, check, synth, replay, load, node, audit, job_of_words}
+use Rattle.job_mean.specs.Status.{Ended, words_refused, no_memory}
+use Rattle.program_laws.specs.OneEnd.{IsAlone}
 use Rattle.sink_lines.specs.Said.{Errors}
-use Rattle.file_jobs.proofs.Due.{words_due, check_due, audit_due}
-use Rattle.file_jobs.proofs.Seen.{check_seen, audit_seen, jobless_seen}
-use Rattle.file_jobs.specs.Comes.{Around}
-use Rattle.file_jobs.specs.Shown.{shown}
-use Rattle.file_jobs.specs.declared.ending.Ending.TheVariants as ending
-use Rattle.stackc_run.specs.Job.{Replay, replay_of}
-use Rattle.stackc_run.specs.Performed.{Performed, Replays, SaidOf, First, DoesJob}
-use Rattle.stackc_run.specs.Complete.{Completes}
-use Rattle.stackc_run.specs.declared.fault.Fault.TheVariants.{Write, Memory}
-use Rattle.stackc_run.specs.declared.perform.End.{End}
-use Rattle.stackc_run.specs.declared.perform.End.TheVariants.{Judged, Played}
-use Rattle.stackc_run.proofs.Complete.{ends_done, ends_early}
-use Rattle.stackc_run.proofs.Exact.{exact}
+use Rattle.sink_lines.specs.Tells.{Tells}
+use Rattle.job_ends.specs.Comes.{Around, around, NoJob, Comes}
+use Rattle.job_ends.specs.Due.{Due}
+use Rattle.job_ends.specs.Shown.{Said}
+use Rattle.job_ends.proofs.Due.{words_due, exact, status_said}
+use Rattle.job_ends.proofs.Seen.{seen, jobless_seen}
+use Rattle.stackc_run.specs.Performed.{is_built, PerformedIf, Performed, Done, DoesIf, DoesJob}
 
-first : (words : Option Replay) (a : Around) (end : End) (e : Errors) → Replays words a end → SaidOf end e → First words a e
-first words a (Played (Ok done)) e ended said = record {
-  replayed = record { end = Ok done; ended = ended; said = said };
-  complete = subst (Completes words a) (sym said.status) (ends_done words a ended);
-  exact = exact words a e (Ok done) ended said;
-}
-first words a (Played (Err fault)) e ended said = record {
-  replayed = record { end = Err fault; ended = ended; said = said };
-  complete = ends_early words a e fault ended said;
-  exact = exact words a e (Err fault) ended said;
-}
-first words a (Judged ending.Memory) e same said = record {
-  replayed = record { end = Err Memory; ended = inl same; said = said };
-  complete = ends_early words a e Memory (inl same) said;
-  exact = exact words a e (Err Memory) (inl same) said;
-}
-first words a (Judged _) e same said = absurd same
+-- a job that is built has no network
+alone : (job : Job) → is_built job ≡ true → IsAlone job
+alone (check file) is = tt
+alone (synth file) is = tt
+alone (replay file script mode wire count) is = tt
+alone (load file seed events members raw mode) is = tt
+alone (node file plan turns me patience mode) is = absurd (cc is)
+alone (audit file law) is = tt
 
-pub does : (words : List Text) (job : Option Job) → job_of_words words ≡ job → (a : Around) (end : End) (e : Errors) → Performed job a end →
-    SaidOf end e → DoesJob words job a e
-does words None is a (Judged ending) e came said = let run = jobless_seen words a e (shown ending) is came said in
-    record { end = shown ending; came = came; said = said; seen = run; due = words_due words a e run is }
-does words None is a (Played result) e came said = absurd came
-does words (Some (check file)) is a (Judged ending) e came said = let run = check_seen words a e file (shown ending) is came said in
-    record { end = shown ending; came = came; said = said; seen = run; due = check_due words file a e run is }
-does words (Some (check file)) is a (Played result) e came said = absurd came
-does words (Some (audit file law)) is a (Judged ending) e came said = let run = audit_seen words a e file law (shown ending) is came said in
-    record { end = shown ending; came = came; said = said; seen = run; due = audit_due words file a e run law is }
-does words (Some (audit file law)) is a (Played result) e came said = absurd came
-does words (Some (synth file)) is a end e came said = first (replay_of (synth file)) a end e came said
-does words (Some (replay file script mode wire count)) is a end e came said = first (replay_of (replay file script mode wire count)) a end e came said
-does words (Some (load file seed events members raw mode)) is a end e came said =
-    first (replay_of (load file seed events members raw mode)) a end e came said
-does words (Some (node file plan turns me patience mode)) is a end e came said =
-    first (replay_of (node file plan turns me patience mode)) a end e came said
+-- a job that is refused ends with 2
+refused_due : (a : Around) (e : Errors) (end : Ended) → NoJob a end → Said end e → Due 2 e.status
+refused_due a e words_refused n said = status_said words_refused e said
+refused_due a e no_memory n said = ⊎_elim inr inr (status_said no_memory e said)
+refused_due a e _ n said = absurd n
+
+does_if : (words : List Text) (job : Job) (built : Bool) → is_built job ≡ built → job_of_words words ≡ Some job → (a : Around) (e : Errors) (end : Ended) →
+    PerformedIf built job a end → Said end e → DoesIf built words job a e
+does_if words job true built is a e end came said = let run = seen words job a e end is came said in record {
+  end = end;
+  came = came;
+  said = said;
+  seen = run;
+  exact = exact words job a e is (alone job built) run end came said;
+}
+does_if words job false built is a e end came said =
+    record { end = end; came = came; said = said; due = refused_due a e end came said }
+
+pub does : (words : List Text) (job : Option Job) → job_of_words words ≡ job → (a : Around) (e : Errors) (end : Ended) → Performed job a end →
+    Said end e → DoesJob words job a e
+does words None is a e end came said = let run = jobless_seen words a e end is came said in
+    record { end = end; came = came; said = said; seen = run; due = words_due words a e run is }
+does words (Some job) is a e end came said = does_if words job (is_built job) refl is a e end came said
 
 -- Where memory ran out over the words, nothing was done.
-pub wanted : (job : Option Job) (told : Option Shelved) (reads : ℕ) (output : Tells) →
-    Performed job (around told reads reads output output) (Judged ending.Memory)
+pub wanted : (job : Option Job) (told : Option Shelved) (reads : ℕ) (output : Tells) → Performed job (around told reads reads output output) no_memory
 wanted None told reads output = record { untouched = refl; unread = refl }
-wanted (Some (check file)) told reads output = inl refl
-wanted (Some (audit file law)) told reads output = inl refl
-wanted (Some (synth file)) told reads output = refl
-wanted (Some (replay file script mode wire count)) told reads output = refl
-wanted (Some (load file seed events members raw mode)) told reads output = refl
-wanted (Some (node file plan turns me patience mode)) told reads output = refl
-
--- A good replay ended as the writing of its report did.
-pub played : (words : Option Replay) (job : Replay) → words ≡ Some job → (a : Around) (stack : List LayerTree) (script : Script) (between : ℕ)
-    (result : Result (Unit {0}) Fault) → IsStack a.told job.file stack a.reads between →
-    IsScript (second a) job.script script between a.reads_after → Wrote (report_lines stack script) a.output a.output_after result →
-    Ended words a result
-played words job is a stack script between (Ok done) file text w = record {
-  stack = stack;
-  script = script;
-  good = record { job = job; is_job = is; between = between; stack_read = file; script_read = text };
-  written = w;
-}
-played words job is a stack script between (Err Write) file text w = record {
-  stack = stack;
-  script = script;
-  good = record { job = job; is_job = is; between = between; stack_read = file; script_read = text };
-  written = w;
-}
-played words job is a stack script between (Err Memory) file text w = inr (record {
-  stack = stack;
-  script = script;
-  good = record { job = job; is_job = is; between = between; stack_read = file; script_read = text };
-  written = w;
-})
-played words job is a stack script between (Err _) file text w = absurd w
+wanted (Some job) told reads output = go (is_built job) where
+  go : (built : Bool) → PerformedIf built job (around told reads reads output output) no_memory
+  go true = inl refl
+  go false = record { untouched = refl; unread = refl }

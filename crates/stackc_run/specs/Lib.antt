@@ -1,14 +1,2 @@
-pub mod Tells
-pub mod Wrote
-pub mod Played
-pub mod Job
-pub mod Meaning
-pub mod Fetched
-pub mod File
-pub mod Ended
-pub mod Complete
-pub mod Exact
-pub mod Through
-pub mod Sample
-pub mod Run
 pub mod Performed
+pub mod Through

@@ -1,20 +1,31 @@
 -- A run over streams, and the handing on of what was put.
 use Rattle.std.specs.Prelude.{◌≡◌, ◌⊎◌, ℕ, Bool, true, false, List, Option, Some, None}
+use Rattle.std.specs.List.{concat}
 use Rattle.std.specs.Io.KnownBytes.{Appends, Keeps}
 use Rattle.outside.specs.Count.{Rose}
 use Rattle.outside.specs.Shelf.{Shelved}
 use Rattle.clap.specs.Walk.{Text}
-use Rattle.first_mean.specs.Tree.{LayerTree}
-use Rattle.script_mean.specs.declared.script.Script.{Script}
-use Rattle.first_run.specs.Report.{report}
-use Rattle.job_mean.specs.Job.{Job, check, audit, job_of_words}
-use Rattle.file_jobs.specs.Comes.{IsRead, IsOutput}
-use Rattle.stackc_run.specs.Tells.{Tells}
-use Rattle.stackc_run.specs.Job.{Replay, replay_of}
-use Rattle.stackc_run.specs.Run.{around, errors}
-use Rattle.stackc_run.specs.Ended.{Good}
-use Rattle.stackc_run.specs.Performed.{Performed, SaidOf, Does, closed}
-use Rattle.stackc_run.specs.declared.perform.End.{End}
+use Rattle.job_mean.specs.Job.{Job, job_of_words}
+use Rattle.job_mean.specs.Status.{Ended, done, breached, file_refused, report_refused, words_refused, second_refused, read_failed, write_failed, link_failed, no_memory}
+use Rattle.sink_lines.specs.Said.{errors}
+use Rattle.sink_lines.specs.Tells.{Tells}
+use Rattle.job_ends.specs.Comes.{Good, around}
+use Rattle.job_ends.specs.Shown.{Said}
+use Rattle.stackc_run.specs.Performed.{Performed, Does}
+
+-- How a job ended whose whole output was written, where its stream got all or lacks something: then that is a fault of writing.
+abbrev pub closed : Bool → Ended → Ended
+closed true end = end
+closed false done = write_failed
+closed false breached = write_failed
+closed false (file_refused fault) = file_refused fault
+closed false (report_refused fault) = report_refused fault
+closed false words_refused = words_refused
+closed false (second_refused fault) = second_refused fault
+closed false read_failed = read_failed
+closed false write_failed = write_failed
+closed false link_failed = link_failed
+closed false no_memory = no_memory
 
 -- A sink before and after a run, and what its stream holds in the end.
 pub record Stream : Type 0 where
@@ -34,12 +45,12 @@ HandsOn put after holds false = Rose put.faults after.faults
 -- comes of both, and handed on to the standard error's. Where that is the job's own end, all that `run` does is done.
 pub record RunsThrough (words : List Text) (told : Option Shelved) (reads reads_after : ℕ) (out err : Stream) (status : ℕ) : Type 0 where
   pub put : Tells
-  pub end : End
+  pub end : Ended
   pub performed : Performed (job_of_words words) (around told reads reads_after out.before put) end
   pub whole : Bool
   pub handed_on : HandsOn put out.after out.holds whole
   pub closing : Tells
-  pub said : SaidOf (closed whole end) (errors err.before closing status)
+  pub said : Said (closed whole end) (errors err.before closing status)
   pub does : closed whole end ≡ end → Does words (around told reads reads_after out.before put) (errors err.before closing status)
   pub heard : Bool
   pub told_on : HandsOn closing err.after err.holds heard
@@ -48,26 +59,13 @@ pub record RunsThrough (words : List Text) (told : Option Shelved) (reads reads_
 abbrev pub IsWhole : ℕ → Type 0
 IsWhole status = (status ≡ 0) ⊎ (status ≡ 8)
 
--- The words name a stack and a script, both good, and the output's stream gained the whole report.
-pub record DeliversReport (words : Option Replay) (told : Option Shelved) (reads reads_after : ℕ) (out : Stream) : Type 0 where
-  pub stack : List LayerTree
-  pub script : Script
-  pub put : Tells
-  pub good : Good words (around told reads reads_after out.before put) stack script
-  pub gained : Appends out.before.contents out.holds (report stack script)
-
--- The file of the job was read and has this output, and the output's stream gained it.
-pub record DeliversLine (job : Job) (name : Text) (told : Option Shelved) (reads reads_after : ℕ) (out : Stream) : Type 0 where
-  pub put : Tells
-  pub file : List ℕ
-  pub read : IsRead name (around told reads reads_after out.before put) file
-  pub line : List ℕ
-  pub output : IsOutput job file line
-  pub gained : Appends out.before.contents out.holds line
+-- The files of a job were read and have an output, and the output's stream gained it.
+pub record DeliversOutput (job : Job) (told : Option Shelved) (reads reads_after : ℕ) (out : Stream) : Type 0 where
+  pub good : Good job told
+  pub sound : reads_after ≡ reads
+  pub gained : Appends out.before.contents out.holds (concat good.lines)
 
 -- The words are a job, and the output's stream gained its whole output.
 abbrev pub Delivers : Option Job → Option Shelved → ℕ → ℕ → Stream → Type 0
 Delivers None told reads reads_after out = ⊥
-Delivers (Some (check file)) told reads reads_after out = DeliversLine (check file) file told reads reads_after out
-Delivers (Some (audit file law)) told reads reads_after out = DeliversLine (audit file law) file told reads reads_after out
-Delivers (Some job) told reads reads_after out = DeliversReport (replay_of job) told reads reads_after out
+Delivers (Some job) told reads reads_after out = DeliversOutput job told reads reads_after out

@@ -4,14 +4,12 @@ ghost use Rattle.std.specs.Prelude.{◌≡◌, map};
 ghost use Rattle.std.specs.String.{string_bytes};
 ghost use Rattle.outside.specs.Stream.{stream_of};
 ghost use Rattle.job_mean.specs.Job.{job_of_words};
-ghost use Rattle.stackc_run.specs.Performed.{closed};
-ghost use Rattle.stackc_run.specs.Tells.{tells};
-ghost use Rattle.stackc_run.specs.Through.{RunsThrough, Delivers, HandsOn, IsWhole, stream};
+ghost use Rattle.job_ends.specs.Shown.{shown};
+ghost use Rattle.sink_lines.specs.Tells.{tells};
+ghost use Rattle.stackc_run.specs.Through.{RunsThrough, Delivers, HandsOn, IsWhole, closed, stream};
 
-use crate::fault::Fault;
-use crate::over_sinks::conclude;
-use crate::perform::{End, perform};
-use file_jobs::Ending;
+use crate::perform::perform;
+use job_ends::{Ending, say};
 use outside::{Shelf, Sink, StdSink};
 use std::alloc::Global;
 use std::io::Write;
@@ -40,9 +38,9 @@ pub fn run_through<S: Shelf, O: Write + Drop, E: Write + Drop>(
         (tells (⟦<StdSink<O> as Sink>⟧.contents out.new) (⟦<StdSink<O> as Sink>⟧.failures out.new) (⟦<StdSink<O> as Sink>⟧.faults out.new))
         (O.contents (stream_of out.new))) }
 {
-    let end = perform(alloc, words, shelf, out);
+    let ending = perform(alloc, words, shelf, out);
     let whole = hand_on(out);
-    let status = conclude(alloc, closed(whole, end), err);
+    let status = say(alloc, closed(whole, ending), err);
     let _ = hand_on(err);
     status
 }
@@ -61,17 +59,14 @@ fn hand_on<W: Write + Drop>(sink: &mut StdSink<W>) -> bool
 }
 
 /// How a job ended whose stream got all that was put or didn't: then a whole output is a fault of writing.
-fn closed(whole: bool, end: End) -> End
-    ensures { result ≡ closed whole end }
+fn closed(whole: bool, ending: Ending) -> Ending
+    ensures { shown result ≡ closed whole (shown ending) }
 {
     if whole {
-        return end;
+        return ending;
     }
-    match end {
-        End::Judged(Ending::Done) => End::Judged(Ending::Write),
-        End::Judged(Ending::Breached) => End::Judged(Ending::Write),
-        End::Judged(ending) => End::Judged(ending),
-        End::Played(Ok(())) => End::Played(Err(Fault::Write)),
-        End::Played(Err(fault)) => End::Played(Err(fault)),
+    match ending {
+        Ending::Done | Ending::Breached => Ending::Write,
+        ending => ending,
     }
 }

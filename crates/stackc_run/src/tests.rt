@@ -9,9 +9,13 @@ use std::test::Fail;
 const COUNTER: &[u8] =
     b"layer cnt {\n  state int k;\n  state int e[n];\n  header num(seq) passes;\n  down Cast(p, m) {\n    down Cast(p, m) with num(k);\n    set k = (k + 1);\n  }\n  up Cast(o, m) with num(seq) common (seq == e[o]) {\n    set e[o] = (seq + 1);\n    up Cast(o, m);\n  }\n}\nstack { cnt; }\n";
 
-/// A layer with a queue, which is not of the form that is built so far.
+/// A layer with a queue of one row.
 const QUEUE: &[u8] =
     b"layer one {\n  state int s = 4294967295;\n  state queue q[1] of (x: int);\n  header num(v) passes;\n  header full() ends;\n  down Cast(p, m) {\n    push q (s) else { down Cast(p, nothing) with full(); }\n    set s = (s + 1);\n    down Cast(p, m) with num(s);\n  }\n}\nstack { one; }\n";
+
+/// A layer that keeps 320 rows with messages for each member: too many for 26 members.
+const ROWS: &[u8] =
+    b"layer all {\n  state queue a[n][64] of (m: msg);\n  state queue b[n][64] of (m: msg);\n  state queue c[n][64] of (m: msg);\n  state queue d[n][64] of (m: msg);\n  state queue e[n][64] of (m: msg);\n}\nstack { all; }\n";
 
 /// What a run left: its status, and the bytes on its output and on its standard error.
 #[derive(Drop)]
@@ -62,13 +66,6 @@ fn replays_and_refuses(rt: HostRuntime) -> Result<(), Fail> {
     let alloc = rt.alloc();
     let first = b"group 1 stamp 7 members 3\n";
     let cases: [(&[u8], &[u8], u8, &[u8], &[u8]); 9] = [
-        (
-            COUNTER,
-            b"group 1 stamp 7 members 3\ncast 0 6869\ngive 1 1\n",
-            0,
-            b"packet 1 0 all cnt.num(0) 6869\ndeliver 1 cast 0 6869\nend 2\n",
-            b"",
-        ),
         (COUNTER, first, 0, b"end 0\n", b""),
         (
             COUNTER,
@@ -84,28 +81,41 @@ fn replays_and_refuses(rt: HostRuntime) -> Result<(), Fail> {
             b"packet 1 2 all cnt.num(0) -\nrefused 2 sender\nabsent 0 2\nabsent 0 0\nend 4\n",
             b"",
         ),
-        (QUEUE, first, 1, b"", b"file: later\n"),
-        (b"", first, 1, b"", b"file: later\n"),
+        (
+            COUNTER,
+            b"group 1 stamp 7 members 3\ntick 0 9\nsend 0 1 61\nleave 2\nraw 1 ff\ncast 2 -\n",
+            0,
+            b"packet 1 0 1 cnt.none() 61\nrefused 1 short\npacket 2 2 all cnt.num(0) -\nend 5\n",
+            b"",
+        ),
+        (
+            QUEUE,
+            b"group 1 stamp 7 members 3\ncast 1 61\ncast 1 62\nstate 1\n",
+            0,
+            b"packet 1 1 all one.num(0) 61\npacket 2 1 all one.full() -\npacket 3 1 all one.num(1) 62\nstate 1 0 7\ncell 1 0 one.s 1\ncell 1 0 one.q [4294967295]\nend 3\n",
+            b"",
+        ),
+        (b"", b"", 1, b"", b"file: unexpected 1:1\n"),
         (
             COUNTER,
             b"group 1 stamp 7 members 3\ncast 0 6\n",
             3,
             b"",
-            b"script: later\n",
+            b"script: line 2\n",
         ),
         (
             COUNTER,
             b"group 1 stamp 7 members 3\ncast 3 61\n",
             3,
             b"",
-            b"script: later\n",
+            b"script: member 2\n",
         ),
         (
-            COUNTER,
-            b"group 1 stamp 7 members 3\ntick 0 0\n",
+            ROWS,
+            b"group 1 stamp 7 members 32\n",
             3,
             b"",
-            b"script: later\n",
+            b"script: rows\n",
         ),
     ];
     for (file, script, status, out, err) in cases {
@@ -162,8 +172,8 @@ fn refuses_what_is_too_large(rt: HostRuntime) -> Result<(), Fail> {
     let mut script = Vec::from_slice(alloc, b"group 1 stamp 7 members 3\ncast 0 ")?;
     script.extend_from_slice(&vec![in alloc; b'6'; 2 * 8193]?)?;
     let left = replayed(alloc, COUNTER, &script, Vec::new(alloc), Vec::new(alloc))?;
-    assert_eq!(rt; left.status, 3);
-    assert_eq!(rt; left.err.as_slice(), b"script: later\n".as_slice());
+    assert_eq!(rt; left.status, 0);
+    assert_eq!(rt; left.out.as_slice(), b"refused 0 big\nend 1\n".as_slice());
     Ok(())
 }
 
@@ -175,7 +185,7 @@ fn refuses_other_words(rt: HostRuntime) -> Result<(), Fail> {
         &["replay", "a"],
         &["play", "f", "s", "--run", "layered"],
         &["replay", "f", "s", "--run", "bypass"],
-        &["replay", "f", "s", "--run", "layered", "--wire"],
+        &["load", "f", "--seed=1", "--events=1", "--members=1"],
         &["synth", "f"],
         &["audit", "f"],
     ];
@@ -215,6 +225,56 @@ fn judged(
         out: Vec::from_slice(alloc, out.contents())?,
         err: Vec::from_slice(alloc, err.contents())?,
     })
+}
+
+#[test]
+fn adds_what_is_wanted(rt: HostRuntime) -> Result<(), Fail> {
+    let alloc = rt.alloc();
+    let words = words(
+        alloc,
+        &["replay", "f", "s", "--run=layered", "--wire", "--count"],
+    )?;
+    let script = b"group 1 stamp 7 members 3\ncast 0 6869\ngive 1 1\n";
+    let files = vec![in alloc; named(alloc, "f", COUNTER)?, named(alloc, "s", script)?]?;
+    let mut shelf = MemShelf::of(files, Vec::new(alloc));
+    let mut out = MemSink::of(alloc, Vec::new(alloc));
+    let mut err = MemSink::of(alloc, Vec::new(alloc));
+    assert_eq!(rt; run(alloc, &words, &mut shelf, &mut out, &mut err), 0);
+    let report =
+        b"packet 1 0 all cnt.num(0) 6869\nwire 1 e50000000100000007000000000000000700ff01000000006869\ndeliver 1 cast 0 6869\nend 2\nvisits 2\n";
+    assert_eq!(rt; out.contents(), report.as_slice());
+    Ok(())
+}
+
+#[test]
+fn counts_generated_scripts(rt: HostRuntime) -> Result<(), Fail> {
+    let alloc = rt.alloc();
+    let load: &[&str] = &[
+        "load",
+        "f",
+        "--seed=7",
+        "--events=40",
+        "--members=3",
+        "--raw",
+        "--run=layered",
+    ];
+    let left = judged(alloc, load, COUNTER, Vec::new(alloc))?;
+    assert_eq!(rt; left.status, 0);
+    let counts =
+        b"deliver 9 packet 8 timer 0 block 0 announce 0 view 0 out 0 refused 10 absent 6 end 40\nshort 0\n";
+    assert_eq!(rt; left.out.as_slice(), counts.as_slice());
+    let load: &[&str] = &[
+        "load",
+        "f",
+        "--seed=1",
+        "--events=5",
+        "--members=32",
+        "--run=layered",
+    ];
+    let left = judged(alloc, load, ROWS, Vec::new(alloc))?;
+    assert_eq!(rt; left.status, 3);
+    assert_eq!(rt; left.err.as_slice(), b"script: rows\n".as_slice());
+    Ok(())
 }
 
 /// A report in which two members deliver two casts in another order.
@@ -307,8 +367,8 @@ fn hands_on_what_was_put(rt: HostRuntime) -> Result<(), Fail> {
         (COUNTER, 100, false, 0, b"end 0\n", b""),
         (COUNTER, 3, false, 5, b"end", b"write fault\n"),
         (COUNTER, 100, true, 5, b"end 0\n", b"write fault\n"),
-        (QUEUE, 100, false, 1, b"", b"file: later\n"),
-        (QUEUE, 100, true, 1, b"", b"file: later\n"),
+        (b"$", 100, false, 1, b"", b"file: token 1:1\n"),
+        (b"$", 100, true, 1, b"", b"file: token 1:1\n"),
     ];
     for (file, most, stuck, status, out, err) in cases {
         let left = streamed(alloc, file, most, stuck)?;

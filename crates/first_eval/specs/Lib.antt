@@ -1,3 +1,0 @@
-pub mod LayerAt
-pub mod Codes
-pub mod Did

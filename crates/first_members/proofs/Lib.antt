@@ -1,2 +1,0 @@
-pub mod OneLayer
-pub mod Steps

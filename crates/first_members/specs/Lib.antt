@@ -1,3 +1,0 @@
-pub mod OneLayer
-pub mod Play
-pub mod Members

@@ -1,3 +1,0 @@
-pub mod Layer
-pub mod Lead
-pub mod Lines

@@ -1,4 +1,0 @@
-pub mod Lists
-pub mod Declarations
-pub mod Exits
-pub mod Each

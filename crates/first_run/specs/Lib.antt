@@ -1,4 +1,0 @@
-pub mod World
-pub mod Text
-pub mod Report
-pub mod View

@@ -1,3 +1,0 @@
-pub mod CounterFile
-pub mod Faults
-pub mod Later

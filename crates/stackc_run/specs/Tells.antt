@@ -1,2 +1,0 @@
--- What a sink tells.
-pub use Rattle.sink_lines.specs.Tells.{Tells, tells}

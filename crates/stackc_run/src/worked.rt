@@ -1,0 +1,226 @@
+//! Worked cases of whole replays: what is written was told by an independent reading of the rules.
+
+use crate::run;
+use outside::{MemShelf, MemSink, NamedFile};
+use std::alloc::{AllocError, Global};
+use std::test::Fail;
+
+const COUNTER: &[u8] =
+    b"layer cnt {\n  state int k;\n  state int e[n];\n  header num(seq) passes;\n  down Cast(p, m) {\n    down Cast(p, m) with num(k);\n    set k = (k + 1);\n  }\n  up Cast(o, m) with num(seq) common (seq == e[o]) {\n    set e[o] = (seq + 1);\n    up Cast(o, m);\n  }\n}\nstack { cnt; }\n";
+
+/// A layer that branches on a cell that it has just written.
+const ALIAS: &[u8] =
+    b"layer alias { state int k = 1; state int e[n]; header a() passes; header b() passes; down Cast(p, m) { set e[(k & 1)] = 5; set k = (k + 1); if (e[0] == 5) { down Cast(p, m) with a(); } else { down Cast(p, m) with b(); } } } stack { alias; }";
+
+/// A layer with a queue that fills.
+const ONE: &[u8] =
+    b"layer one { state int s = 4294967295; state queue q[1] of (x: int); header num(v) passes; header full() ends; down Cast(p, m) { push q (s) else { down Cast(p, nothing) with full(); } set s = (s + 1); down Cast(p, m) with num(s); } } stack { one; }";
+
+/// A layer with two common cases.
+const FLIP: &[u8] =
+    b"layer flip { state int k; header a(x) passes; header b(x) passes; down Cast(p, m) { set k = (k + 1); if two ((k & 1) == 1) { down Cast(p, m) with a(k); } else { down Cast(p, m) with b(k); } } } stack { flip; }";
+
+/// A layer that leaves its group.
+const QUIT: &[u8] = b"layer quit { down Leave(x) { up View(0); } } stack { quit; }";
+
+/// A layer that keeps 320 rows for each member of its view.
+const BIG: &[u8] =
+    b"layer big { state queue q0[n][64] of (m: msg); state queue q1[n][64] of (m: msg); state queue q2[n][64] of (m: msg); state queue q3[n][64] of (m: msg); state queue q4[n][64] of (m: msg); } stack { big; }";
+
+/// What a replay left: its status, and the bytes on its output and on its standard error.
+#[derive(Drop)]
+struct Left {
+    status: u8,
+    out: Vec<u8>,
+    err: Vec<u8>,
+}
+
+fn named(alloc: Global, name: &str, bytes: &[u8]) -> Result<NamedFile, AllocError> {
+    Ok(NamedFile {
+        name: String::from_str(alloc, name)?,
+        bytes: Vec::from_slice(alloc, bytes)?,
+    })
+}
+
+/// A replay of a script over a stack file, with more words.
+fn replayed(alloc: Global, file: &[u8], script: &[u8], more: &[&str]) -> Result<Left, AllocError> {
+    let mut words = Vec::new(alloc);
+    for text in ["replay", "f", "s", "--run", "layered"] {
+        words.push(String::from_str(alloc, text)?)?;
+    }
+    for text in more {
+        words.push(String::from_str(alloc, text)?)?;
+    }
+    let files = vec![in alloc; named(alloc, "f", file)?, named(alloc, "s", script)?]?;
+    let mut shelf = MemShelf::of(files, Vec::new(alloc));
+    let mut out = MemSink::of(alloc, Vec::new(alloc));
+    let mut err = MemSink::of(alloc, Vec::new(alloc));
+    let status = run(alloc, &words, &mut shelf, &mut out, &mut err);
+    Ok(Left {
+        status,
+        out: Vec::from_slice(alloc, out.contents())?,
+        err: Vec::from_slice(alloc, err.contents())?,
+    })
+}
+
+#[test]
+fn replays_one_layer(rt: HostRuntime) -> Result<(), Fail> {
+    let alloc = rt.alloc();
+    let cases: [(&[u8], &[u8], &[&str], &[u8]); 3] = [
+        (
+            COUNTER,
+            b"group 1 stamp 7 members 3\ncast 0 6869\ngive 1 1\ngive 1 1\nstate 1\n",
+            &["--wire", "--count"],
+            b"packet 1 0 all cnt.num(0) 6869\nwire 1 e50000000100000007000000000000000700ff01000000006869\ndeliver 1 cast 0 6869\ndeliver 1 cast 0 6869\nstate 1 0 7\ncell 1 0 cnt.k 0\ncell 1 0 cnt.e 1 0 0\nend 4\nvisits 3\n",
+        ),
+        (
+            COUNTER,
+            b"group 1 stamp 7 members 3\ncast 2 -\nsend 0 1 61\ngive 1 2\ngive 2 2\ngive 2 1\ngive 3 0\ngive 0 0\n",
+            &[],
+            b"packet 1 2 all cnt.num(0) -\npacket 2 0 1 cnt.none() 61\nrefused 2 sender\nrefused 2 dest\ndeliver 1 send 0 61\nabsent 0 3\nabsent 0 0\nend 7\n",
+        ),
+        (
+            COUNTER,
+            b"group 1 stamp 7 members 3\nraw 1 e4\nraw 1 e40000000100000007000000000000000700ff\nraw 1 e50000000200000008000000000000000700ff\nraw 1 e50000000100000007000000000000000700ff\nraw 1 e60000000100000007000000000000000700fffa\nraw 1 e60000000100000007000000000000000700ff000000\nraw 1 e60000000100000007000000000000000300ff000000\nraw 1 e60000000100000007000000000000000700ff00000000006869\nraw 1 -\n",
+            &[],
+            b"refused 1 short\nrefused 1 form\nrefused 1 group\nrefused 1 chain\nrefused 1 plan\nrefused 1 chain\nrefused 1 view\ndeliver 1 cast 0 6869\nrefused 1 short\nend 9\n",
+        ),
+    ];
+    for (file, script, more, out) in cases {
+        let left = replayed(alloc, file, script, more)?;
+        assert_eq!(rt; left.status, 0);
+        assert_eq!(rt; left.out.as_slice(), out);
+        assert_eq!(rt; left.err.as_slice(), b"".as_slice());
+    }
+    Ok(())
+}
+
+#[test]
+fn replays_stacks(rt: HostRuntime) -> Result<(), Fail> {
+    let alloc = rt.alloc();
+    let cases: [(&[u8], &[u8], &[&str], &[u8]); 4] = [
+        (
+            b"stack { bottom; local; total; }",
+            b"group 1 stamp 1 members 2\ncast 0 61\ncast 1 62\ngive 2 0\n",
+            &["--count"],
+            b"packet 1 0 all bottom.net(1)/local.none()/total.num(0,0) 61\ndeliver 0 cast 0 61\npacket 2 1 0 bottom.net(1)/local.none()/total.ask() 62\npacket 3 0 all bottom.net(1)/local.none()/total.num(1,1) 62\ndeliver 0 cast 1 62\nend 3\nvisits 13\n",
+        ),
+        (
+            b"stack { bottom; mnak; local; total; }",
+            b"group 1 stamp 1 members 2\ncast 0 61\nstate 0\n",
+            &["--wire", "--count"],
+            b"deliver 0 cast 0 61\npacket 1 0 all bottom.net(1)/mnak.num(0)/local.none()/total.num(0,0) 61\nwire 1 e50000000100000001000000000000000300ff010000000101000000000001000000000000000061\nstate 0 0 3\ncell 0 1 mnak.out 1\ncell 0 1 mnak.base 0\ncell 0 1 mnak.told 0\ncell 0 1 mnak.next 0 0\ncell 0 1 mnak.kept [local.none()/total.num(0,0):61]\ncell 0 1 mnak.early[0] -\ncell 0 1 mnak.early[1] -\ncell 0 3 total.out 1\ncell 0 3 total.next 1\nend 2\nvisits 5\n",
+        ),
+        (
+            ALIAS,
+            b"group 1 stamp 1 members 2\ncast 0 -\ncast 0 -\ncast 0 -\nstate 0\n",
+            &["--count"],
+            b"packet 1 0 all alias.b() -\npacket 2 0 all alias.a() -\npacket 3 0 all alias.a() -\nstate 0 0 3\ncell 0 0 alias.k 4\ncell 0 0 alias.e 5 5\nend 4\nvisits 3\n",
+        ),
+        (
+            ONE,
+            b"group 1 stamp 1 members 1\ncast 0 61\ncast 0 62\nstate 0\n",
+            &[],
+            b"packet 1 0 all one.num(0) 61\npacket 2 0 all one.full() -\npacket 3 0 all one.num(1) 62\nstate 0 0 1\ncell 0 0 one.s 1\ncell 0 0 one.q [4294967295]\nend 3\n",
+        ),
+    ];
+    for (file, script, more, out) in cases {
+        let left = replayed(alloc, file, script, more)?;
+        assert_eq!(rt; left.status, 0);
+        assert_eq!(rt; left.out.as_slice(), out);
+        assert_eq!(rt; left.err.as_slice(), b"".as_slice());
+    }
+    Ok(())
+}
+
+#[test]
+fn replays_branches_and_loops(rt: HostRuntime) -> Result<(), Fail> {
+    let alloc = rt.alloc();
+    let cases: [(&[u8], &[u8], &[&str], &[u8]); 4] = [
+        (
+            FLIP,
+            b"group 1 stamp 1 members 2\ncast 0 -\ncast 0 -\ncast 0 -\n",
+            &["--count"],
+            b"packet 1 0 all flip.a(1) -\npacket 2 0 all flip.b(2) -\npacket 3 0 all flip.a(3) -\nend 3\nvisits 3\n",
+        ),
+        (
+            QUIT,
+            b"group 1 stamp 1 members 1\nleave 0\ncast 0 61\nstate 0\n",
+            &[],
+            b"announce 0 0\nout 0\nrefused 0 out\nstate 0 out\nend 3\n",
+        ),
+        (
+            b"layer rep { down Cast(p, m) { each i below 2 max 2 { down Cast(p, m); } } } stack { rep; }",
+            b"group 1 stamp 1 members 1\ncast 0 -\ntick 0 5\n",
+            &[],
+            b"packet 1 0 all rep.none() -\npacket 2 0 all rep.none() -\nend 2\n",
+        ),
+        (
+            BIG,
+            b"group 1 stamp 1 members 25\ncast 0 61\n",
+            &[],
+            b"packet 1 0 all big.none() 61\nend 1\n",
+        ),
+    ];
+    for (file, script, more, out) in cases {
+        let left = replayed(alloc, file, script, more)?;
+        assert_eq!(rt; left.status, 0);
+        assert_eq!(rt; left.out.as_slice(), out);
+        assert_eq!(rt; left.err.as_slice(), b"".as_slice());
+    }
+    Ok(())
+}
+
+#[test]
+fn refuses_files_and_scripts(rt: HostRuntime) -> Result<(), Fail> {
+    let alloc = rt.alloc();
+    let cases: [(&[u8], &[u8], u8, &[u8]); 10] = [
+        (BIG, b"group 1 stamp 1 members 32\n", 3, b"script: rows\n"),
+        (
+            b"layer echo { down Cast(p, m) { up Cast(p, m); } up Cast(o, m) { down Cast(o, m); } } stack { echo; echo; }",
+            b"group 1 stamp 1 members 1\n",
+            1,
+            b"file: cycle 0 Cast\n",
+        ),
+        (
+            b"layer fan { up Cast(o, m) { each i below 16 max 16 { up Cast(o, m); } } } stack { fan; fan; fan; fan; }",
+            b"x",
+            1,
+            b"file: too many 69905\n",
+        ),
+        (
+            b"layer a {\n  down Cast(p, m) { set z = 1; }\n}\nstack { a; }",
+            b"x",
+            1,
+            b"file: unknown 2:25\n",
+        ),
+        (
+            b"layer a {\n  header h() ends;\n  down Cast(p, m) { down Cast(p, m) with h(); }\n}\nstack { a; }",
+            b"x",
+            1,
+            b"file: header 3:21\n",
+        ),
+        (b"", b"x", 1, b"file: unexpected 1:1\n"),
+        (b"$", b"x", 1, b"file: token 1:1\n"),
+        (
+            COUNTER,
+            b"group 1 stamp 7 members 3\ncast 0 6\n",
+            3,
+            b"script: line 2\n",
+        ),
+        (
+            COUNTER,
+            b"group 1 stamp 7 members 3\ncast 3 61\n",
+            3,
+            b"script: member 2\n",
+        ),
+        (COUNTER, b"", 3, b"script: line 1\n"),
+    ];
+    for (file, script, status, err) in cases {
+        let left = replayed(alloc, file, script, &[])?;
+        assert_eq!(rt; left.status, status);
+        assert_eq!(rt; left.out.as_slice(), b"".as_slice());
+        assert_eq!(rt; left.err.as_slice(), err);
+    }
+    Ok(())
+}
