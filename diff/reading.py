@@ -1102,6 +1102,12 @@ def check(text):
         return str(refused)
 
 
+def weight_of(stack):
+    """How many tasks follow from an entry of a stack without cycles at most."""
+    graph, known = Graph(stack), {}
+    return max(graph.cost(node, "weight", known) for node in graph.entries())
+
+
 def stack_of(text):
     if len(text) > LARGEST:
         raise Refused("file: too large")
@@ -1146,8 +1152,7 @@ def stack_of(text):
     cycle = graph.first_cycle()
     if cycle:
         raise Refused(f"file: cycle {cycle[0]} {KINDS[cycle[1]]}")
-    known = {}
-    weight = max(graph.cost(node, "weight", known) for node in graph.entries())
+    weight = weight_of(stack)
     if weight > 65536:
         raise Refused(f"file: too many {min(weight, 4294967295)}")
     known = {}

@@ -1,9 +1,10 @@
 #!/usr/bin/env python3
-"""Compares the program's `replay` with the independent reading on random scripts.
+"""Compares the program's `replay` and `load` with the independent reading, on random files, scripts and seeds.
 
-Run it from any folder: diff/replay.py FILES [COUNT] [SEED] [WORD..]. FILES is `counter`, for the one layer that the program runs today, or
-`library`, for random stacks of the library's layers; further words are handed to the program. What is written, what is said and the
-status must be those of the reading. It prints each difference.
+Run it from any folder: diff/replay.py [FILES] [COUNT] [SEED] [WORD..]. FILES is `library`, for random stacks of the library's layers,
+`random`, for random layer files that are accepted, made as those of diff/check.py, or `counter`, for the counter layer. Of each file a random
+script is replayed, layer by layer, with `--wire` and `--count` now and then, or with exactly the further words; and the lines of a generated
+script are counted. What is written, what is said and the status must be those of the reading. It prints each difference.
 """
 import os
 import random
@@ -12,16 +13,37 @@ import sys
 import tempfile
 
 sys.path.insert(0, os.path.dirname(os.path.abspath(__file__)))
+import check
 import reading
 import running
 
 TOP = os.path.dirname(os.path.dirname(os.path.abspath(__file__)))
+PROGRAM = f"{TOP}/crates/stackc/out/stackc"
+
+# Heavier files are passed over, since the reading runs them slowly.
+MOST_WEIGHT = 600
+
+
+def random_file(r):
+    """A file that is accepted and not heavy: layers of the library and small ones, with a few changes of tokens."""
+    while True:
+        tokens = check.TOKEN.findall(check.pick_file(r))
+        for _ in range(r.choice((0, 1, 1, 2))):
+            tokens = [t for t in check.change(r, tokens) if t]
+        text = "".join(tokens).encode("latin-1")
+        try:
+            if reading.weight_of(reading.stack_of(text)) <= MOST_WEIGHT:
+                return text
+        except reading.Refused:
+            pass
 
 
 def file_of(r, files):
     if files == "counter":
         with open(f"{TOP}/examples/counter.layers", "rb") as file:
             return file.read()
+    if files == "random":
+        return random_file(r)
     names = [word for word in reading.library() if r.random() < 0.4] or ["bottom"]
     return ("stack { " + "".join(f"{word}; " for word in names) + "}\n").encode()
 
@@ -33,14 +55,11 @@ def line_of(event):
     return " ".join([what, str(member)] + [running.hexed(v) if isinstance(v, bytes) else str(v) for v in rest])
 
 
-def script_of(r, files):
+def script_of(r):
     members = r.randint(1, 6)
-    if files == "counter":
-        events = [e for e in running.generate(r.randrange(2**32), r.randint(0, 60), members, False) if e[0] in ("cast", "give")]
-    else:
-        events = running.generate(r.randrange(2**32), r.randint(0, 60), members, r.random() < 0.5)
-        for _ in range(r.randint(0, 3)):
-            events.insert(r.randint(0, len(events)), ("leave", r.randrange(members)))
+    events = running.generate(r.randrange(2**32), r.randint(0, 60), members, r.random() < 0.5)
+    for _ in range(r.randint(0, 3)):
+        events.insert(r.randint(0, len(events)), ("leave", r.randrange(members)))
     for _ in range(r.randint(0, 5)):
         events.insert(r.randint(0, len(events)), ("state", r.randrange(members)))
     lines = ["group 1 stamp 1 members %d" % members] + [line_of(e) for e in events]
@@ -49,33 +68,54 @@ def script_of(r, files):
     return ("\n".join(lines) + r.choice(("\n", ""))).encode()
 
 
+def answer(words):
+    ran = subprocess.run([PROGRAM, *words], stdout=subprocess.PIPE, stderr=subprocess.PIPE, check=False)
+    return ran.stdout.decode(), ran.stderr.decode().strip(), ran.returncode
+
+
+def replay(r, paths, texts, given):
+    """The words of a replay, and what the reading says of it."""
+    words = given or [word for word in ("--wire", "--count") if r.random() < 0.4]
+    wanted = running.replay(*texts, "layered", "--wire" in words, "--count" in words)
+    return ["replay", *paths, "--run", "layered", *words], wanted
+
+
+def load(r, paths, texts):
+    """The words of a load, and what the reading says of it."""
+    seed, events, members, raw = r.randrange(2**32), r.randint(0, 200), r.randint(1, 6), r.random() < 0.5
+    words = ["load", paths[0], "--seed", str(seed), "--events", str(events), "--members", str(members), "--run", "layered"]
+    return words + ["--raw"] * raw, running.load(texts[0], seed, events, members, raw)
+
+
+def kept(name, texts):
+    """Keeps the files of a difference, and answers where."""
+    path = os.path.join(tempfile.gettempdir(), name)
+    for ending, text in zip((".layers", ".script"), texts):
+        with open(path + ending, "wb") as file:
+            file.write(text)
+    return path
+
+
 def main():
-    files = sys.argv[1]
+    files = sys.argv[1] if len(sys.argv) > 1 else "library"
     count = int(sys.argv[2]) if len(sys.argv) > 2 else 500
     seed = int(sys.argv[3]) if len(sys.argv) > 3 else 1
-    words = sys.argv[4:] or ["--run", "layered"]
-    mode = "layered" if "layered" in words else "bypass"
+    given = sys.argv[4:]
     r, differences = random.Random(seed), 0
     with tempfile.TemporaryDirectory() as folder:
         paths = [os.path.join(folder, name) for name in ("random.layers", "random.script")]
         for number in range(count):
-            texts = [file_of(r, files), script_of(r, files)]
+            texts = [file_of(r, files), script_of(r)]
             for path, text in zip(paths, texts):
                 with open(path, "wb") as file:
                     file.write(text)
-            wanted = running.replay(*texts, mode, "--wire" in words, "--count" in words)
-            ran = subprocess.run([f"{TOP}/crates/stackc/out/stackc", "replay", *paths, *words], stdout=subprocess.PIPE, stderr=subprocess.PIPE, check=False)
-            got = (ran.stdout.decode(), ran.stderr.decode().strip(), ran.returncode)
-            if files == "counter" and got[1] == "script: later":
-                wanted = ("", got[1], 3) if wanted[2] == 3 else wanted
-            if got != wanted:
-                differences += 1
-                kept = os.path.join(tempfile.gettempdir(), f"differs-{seed}-{number}")
-                for path, text in zip((kept + ".layers", kept + ".script"), texts):
-                    with open(path, "wb") as file:
-                        file.write(text)
-                print(f"{kept}: the program answers {got}, the reading {wanted}"[:2000])
-    print(f"{count} scripts, {differences} differences")
+            for words, wanted in (replay(r, paths, texts, given), load(r, paths, texts)):
+                got = answer(words)
+                if got != wanted:
+                    differences += 1
+                    place = kept(f"differs-{seed}-{number}", texts)
+                    print(f"{place}, {' '.join(words)}: the program answers {got}, the reading {wanted}"[:2000])
+    print(f"{count} scripts and as many loads, {differences} differences")
     sys.exit(1 if differences else 0)
 
 
