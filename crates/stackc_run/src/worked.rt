@@ -16,13 +16,6 @@ const ALIAS: &[u8] =
 const ONE: &[u8] =
     b"layer one { state int s = 4294967295; state queue q[1] of (x: int); header num(v) passes; header full() ends; down Cast(p, m) { push q (s) else { down Cast(p, nothing) with full(); } set s = (s + 1); down Cast(p, m) with num(s); } } stack { one; }";
 
-/// A layer with two common cases.
-const FLIP: &[u8] =
-    b"layer flip { state int k; header a(x) passes; header b(x) passes; down Cast(p, m) { set k = (k + 1); if two ((k & 1) == 1) { down Cast(p, m) with a(k); } else { down Cast(p, m) with b(k); } } } stack { flip; }";
-
-/// A layer that leaves its group.
-const QUIT: &[u8] = b"layer quit { down Leave(x) { up View(0); } } stack { quit; }";
-
 /// A layer that keeps 320 rows for each member of its view.
 const BIG: &[u8] =
     b"layer big { state queue q0[n][64] of (m: msg); state queue q1[n][64] of (m: msg); state queue q2[n][64] of (m: msg); state queue q3[n][64] of (m: msg); state queue q4[n][64] of (m: msg); } stack { big; }";
@@ -64,38 +57,6 @@ fn replayed(alloc: Global, file: &[u8], script: &[u8], more: &[&str]) -> Result<
 }
 
 #[test]
-fn replays_one_layer(rt: HostRuntime) -> Result<(), Fail> {
-    let alloc = rt.alloc();
-    let cases: [(&[u8], &[u8], &[&str], &[u8]); 3] = [
-        (
-            COUNTER,
-            b"group 1 stamp 7 members 3\ncast 0 6869\ngive 1 1\ngive 1 1\nstate 1\n",
-            &["--wire", "--count"],
-            b"packet 1 0 all cnt.num(0) 6869\nwire 1 e50000000100000007000000000000000700ff01000000006869\ndeliver 1 cast 0 6869\ndeliver 1 cast 0 6869\nstate 1 0 7\ncell 1 0 cnt.k 0\ncell 1 0 cnt.e 1 0 0\nend 4\nvisits 3\n",
-        ),
-        (
-            COUNTER,
-            b"group 1 stamp 7 members 3\ncast 2 -\nsend 0 1 61\ngive 1 2\ngive 2 2\ngive 2 1\ngive 3 0\ngive 0 0\n",
-            &[],
-            b"packet 1 2 all cnt.num(0) -\npacket 2 0 1 cnt.none() 61\nrefused 2 sender\nrefused 2 dest\ndeliver 1 send 0 61\nabsent 0 3\nabsent 0 0\nend 7\n",
-        ),
-        (
-            COUNTER,
-            b"group 1 stamp 7 members 3\nraw 1 e4\nraw 1 e40000000100000007000000000000000700ff\nraw 1 e50000000200000008000000000000000700ff\nraw 1 e50000000100000007000000000000000700ff\nraw 1 e60000000100000007000000000000000700fffa\nraw 1 e60000000100000007000000000000000700ff000000\nraw 1 e60000000100000007000000000000000300ff000000\nraw 1 e60000000100000007000000000000000700ff00000000006869\nraw 1 -\n",
-            &[],
-            b"refused 1 short\nrefused 1 form\nrefused 1 group\nrefused 1 chain\nrefused 1 plan\nrefused 1 chain\nrefused 1 view\ndeliver 1 cast 0 6869\nrefused 1 short\nend 9\n",
-        ),
-    ];
-    for (file, script, more, out) in cases {
-        let left = replayed(alloc, file, script, more)?;
-        assert_eq!(rt; left.status, 0);
-        assert_eq!(rt; left.out.as_slice(), out);
-        assert_eq!(rt; left.err.as_slice(), b"".as_slice());
-    }
-    Ok(())
-}
-
-#[test]
 fn replays_stacks(rt: HostRuntime) -> Result<(), Fail> {
     let alloc = rt.alloc();
     let cases: [(&[u8], &[u8], &[&str], &[u8]); 4] = [
@@ -122,44 +83,6 @@ fn replays_stacks(rt: HostRuntime) -> Result<(), Fail> {
             b"group 1 stamp 1 members 1\ncast 0 61\ncast 0 62\nstate 0\n",
             &[],
             b"packet 1 0 all one.num(0) 61\npacket 2 0 all one.full() -\npacket 3 0 all one.num(1) 62\nstate 0 0 1\ncell 0 0 one.s 1\ncell 0 0 one.q [4294967295]\nend 3\n",
-        ),
-    ];
-    for (file, script, more, out) in cases {
-        let left = replayed(alloc, file, script, more)?;
-        assert_eq!(rt; left.status, 0);
-        assert_eq!(rt; left.out.as_slice(), out);
-        assert_eq!(rt; left.err.as_slice(), b"".as_slice());
-    }
-    Ok(())
-}
-
-#[test]
-fn replays_branches_and_loops(rt: HostRuntime) -> Result<(), Fail> {
-    let alloc = rt.alloc();
-    let cases: [(&[u8], &[u8], &[&str], &[u8]); 4] = [
-        (
-            FLIP,
-            b"group 1 stamp 1 members 2\ncast 0 -\ncast 0 -\ncast 0 -\n",
-            &["--count"],
-            b"packet 1 0 all flip.a(1) -\npacket 2 0 all flip.b(2) -\npacket 3 0 all flip.a(3) -\nend 3\nvisits 3\n",
-        ),
-        (
-            QUIT,
-            b"group 1 stamp 1 members 1\nleave 0\ncast 0 61\nstate 0\n",
-            &[],
-            b"announce 0 0\nout 0\nrefused 0 out\nstate 0 out\nend 3\n",
-        ),
-        (
-            b"layer rep { down Cast(p, m) { each i below 2 max 2 { down Cast(p, m); } } } stack { rep; }",
-            b"group 1 stamp 1 members 1\ncast 0 -\ntick 0 5\n",
-            &[],
-            b"packet 1 0 all rep.none() -\npacket 2 0 all rep.none() -\nend 2\n",
-        ),
-        (
-            BIG,
-            b"group 1 stamp 1 members 25\ncast 0 61\n",
-            &[],
-            b"packet 1 0 all big.none() 61\nend 1\n",
         ),
     ];
     for (file, script, more, out) in cases {
