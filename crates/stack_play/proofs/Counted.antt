@@ -1,23 +1,20 @@
 -- What holds between the events of a script whose lines are counted.
-use Rattle.std.proofs.Common.{◌≡◌, ℕ, ◌+◌, ◌<◌, ◌≤◌, List, [], ◌∷◌, ◌++◌, length, take, get_or, refl, sym, ap, ◌∙◌, arith}
+use Rattle.std.proofs.Common.{◌≡◌, ℕ, ◌+◌, ◌<◌, ◌≤◌, List, length, take, get_or, sym, ap, ◌∙◌}
 use Rattle.std.proofs.lemmas.List.{take_all, length-take-le}
-use Rattle.std.specs.Prelude.{Option}
 use Rattle.layer_mean.specs.Tree.{LayerTree}
 use Rattle.script_mean.specs.declared.event.ScriptEvent.{ScriptEvent}
 use Rattle.script_mean.specs.declared.script.Script.{Script}
 use Rattle.stack_mean.specs.Plan.{Plan}
-use Rattle.run_mean.specs.Member.{Output}
-use Rattle.run_mean.specs.Report.{Moment, moments, run_of}
-use Rattle.run_mean.specs.World.{World, first_world, happens}
+use Rattle.run_mean.specs.Report.{moments, run_of}
+use Rattle.run_mean.specs.World.{World, first_world}
 use Rattle.view_core.specs.declared.step.Did.{Did}
 use Rattle.report_text.specs.Counts.{counted, counts_of}
 use Rattle.report_text.specs.declared.counts.Counts.{Counts}
 use Rattle.report_text.proofs.Gained.{counted_moment}
-use Rattle.world_core.specs.Standing.{Stands}
-use Rattle.stack_play.specs.Turns.{IsAtFirst, Keeps, moment_at, IsCounted}
+use Rattle.stack_play.specs.Turns.{Keeps, moment_at, IsCounted}
 use Rattle.stack_play.specs.declared.run.Run.{Run}
 use Rattle.stack_play.proofs.Events.{Happened}
-use Rattle.stack_play.proofs.Held.{StandsAt, stands_first, stands_next}
+use Rattle.stack_play.proofs.Held.{StandsAt, stands_next}
 use Rattle.stack_play.proofs.Moments.{stands_at, front, front_more, moments_length}
 
 -- After k events the lines of each are counted.

@@ -1,21 +1,18 @@
 -- What one event came to.
-use Rattle.std.proofs.Common.{◌≡◌, ℕ, ◌+◌, add-zero, Bool, List, length, map, refl, sym, ap, subst, ◌∙◌}
+use Rattle.std.proofs.Common.{◌≡◌, ℕ, ◌+◌, add-zero, Bool, List, length, refl, sym, ap, subst, ◌∙◌}
 use Rattle.std.proofs.lemmas.List.{length-map}
 use Rattle.std.specs.Prelude.{Result, Ok, Err, slice_index_or, Option, Some, None}
 use Rattle.outside.specs.declared.sink.SinkError.{SinkError}
-use Rattle.outside.specs.declared.sink.SinkError.TheVariants as sink
 use Rattle.job_mean.specs.Job.{layered}
 use Rattle.layer_mean.specs.Tree.{LayerTree}
-use Rattle.layer_mean.specs.State.{State}
 use Rattle.msg_core.specs.declared.packet.Packet.{Packet}
-use Rattle.msg_core.specs.declared.packet.View.{View}
 use Rattle.packet_mean.specs.Spelling.{full_bytes}
 use Rattle.script_mean.specs.Event.{member_of}
 use Rattle.script_mean.specs.declared.event.ScriptEvent.{ScriptEvent}
 use Rattle.script_mean.specs.declared.event.ScriptEvent.TheVariants as script
 use Rattle.stack_mean.specs.Plan.{Plan}
 use Rattle.run_mean.specs.Member.{Member, inside, out, Output, Input, cast, send, leave, tick, datagram, Refusal, Entered, entered}
-use Rattle.run_mean.specs.Report.{Moment, mode_if, moment_lines, visits_in}
+use Rattle.run_mean.specs.Report.{mode_if, moment_lines, visits_in}
 use Rattle.run_mean.specs.World as world
 use Rattle.run_mean.specs.World.{World, Happening, happens, here_of, member_at, packet_number, stepped_inside, stepped_of, given}
 use Rattle.sink_lines.specs.Lines.{Wrote}
@@ -29,7 +26,7 @@ use Rattle.report_text.specs.Told.{told_lines}
 use Rattle.report_text.proofs.Moments.{told_is_moment}
 use Rattle.world_core.specs.Feeding.{IsFed}
 use Rattle.world_core.specs.Standing.{Peopled, Stands}
-use Rattle.stack_play.specs.Turns.{moment_at, IsTold, TellsEvent}
+use Rattle.stack_play.specs.Turns.{moment_at, TellsEvent}
 use Rattle.stack_play.specs.declared.run.Run.{Run}
 
 -- An event happened: the world behind it, and what is told of it.

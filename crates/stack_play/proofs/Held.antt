@@ -1,9 +1,9 @@
 -- What holds between the events of a script that is played.
-use Rattle.std.proofs.Common.{◌≡◌, ℕ, ◌+◌, ◌*◌, ◌<◌, ◌≤◌, Bool, List, [], ◌∷◌, ◌++◌, length, take, get_or, refl, sym, ap, subst, ◌∙◌, append_assoc, append-nil, arith}
+use Rattle.std.proofs.Common.{◌≡◌, ℕ, ◌+◌, ◌*◌, ◌<◌, ◌≤◌, Bool, List, [], ◌∷◌, ◌++◌, length, get_or, sym, ap, subst, ◌∙◌, append-nil, arith}
 use Rattle.std.proofs.lemmas.Grind.{flat_map-append}
 use Rattle.std.proofs.lemmas.List.{take_all}
 use Rattle.std.proofs.lemmas.List.Sums.{fold-append}
-use Rattle.std.specs.List.{flat_map, sum_by, fold}
+use Rattle.std.specs.List.{flat_map, sum_by}
 use Rattle.std.specs.Prelude.{Err}
 use Rattle.outside.specs.declared.sink.SinkError.{SinkError}
 use Rattle.job_mean.specs.Job.{layered}
@@ -43,7 +43,7 @@ pub record Held (stack : List LayerTree) (plans : List Plan) (wire : Bool) (s : 
   pub gained : Gains a b (flat_map (lines_at stack plans wire) (front stack plans s k))
 
 module _ (stack : List LayerTree) (plans : List Plan) (s : Script) where
-  pub stands_first : (r : Run) → IsAtFirst stack plans s r → StandsAt stack plans s 0 r
+  pub stands_first : (r : Run) → IsAtFirst stack plans s.group s.stamp s.members r → StandsAt stack plans s 0 r
   stands_first r first = let none = first.visits in record {
     ready = first.ready;
     count = first.count;
@@ -61,7 +61,7 @@ module _ (stack : List LayerTree) (plans : List Plan) (s : Script) where
   }
 
   module _ (wire : Bool) where
-    pub held_first : (r : Run) (a : Tells) → IsAtFirst stack plans s r → Held stack plans wire s 0 r a a
+    pub held_first : (r : Run) (a : Tells) → IsAtFirst stack plans s.group s.stamp s.members r → Held stack plans wire s 0 r a a
     held_first r a first = record { stands = stands_first r first; visits = first.visits; gained = gains_none a }
 
     module _ (k : ℕ) (event : ScriptEvent) (lt : k < length s.events) (is : event ≡ get_or s.events k event) where

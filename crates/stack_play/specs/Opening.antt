@@ -1,8 +1,7 @@
 -- What opening a run comes to.
-use Rattle.std.specs.Prelude.{◌≡◌, ℕ, ◌<◌, List, length, Result, Ok, Err}
+use Rattle.std.specs.Prelude.{◌≡◌, ℕ, ◌<◌, List, Result, Ok, Err}
 use Rattle.std.specs.Rc.{rc_value}
 use Rattle.layer_mean.specs.Tree.{LayerTree}
-use Rattle.script_mean.specs.declared.script.Script.{Script}
 use Rattle.stack_mean.specs.Acceptance.{rows_of, largest_weight}
 use Rattle.stack_mean.specs.Plans.{plans_of}
 use Rattle.event_graph.specs.Answer.{stack_tree}
@@ -24,16 +23,16 @@ pub record IsPrepared (stack : List LayerTree) (p : Parts) : Type 0 where
   pub entries_are : rc_value p.entries ≡ short_shapes stack (plans_of stack)
   pub places : p.outputs.places ≡ largest_weight stack
 
--- A run at the beginning of a script, whose members have room.
-pub record IsOpen (stack : List LayerTree) (s : Script) (o : Opened) : Type 0 where
+-- A run where a group begins, whose members have room.
+pub record IsOpen (stack : List LayerTree) (group stamp members : ℕ) (o : Opened) : Type 0 where
   pub stack_is : stack_tree (rc_value o.stack) ≡ stack
   pub plans_are : plans_tree (rc_value o.plans) ≡ plans_of stack
-  pub first : IsAtFirst stack (plans_of stack) s o.run
-  pub room : HasRoom stack s.members
+  pub first : IsAtFirst stack (plans_of stack) group stamp members o.run
+  pub room : HasRoom stack members
 
 -- It is open, or its members would keep too many rows, or memory ran out.
-abbrev pub Opens : List LayerTree → Script → Result Opened PlayError → Type 0
-Opens stack s (Ok o) = IsOpen stack s o
-Opens stack s (Err TooManyRows) = most_rows < rows_of stack s.members
-Opens stack s (Err Memory) = Unit {0}
-Opens stack s (Err Failed) = ⊥
+abbrev pub Opens : List LayerTree → (group stamp members : ℕ) → Result Opened PlayError → Type 0
+Opens stack group stamp members (Ok o) = IsOpen stack group stamp members o
+Opens stack group stamp members (Err TooManyRows) = most_rows < rows_of stack members
+Opens stack group stamp members (Err Memory) = Unit {0}
+Opens stack group stamp members (Err Failed) = ⊥

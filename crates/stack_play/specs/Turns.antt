@@ -4,7 +4,6 @@ use Rattle.outside.specs.declared.sink.SinkError.{SinkError}
 use Rattle.msg_core.specs.declared.message.Memory.{Memory}
 use Rattle.layer_mean.specs.Tree.{LayerTree}
 use Rattle.script_mean.specs.declared.event.ScriptEvent.{ScriptEvent}
-use Rattle.script_mean.specs.declared.script.Script.{Script}
 use Rattle.stack_mean.specs.Acceptance.{largest_weight}
 use Rattle.stack_mean.specs.Plan.{Plan}
 use Rattle.job_mean.specs.Job.{layered}
@@ -28,11 +27,11 @@ pub record SomeWorld (r : Run) : Type 0 where
   pub world : World
   pub stands : Stands r.world world
 
--- It is at the beginning of a script.
-pub record IsAtFirst (stack : List LayerTree) (plans : List Plan) (s : Script) (r : Run) : Type 0 where
+-- It is where a group of so many members begins.
+pub record IsAtFirst (stack : List LayerTree) (plans : List Plan) (group stamp members : ℕ) (r : Run) : Type 0 where
   pub ready : IsReady stack plans r
-  pub world : Stands r.world (first_world stack s.group s.stamp s.members)
-  pub count : length r.world.members ≡ s.members
+  pub world : Stands r.world (first_world stack group stamp members)
+  pub count : length r.world.members ≡ members
   pub visits : r.visits ≡ 0
 
 -- An event leaves a run ready, with as many members, and adds few visits.

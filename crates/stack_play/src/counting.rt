@@ -16,7 +16,7 @@ ghost use Rattle.sink_lines.specs.Tells.{tells};
 ghost use Rattle.report_text.specs.Counts.{counts_of, no_counts};
 ghost use Rattle.world_core.specs.Standing.{Stands};
 ghost use Rattle.stack_play.specs.Play.{Plays, most_events};
-ghost use Rattle.stack_play.specs.Turns.{CountsEvent, IsAtFirst, IsReady, Keeps, SomeWorld};
+ghost use Rattle.stack_play.specs.Turns.{CountsEvent, IsAtFirst, IsReady, Keeps};
 
 use crate::error::{PlayError, with_room};
 use crate::opening::open;
@@ -29,6 +29,7 @@ use report_text::{Tally, write_tally};
 use script_mean::{Script, ScriptEvent};
 use std::alloc::Global;
 use step_outputs::an_accepted_stack_is_light;
+use world_core::Feed;
 
 /// Plays a script in the world in which it begins, layer by layer, and writes how many lines of each kind its report has.
 pub fn play_load<O: Sink>(
@@ -44,7 +45,7 @@ pub fn play_load<O: Sink>(
         (tells (O.contents out.old) (O.failures out.old) (O.faults out.old))
         (tells (O.contents out.new) (O.failures out.new) (O.faults out.new)) result }
 {
-    match open(alloc, stack, script) {
+    match open(alloc, stack, script.group, script.stamp, script.members) {
         Ok(opened) => {
             let Opened {
                 stack,
@@ -67,7 +68,7 @@ fn write_counts<O: Sink>(
     script: &Script,
     out: &mut O,
 ) -> Result<(), SinkError>
-    requires first { IsAtFirst (stack_tree stack.now) (plans_tree plans.now) script.now run.old }
+    requires first { IsAtFirst (stack_tree stack.now) (plans_tree plans.now) script.now.group script.now.stamp script.now.members run.old }
     requires runs { IsRunnable script.now }
     requires few { length script.now.events ≤ most_events }
     ensures { Wrote (tally (stack_tree stack.now) (plans_tree plans.now) layered script.now)
@@ -89,7 +90,7 @@ fn count_events(
     script: &Script,
     counts: &mut Tally,
 ) -> Result<(), Memory>
-    requires first { IsAtFirst (stack_tree stack.now) (plans_tree plans.now) script.now run.old }
+    requires first { IsAtFirst (stack_tree stack.now) (plans_tree plans.now) script.now.group script.now.stamp script.now.members run.old }
     requires runs { IsRunnable script.now }
     requires few { length script.now.events ≤ most_events }
     requires nothing { counts.old ≡ no_counts }

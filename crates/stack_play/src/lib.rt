@@ -9,4 +9,6 @@ mod run;
 
 pub use counting::play_load;
 pub use error::PlayError;
+pub use opening::open;
 pub use reporting::play;
+pub use run::{Opened, Run};

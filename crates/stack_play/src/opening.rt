@@ -1,8 +1,7 @@
 //! Runs, and what they begin with.
 
-ghost use Rattle.std.specs.Prelude.{IfOk};
+ghost use Rattle.std.specs.Prelude.{◌≤◌, IfOk};
 ghost use Rattle.chain_laws.specs.Runs.{TypedStack};
-ghost use Rattle.script_mean.specs.Script.{IsRunnable};
 ghost use Rattle.event_graph.specs.Answer.{stack_tree};
 ghost use Rattle.stack_play.specs.Opening.{IsPrepared, Opens};
 
@@ -15,7 +14,6 @@ use file_layer::Maker;
 use msg_core::Memory;
 use packet_plans::Plans;
 use report_text::Pen;
-use script_mean::Script;
 use std::alloc::Global;
 use std::rc::Rc;
 use step_outputs::Outputs;
@@ -38,11 +36,17 @@ fn prepare(alloc: Global, stack: Stack) -> Result<Parts, Memory>
     })
 }
 
-/// Opens the group of a script over a stack.
-pub(crate) fn open(alloc: Global, stack: Stack, script: &Script) -> Result<Opened, PlayError>
+/// Opens a group of so many members over a stack.
+pub fn open(
+    alloc: Global,
+    stack: Stack,
+    group: u32,
+    stamp: u32,
+    members: u8,
+) -> Result<Opened, PlayError>
     requires typed { TypedStack (stack_tree stack) }
-    requires runs { IsRunnable script.now }
-    ensures { Opens (stack_tree stack) script.now result }
+    requires members { (1 ≤ members) × (members ≤ 32) }
+    ensures { Opens (stack_tree stack) group stamp members result }
 {
     let Parts {
         mut maker,
@@ -55,14 +59,7 @@ pub(crate) fn open(alloc: Global, stack: Stack, script: &Script) -> Result<Opene
         Err(Memory) => return Err(PlayError::Memory),
     };
     match World::begin(
-        alloc,
-        &mut maker,
-        &stack,
-        &plans,
-        &entries,
-        script.group,
-        script.stamp,
-        script.members,
+        alloc, &mut maker, &stack, &plans, &entries, group, stamp, members,
     ) {
         Ok(world) => Ok(Opened {
             stack,

@@ -28,6 +28,7 @@ use report_text::{Pen, member_of, write_end, write_event, write_visits};
 use script_mean::{Script, ScriptEvent};
 use std::alloc::Global;
 use step_outputs::an_accepted_stack_is_light;
+use world_core::Feed;
 
 /// Plays a script in the world in which it begins, layer by layer, and writes its report: with the packets' bytes and the number of visits
 /// where these are wanted.
@@ -46,7 +47,7 @@ pub fn play<O: Sink>(
         (tells (O.contents out.old) (O.failures out.old) (O.faults out.old))
         (tells (O.contents out.new) (O.failures out.new) (O.faults out.new)) result }
 {
-    match open(alloc, stack, script) {
+    match open(alloc, stack, script.group, script.stamp, script.members) {
         Ok(opened) => {
             let Opened {
                 stack,
@@ -71,7 +72,7 @@ fn write_report<O: Sink>(
     count: bool,
     out: &mut O,
 ) -> Result<(), SinkError>
-    requires first { IsAtFirst (stack_tree stack.now) (plans_tree plans.now) script.now run.old }
+    requires first { IsAtFirst (stack_tree stack.now) (plans_tree plans.now) script.now.group script.now.stamp script.now.members run.old }
     requires runs { IsRunnable script.now }
     requires few { length script.now.events ≤ most_events }
     ensures { Wrote (output_in (stack_tree stack.now) (plans_tree plans.now) script.now layered wire count)
@@ -113,7 +114,7 @@ fn write_events<O: Sink>(
     wire: bool,
     out: &mut O,
 ) -> Result<(), SinkError>
-    requires first { IsAtFirst (stack_tree stack.now) (plans_tree plans.now) script.now run.old }
+    requires first { IsAtFirst (stack_tree stack.now) (plans_tree plans.now) script.now.group script.now.stamp script.now.members run.old }
     requires runs { IsRunnable script.now }
     requires few { length script.now.events ≤ most_events }
     ensures lines { Wrote (flat_map (moment_lines (stack_tree stack.now) (plans_tree plans.now) (mode_if wire layered))

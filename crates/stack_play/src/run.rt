@@ -21,7 +21,7 @@ pub(crate) struct Parts {
 
 /// A group at work: its outputs are those of the last step, its visits those of all steps. What lines are built in is kept from line to
 /// line.
-pub(crate) struct Run {
+pub struct Run {
     pub world: World,
     pub outputs: Outputs,
     pub visits: u64,
@@ -29,7 +29,7 @@ pub(crate) struct Run {
 }
 
 /// A run with the stack that it is over, and the plans of that.
-pub(crate) struct Opened {
+pub struct Opened {
     pub stack: Rc<Stack>,
     pub plans: Rc<Plans>,
     pub run: Run,

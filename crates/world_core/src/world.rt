@@ -9,7 +9,6 @@ ghost use Rattle.event_graph.specs.Answer.{stack_tree};
 ghost use Rattle.packet_plans.specs.Trees.{plans_tree};
 ghost use Rattle.file_layer.specs.Making.{making};
 ghost use Rattle.entry_shapes.specs.Shapes.{short_shapes};
-ghost use Rattle.script_mean.specs.Event.{member_of};
 ghost use Rattle.run_mean.specs.Member.{out as is_in_none};
 ghost use Rattle.run_mean.specs.World as mean;
 ghost use Rattle.view_core.specs.Steps.{input_meant};
@@ -17,6 +16,7 @@ ghost use Rattle.world_core.specs.Feeding.{Fed};
 ghost use Rattle.world_core.specs.Opening.{Begins};
 ghost use Rattle.world_core.specs.Standing.{Stands, Stays};
 
+use crate::feed::Feed;
 use crate::members::{close_all, open_all};
 use crate::packets::Packets;
 use bypass_member::{Member, OpenError};
@@ -115,42 +115,6 @@ impl World {
         }
     }
 
-    /// One event of a script. Behind it `out` has the outputs of the step alone, and the visits that it made are counted. Where memory runs
-    /// out, the world may only be closed.
-    #[tactic(auto, unfolding(run_mean::specs::World::happens))]
-    pub fn feed(
-        &mut self,
-        event: &ScriptEvent,
-        out: &mut Outputs,
-        visits: &mut u64,
-    ) -> Result<Did, Memory>
-        requires member { member_of event.now < length self.old.members }
-        requires out { out.old.places ≡ largest_weight self.old.stack }
-        requires visits { visits.old ≤ 2 ^ 63 }
-        ensures fed { (w : mean.World) → Stands self.old w →
-            Fed self.old (mean.happens self.old.stack self.old.plans w event.now) self.new out.new.outputs visits.old visits.new result }
-        ensures stays { Stays self.old self.new }
-        ensures places { out.new.places ≡ out.old.places }
-        ensures few { visits.new ≤ visits.old + 65536 }
-    {
-        match event {
-            ScriptEvent::Cast(id, body) => self.step(*id, Input::Cast(body.slice()), out, visits),
-            ScriptEvent::Send(id, to, body) => {
-                self.step(*id, Input::Send(*to, body.slice()), out, visits)
-            }
-            ScriptEvent::Leave(id) => self.step(*id, Input::Leave, out, visits),
-            ScriptEvent::Tick(id, moment) => self.step(*id, Input::Tick(*moment), out, visits),
-            ScriptEvent::Give(number, id) => self.give(*number, *id, out, visits),
-            ScriptEvent::Raw(id, bytes) => {
-                self.step(*id, Input::Datagram(bytes.slice()), out, visits)
-            }
-            ScriptEvent::Show(_) => {
-                out.clear();
-                Ok(Did::Shown)
-            }
-        }
-    }
-
     /// A member is given an input.
     fn step(
         &mut self,
@@ -205,14 +169,6 @@ impl World {
         }
     }
 
-    /// The number that the next packet gets.
-    pub fn next_number(&self) -> u64
-        ensures number { result ≡ length self.now.spelled + 1 }
-        ensures small { result ≤ 2 ^ 63 }
-    {
-        self.packets.len() as u64 + 1
-    }
-
     /// A member, shown.
     pub fn shown(&self, member: u8) -> Shown<'_>
         requires { member < length self.now.members }
@@ -232,5 +188,38 @@ impl World {
             packets: _,
         } = self;
         close_all(members);
+    }
+}
+
+impl Feed for World {
+    ghost group = { λ w. w };
+
+    #[tactic(auto, unfolding(run_mean::specs::World::happens))]
+    fn feed(
+        &mut self,
+        event: &ScriptEvent,
+        out: &mut Outputs,
+        visits: &mut u64,
+    ) -> Result<Did, Memory> {
+        match event {
+            ScriptEvent::Cast(id, body) => self.step(*id, Input::Cast(body.slice()), out, visits),
+            ScriptEvent::Send(id, to, body) => {
+                self.step(*id, Input::Send(*to, body.slice()), out, visits)
+            }
+            ScriptEvent::Leave(id) => self.step(*id, Input::Leave, out, visits),
+            ScriptEvent::Tick(id, moment) => self.step(*id, Input::Tick(*moment), out, visits),
+            ScriptEvent::Give(number, id) => self.give(*number, *id, out, visits),
+            ScriptEvent::Raw(id, bytes) => {
+                self.step(*id, Input::Datagram(bytes.slice()), out, visits)
+            }
+            ScriptEvent::Show(_) => {
+                out.clear();
+                Ok(Did::Shown)
+            }
+        }
+    }
+
+    fn next_number(&self) -> u64 {
+        self.packets.len() as u64 + 1
     }
 }

@@ -1,8 +1,5 @@
-use Rattle.std.proofs.Common.{ap, sym, subst}
-use Rattle.std.specs.Rc.{rc_value}
 use Rattle.event_graph.specs.Answer.{stack_tree}
 use Rattle.job_mean.specs.Job.{layered}
-use Rattle.packet_plans.specs.Trees.{plans_tree}
 use Rattle.run_mean.specs.Tally.{tally}
 use Rattle.stack_mean.specs.Plans.{plans_of}
 use Rattle.stack_play.proofs.Outputs.{plays}

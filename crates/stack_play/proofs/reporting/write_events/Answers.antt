@@ -1,4 +1,4 @@
-use Rattle.std.proofs.Common.{◌<◌, ◌≡◌, ◌∙◌, length, get_or, ap, arith}
+use Rattle.std.proofs.Common.{◌<◌, ◌∙◌, length, get_or, ap, arith}
 use Rattle.std.proofs.lemmas.Result.{err_from_is_err_and}
 use Rattle.event_graph.specs.Answer.{stack_tree}
 use Rattle.packet_plans.specs.Trees.{plans_tree}
