@@ -22,7 +22,7 @@ pub enum Delivery {
 }
 
 /// Appends a word, and a number of 32 bits behind a space.
-fn push_word(line: &mut Line, word: &[u8], id: u8) -> Result<(), Memory>
+pub(crate) fn push_word(line: &mut Line, word: &[u8], id: u8) -> Result<(), Memory>
     ensures { OnOk result (line.new ≡ line.old ++ word.now ++ codes " " ++ decimal id) }
 {
     line.text(word)?;
@@ -225,7 +225,7 @@ pub fn absent_line(line: &mut Line, id: u8, number: u32) -> Result<(), Memory>
 }
 
 /// `WORD N`
-fn count_line(line: &mut Line, word: &[u8], count: u64) -> Result<(), Memory>
+pub(crate) fn count_line(line: &mut Line, word: &[u8], count: u64) -> Result<(), Memory>
     ensures { OnOk result (line.new ≡ line.old ++ report.line (word.now ∷ decimal count ∷ [])) }
 {
     line.text(word)?;

@@ -21,7 +21,7 @@ use Rattle.view_core.specs.declared.step.Stepped.TheVariants.{Taken, Refused}
 use Rattle.report_text.specs.Told.{AreFull, annex_of, change_lines, taken_lines, told_lines}
 
 -- the line of where a member is then
-changes_told : (id : ℕ) (installs : Option Member) → change_lines id (changed installs) ≡ map (installed_line id) (option_to_list installs)
+pub changes_told : (id : ℕ) (installs : Option Member) → change_lines id (changed installs) ≡ map (installed_line id) (option_to_list installs)
 changes_told id None = refl
 changes_told id (Some (inside view states)) = refl
 changes_told id (Some out) = refl

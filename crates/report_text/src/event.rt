@@ -62,7 +62,7 @@ fn build_change(line: &mut Line, id: u8, change: Change) -> Result<(), Memory>
 }
 
 /// Puts the line of where a member is behind a step, if it installed something.
-fn write_change<O: Sink>(
+pub fn write_change<O: Sink>(
     pen: &mut Pen,
     id: u8,
     change: Option<Change>,
@@ -101,7 +101,7 @@ fn write_taken<O: Sink>(
 }
 
 /// Puts the line of a refusal.
-fn write_refusal<O: Sink>(
+pub fn write_refusal<O: Sink>(
     pen: &mut Pen,
     id: u8,
     refusal: Refusal,

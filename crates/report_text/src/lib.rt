@@ -11,7 +11,8 @@ mod state;
 mod tally;
 
 pub use counts::Counts;
-pub use event::{member_of, write_end, write_event, write_visits};
+pub use event::{member_of, write_change, write_end, write_event, write_refusal, write_visits};
 pub use laws::{counted_is_the_tally, counted_with_the_moment, told_in_full, told_is_the_moment};
+pub use output::{number_behind, put_output};
 pub use pen::Pen;
 pub use tally::{Tally, write_tally};

@@ -56,8 +56,8 @@ fn build_output(
     Ok(true)
 }
 
-/// Puts the line of an output, if it has one.
-fn put_output<O: Sink>(
+/// Puts the line of an output, if it has one. A packet's line has this number.
+pub fn put_output<O: Sink>(
     pen: &mut Pen,
     stack: &Stack,
     here: &Here,
@@ -141,8 +141,8 @@ fn write_output<O: Sink>(
     }
 }
 
-/// The number of the next packet behind an output.
-fn behind(_here: &Here, number: u64, output: &OutputView<'_>) -> u64
+/// The number of the next packet behind an output: one more behind a packet, and behind all others the same.
+pub fn number_behind(_here: &Here, number: u64, output: &OutputView<'_>) -> u64
     requires { number + 1 < 2 ^ 64 }
     ensures is { result ≡ number_behind number (output_meant _here.now output.now).0 }
     ensures few { result ≤ number + 1 }
@@ -173,7 +173,7 @@ pub(crate) fn write_outputs<O: Sink>(
     for k in 0..outputs.len() {
         let output = outputs.at(k);
         write_output(pen, stack, &here, id, number, &output, wire, out)?;
-        number = behind(&here, number, &output);
+        number = number_behind(&here, number, &output);
     }
     Ok(())
 }

@@ -15,8 +15,8 @@ loop-k-preserved g c =
           c.loop-k.invariant.gained c.in_ok-write_output.ensures c.loop-k.invariant.numbered
           (omega (arith, c.loop-k-test.true, c.len-k-end.ensures)) at;
       numbered = number_more c.args.outputs.now.outputs c.args.first c.loop-k.k c.loop-k.number _ _
-          c.loop-k.invariant.numbered c.behind-number.ensures.is (omega (arith, c.loop-k-test.true, c.len-k-end.ensures)) at;
-      few = omega (arith, c.behind-number.ensures.few, c.loop-k.invariant.few);
+          c.loop-k.invariant.numbered c.number_behind-number.ensures.is (omega (arith, c.loop-k-test.true, c.len-k-end.ensures)) at;
+      few = omega (arith, c.number_behind-number.ensures.few, c.loop-k.invariant.few);
     }
 
 pub returns-in_err-write_output : goal.returns-in_err-write_output
