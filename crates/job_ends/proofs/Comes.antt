@@ -1,5 +1,5 @@
 -- What a job comes to, from what was read and written.
-use Rattle.std.proofs.Common.{arith, ◌≡◌, refl, sym, ◌∙◌, ap, ℕ, zero, suc, ◌<◌, List, [], ◌∷◌, length, append-nil, Option, Some, None, inl, inr}
+use Rattle.std.proofs.Common.{arith, ◌≡◌, refl, sym, ◌∙◌, ap, ℕ, zero, suc, ◌<◌, List, [], ◌∷◌, length, append-nil, Option, Some, None, inr}
 use Rattle.std.specs.Prelude.{IfSome, IsSomeAnd}
 use Rattle.std.specs.List.{concat}
 use Rattle.std.specs.Option.{option_map}

@@ -1,5 +1,5 @@
 -- How a job ended, as a run of the program.
-use Rattle.std.proofs.Common.{◌≡◌, refl, sym, subst, ◌∙◌, ap, ℕ, List, [], ◌∷◌, ◌++◌, append-nil, Option, Some, None, inl, inr}
+use Rattle.std.proofs.Common.{◌≡◌, refl, sym, subst, ◌∙◌, ℕ, List, [], ◌∷◌, ◌++◌, append-nil, Option, Some, None, inl, inr}
 use Rattle.std.specs.List.{concat}
 use Rattle.std.specs.Prelude.{IfSome, IsSomeAnd, ◌⊎◌}
 use Rattle.outside.specs.Count.{Rose}
@@ -12,7 +12,7 @@ use Rattle.layer_mean.specs.Tree.{LayerTree}
 use Rattle.job_mean.specs.Job.{Job, check, synth, replay, load, node, audit, job_of_words}
 use Rattle.job_mean.specs.Status.{Ended, done, breached, file_refused, report_refused, words_refused, second_refused, read_failed, write_failed, link_failed, no_memory, status_number, error_line}
 use Rattle.program_mean.specs.Judged.{IsGood}
-use Rattle.program_mean.specs.Headline.{Run, second_for, OfJob, ReadsStack, IsNoReport, whole_end, WritesOf, WritesWhole, WroteNothing, Began, Ends, Says, whole, cut_off, out_of_memory}
+use Rattle.program_mean.specs.Headline.{second_for, OfJob, ReadsStack, IsNoReport, whole_end, WritesOf, WritesWhole, WroteNothing, Began, Ends, Says, whole, cut_off, out_of_memory}
 use Rattle.program_mean.specs.Judged.{Means}
 use Rattle.program_mean.specs.Second.{second_fault}
 use Rattle.sink_lines.specs.Tells.{Tells}
@@ -35,7 +35,7 @@ pub record Reached (words : List Text) (job : Option Job) (a : Around) (end : En
   pub ends : (print : List LayerTree → List ℕ) (e : Errors) (said : List ℕ) → Ends print (run_of words a e file second written said) end
 
 -- a sink that is as it was gained nothing
-same_gained : (old new : Tells) → new ≡ old → Appends old.contents new.contents []
+pub same_gained : (old new : Tells) → new ≡ old → Appends old.contents new.contents []
 same_gained old new same = subst (λ t. Appends old.contents t.contents []) (sym same) (appends_none old.contents)
 
 -- an audit has no second file
@@ -240,10 +240,10 @@ jobless_reached words a is no_memory n = record {
 jobless_reached words a is _ n = absurd n
 
 -- what was said of an end
-record Spoke (words : List Text) (a : Around) (e : Errors) (file second : Option (List ℕ)) (written : List ℕ) (end : Ended) : Type 0 where
-  said : List ℕ
-  heard : Appends e.before.contents e.after.contents said
-  says : Says (run_of words a e file second written said) end
+pub record Spoke (words : List Text) (a : Around) (e : Errors) (file second : Option (List ℕ)) (written : List ℕ) (end : Ended) : Type 0 where
+  pub said : List ℕ
+  pub heard : Appends e.before.contents e.after.contents said
+  pub says : Says (run_of words a e file second written said) end
 
 line_spoke : (words : List Text) (a : Around) (e : Errors) (file second : Option (List ℕ)) (written : List ℕ) (end : Ended) →
     SaysLine (error_line end) (status_number end) e → Spoke words a e file second written end
@@ -263,7 +263,7 @@ line_spoke words a e file second written end (said.no_memory begun is) = let f =
   says = out_of_memory (record { rest = f.1; is = f.3 }) is;
 }
 
-spoke : (words : List Text) (a : Around) (e : Errors) (file second : Option (List ℕ)) (written : List ℕ) (end : Ended) → Said end e →
+pub spoke : (words : List Text) (a : Around) (e : Errors) (file second : Option (List ℕ)) (written : List ℕ) (end : Ended) → Said end e →
     Spoke words a e file second written end
 spoke words a e file second written done s = record {
   said = [];

@@ -1,5 +1,5 @@
 -- When each status is due, but for want of memory.
-use Rattle.std.specs.Prelude.{◌≡◌, ◌⊎◌, ℕ, Option, Some}
+use Rattle.std.specs.Prelude.{◌≡◌, ◌⊎◌, ℕ, Some}
 use Rattle.outside.specs.Count.{Rose}
 use Rattle.outside.specs.Shelf.{Shelved}
 use Rattle.job_mean.specs.Job.{Job}

@@ -1,5 +1,5 @@
 -- A run of the program as the definitions see it.
-use Rattle.std.specs.Prelude.{◌≡◌, ℕ, List, [], Option, IfSome}
+use Rattle.std.specs.Prelude.{ℕ, List, [], Option, IfSome}
 use Rattle.std.specs.Io.KnownBytes.{Appends}
 use Rattle.clap.specs.Walk.{Text}
 use Rattle.layer_mean.specs.Tree.{LayerTree}

@@ -29,6 +29,8 @@ pub enum Ending {
     Read,
     /// The output couldn't be written.
     Write,
+    /// A member couldn't listen to the network, or more receives failed than are borne.
+    Link,
     /// Memory ran out.
     Memory,
 }

@@ -43,6 +43,7 @@ pub fn say<E: Sink>(alloc: Global, ending: Ending, err: &mut E) -> u8
         Ending::TooManyRows => say_line(b"script: rows\n", SECOND_REFUSED, err),
         Ending::Read => say_line(b"read fault\n", 4, err),
         Ending::Write => say_line(b"write fault\n", 5, err),
+        Ending::Link => say_line(b"link fault\n", 6, err),
         Ending::Memory => say_line(b"no memory\n", NO_MEMORY, err),
     }
 }

@@ -1,6 +1,6 @@
 //! The job of what was given.
 
-ghost use Rattle.std.specs.Prelude.{◌≡◌, IfOk, option_map};
+ghost use Rattle.std.specs.Prelude.{◌≡◌, IfOk, option_map, ◌≤◌, IfSome, length};
 ghost use Rattle.job_mean.specs.Job as spec;
 ghost use Rattle.job_text.specs.Shown.{node_of, shown_given, shown_job, shown_mode, text};
 
@@ -114,6 +114,7 @@ fn node<'w>(alloc: Global, given: &Given<'w>) -> Result<Option<Job<'w>>, AllocEr
 
 /// The job of a node whose own members are read.
 fn node_of<'w>(given: &Given<'w>, members: Option<Vec<u32>>) -> Option<Job<'w>>
+    requires few { IfSome members (λ m. length m.items ≤ 32) }
     ensures { option_map shown_job result ≡ node_of (shown_given given.now) (option_map (λ m. m.items) members) }
 {
     let plan = given.second?;

@@ -1,6 +1,6 @@
 //! The jobs of the program.
 
-ghost use Rattle.std.specs.Prelude.{◌≤◌};
+ghost use Rattle.std.specs.Prelude.{◌≤◌, length};
 
 use audit_mean::Law;
 
@@ -61,11 +61,12 @@ pub struct Node<'w> {
     pub plan: &'w str,
     /// How many turns are made, at most 1,000,000.
     pub turns: u32,
-    /// The ids of the own members, 0 to 31, ascending.
+    /// The ids of the own members, 0 to 31, ascending, and so at most 32.
     pub members: Vec<u32>,
     /// How many failed receives are borne, at most 1,000.
     pub patience: u32,
     pub mode: Mode,
+    ghost few: { length members.items ≤ 32 },
 }
 
 /// Judges a law of the group on a report.

@@ -1,7 +1,7 @@
 //! Numbers in words, and lists of members.
 #![tactic(auto, using(crate::proofs::Bounds::within_bounds))]
 
-ghost use Rattle.std.specs.Prelude.{◌≡◌, ◌≤◌, IfOk, IfSome, ◌==◌, nat_lt, option_map};
+ghost use Rattle.std.specs.Prelude.{◌≡◌, ◌≤◌, IfOk, IfSome, ◌==◌, length, nat_lt, option_map};
 ghost use Rattle.std.specs.List.{list_all, slice_split};
 ghost use Rattle.script_mean.specs.Words as words;
 ghost use Rattle.job_mean.specs.Job as spec;
@@ -33,7 +33,8 @@ pub(crate) fn some_members(
     alloc: Global,
     given: Option<&str>,
 ) -> Result<Option<Vec<u32>>, AllocError>
-    ensures { IfOk result (λ members. option_map (λ m. m.items) members ≡ spec.some_members (text given.entry)) }
+    ensures are { IfOk result (λ members. option_map (λ m. m.items) members ≡ spec.some_members (text given.entry)) }
+    ensures few { IfOk result (λ members. IfSome members (λ m. length m.items ≤ 32)) }
 {
     let Some(text) = given else {
         return Ok(None);

@@ -5,5 +5,5 @@ use Rattle.job_text.proofs.jobs.node.Goals as goal
 
 pub returns : goal.returns
 returns c =
-    c.node_of.ensures ∙ ap (node_of (shown_given c.args.given.now)) c.in_ok-members.ensures
+    c.node_of.ensures ∙ ap (node_of (shown_given c.args.given.now)) c.in_ok-members.ensures.are
     ∙ goes_on _ _ (search rules)
