@@ -1,13 +1,13 @@
 -- A script that is read or made has few events.
-use Rattle.std.proofs.Common.{◌≡◌, refl, sym, ◌∙◌, ap, ℕ, zero, suc, ◌+◌, ◌<◌, ◌≤◌, Bool, true, false, List, [], ◌∷◌, ◌++◌, length, length-append, arith}
-use Rattle.std.specs.Prelude.{Result, Ok, Err, Option, Some, None, ◌||◌, nat_lt, count_by, if◌then◌else◌}
+use Rattle.std.proofs.Common.{◌≡◌, refl, sym, ◌∙◌, ap, ℕ, zero, suc, ◌<◌, ◌≤◌, Bool, true, false, List, [], ◌∷◌, length, length-append, arith}
+use Rattle.std.specs.Prelude.{Result, Ok, Err, ◌||◌, nat_lt, if◌then◌else◌}
 use Rattle.std.specs.List.{enumerate_from}
 use Rattle.std.proofs.lemmas.Bool.{ltb-false}
 use Rattle.std.proofs.lemmas.List.FromFn.{length-enumerate_from}
 use Rattle.std.proofs.lemmas.List.Splits.{length-slice_split}
 use Rattle.std.proofs.lemmas.List.Sums.{length-filter, count_by-le-length}
 use Rattle.script_mean.specs.Event.{group_line, said_by}
-use Rattle.script_mean.specs.Generate.{generate, generated, an_event, with_event}
+use Rattle.script_mean.specs.Generate.{generate, generated, an_event}
 use Rattle.script_mean.specs.Lines.{is_line_feed, lines_of, line_count, is_too_long, says_nothing, said_lines}
 use Rattle.script_mean.specs.Script.{ScriptFault, ◌>>=◌, too_long, script_of, script_of_lines, in_form, event_of, events_of}
 use Rattle.script_mean.specs.declared.event.ScriptEvent.{ScriptEvent}

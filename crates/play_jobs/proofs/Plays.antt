@@ -1,5 +1,5 @@
 -- What a replay and a load come to whose run came to something.
-use Rattle.std.proofs.Common.{◌≡◌, refl, sym, ◌∙◌, ap, ℕ, ◌<◌, List, [], Option, Some, inl, inr, Bool, true, false, arith}
+use Rattle.std.proofs.Common.{◌≡◌, refl, ◌∙◌, ap, ℕ, ◌<◌, List, [], Some, inl, inr, Bool, true, false, arith}
 use Rattle.std.specs.Prelude.{Result, Ok, Err, None, nat_le, if◌then◌else◌}
 use Rattle.std.specs.Option.{option_map}
 use Rattle.std.proofs.lemmas.Bool.{leb-true}
@@ -7,11 +7,12 @@ use Rattle.clap.specs.Walk.{Text}
 use Rattle.outside.specs.Shelf.{after_read}
 use Rattle.layer_mean.specs.Tree.{LayerTree}
 use Rattle.script_mean.specs.Generate.{generate}
+use Rattle.script_mean.specs.Script.{IsRunnable, script_of}
 use Rattle.script_mean.specs.declared.script.Script.{Script}
 use Rattle.stack_mean.specs.Acceptance.{rows_of}
 use Rattle.stack_mean.specs.Plans.{plans_of}
-use Rattle.job_mean.specs.Job.{Job, layered, replay, load}
-use Rattle.job_mean.specs.Status.{Ended, done, write_failed, no_memory, too_many_rows}
+use Rattle.job_mean.specs.Job.{layered, replay, load}
+use Rattle.job_mean.specs.Status.{done, write_failed, no_memory, too_many_rows}
 use Rattle.run_mean.specs.Report.{output_in}
 use Rattle.run_mean.specs.Tally.{tally}
 use Rattle.program_mean.specs.Output.{most_rows, HasRoom}
@@ -19,7 +20,7 @@ use Rattle.program_mean.specs.Second.{crowded, after_script}
 use Rattle.job_ends.specs.Comes.{Around, Good, Comes}
 use Rattle.job_ends.proofs.Comes.{written}
 use Rattle.file_jobs.specs.Stack.{IsStack}
-use Rattle.play_jobs.specs.Script.{IsScript}
+use Rattle.play_jobs.specs.Second.{IsSpelled}
 use Rattle.stack_play.specs.Play.{Plays}
 use Rattle.play_jobs.specs.Ends.{end_of}
 use Rattle.stack_play.specs.declared.error.PlayError.{PlayError}
@@ -33,7 +34,7 @@ too_many stack members more = go (nat_le (rows_of stack members) most_rows) refl
   go false is = refl
 
 module _ (name script : Text) (wire count : Bool) (a : Around) (between : ℕ) (stack : List LayerTree) (s : Script)
-    (f : IsStack name a.told a.reads between stack) (t : IsScript script (option_map after_read a.told) between a.reads_after s) where
+    (f : IsStack name a.told a.reads between stack) (t : IsSpelled script_of IsRunnable script (option_map after_read a.told) between a.reads_after s) where
   abbrev lines : List (List ℕ)
   lines = output_in stack (plans_of stack) s layered wire count
 
@@ -44,7 +45,7 @@ module _ (name script : Text) (wire count : Bool) (a : Around) (between : ℕ) (
     found = f.found;
     beside = t.found;
     lines = lines;
-    output = record { stack = stack; means = f.means; script = s; spelled = t.spelled; room = room; written = refl };
+    output = record { stack = stack; means = f.means; script = s; spelled = t.spells; room = room; written = refl };
   }
 
   pub replay_comes : (run : Result (Unit {0}) PlayError) → Plays stack s.members lines a.output a.output_after run →
@@ -59,7 +60,7 @@ module _ (name script : Text) (wire count : Bool) (a : Around) (between : ℕ) (
       beside = t.found;
       stack = stack;
       means = f.means;
-      refused = ap (after_script stack) t.spelled ∙ too_many stack s.members p.0;
+      refused = ap (after_script stack) t.spells ∙ too_many stack s.members p.0;
     };
     sound = t.sound ∙ f.sound;
     untouched = p.1;

@@ -1,37 +1,79 @@
--- How a job ends at its script.
-use Rattle.std.proofs.Common.{◌≡◌, refl, sym, ◌∙◌, ap, ℕ, ◌<◌, List, length, Option, Some, None, inl, inr}
-use Rattle.std.specs.Prelude.{IfSome, IsSomeAnd, Err, Ok, ◌||◌, nat_lt, if◌then◌else◌}
+-- How a job ends at its second file.
+use Rattle.std.proofs.Common.{◌≡◌, ◌∙◌, ap, ℕ, ◌<◌, List, length, Option, inl, inr}
+use Rattle.std.specs.Prelude.{IfSome, IsSomeAnd, Result, Err, Ok, ◌||◌, nat_lt, if◌then◌else◌}
 use Rattle.std.specs.Option.{option_map}
 use Rattle.std.proofs.lemmas.Bool.{lt-ltb}
 use Rattle.clap.specs.Walk.{Text}
 use Rattle.outside.specs.Count.{Rose}
 use Rattle.outside.specs.Shelf.{Shelved, found_in, after_read}
 use Rattle.layer_mean.specs.Tree.{LayerTree}
-use Rattle.script_mean.specs.Lines.{line_count, said_lines}
-use Rattle.script_mean.specs.Script.{ScriptFault, too_long, script_of, script_of_lines}
-use Rattle.job_mean.specs.Job.{Job, Mode, replay}
-use Rattle.std.proofs.Common.{Bool, subst}
-use Rattle.job_mean.specs.Status.{Ended, second_refused, read_failed, no_memory, misspelled}
+use Rattle.script_mean.specs.Lines.{is_too_long, line_count, said_lines}
+use Rattle.script_mean.specs.Script.{ScriptFault, too_long, bad_line, no_member, script_of, script_of_lines}
+use Rattle.script_text.specs.Answer.{Answers}
+use Rattle.script_text.specs.declared.error.ScriptError.{ScriptError}
+use Rattle.script_text.specs.declared.error.ScriptError.TheVariants.{TooLong, BadLine, NoMember, Memory}
+use Rattle.job_mean.specs.Job.{Mode, replay}
+use Rattle.std.proofs.Common.{Bool, true, subst}
+use Rattle.job_mean.specs.Status.{Ended, second_refused, read_failed, no_memory, misspelled, too_many_rows}
 use Rattle.program_mean.specs.Second.{after_script}
 use Rattle.job_ends.specs.Comes.{Around, Comes}
 use Rattle.job_ends.proofs.Comes.{longer}
 use Rattle.file_jobs.specs.Stack.{IsStack}
-use Rattle.play_jobs.specs.Script.{IsRefused, StopsAt}
+use Rattle.job_ends.specs.Shown.{shown}
+use Rattle.job_ends.specs.declared.ending.Ending.{Ending}
+use Rattle.play_jobs.specs.Second.{IsText, IsLarge, Unread, StopsAt, Fetches, Refused, Judges, refused_as}
 
 -- A text of too many bytes.
-pub large_script : (name : Text) (told : Option Shelved) (reads reads_after : ℕ) →
+pub large : (name : Text) (told : Option Shelved) (reads reads_after : ℕ) →
     IfSome told (λ shelf. IsSomeAnd (found_in shelf name) (λ text. 4194304 < length text)) → reads_after ≡ reads →
-    IsRefused name told reads reads_after too_long
-large_script name told reads reads_after h sound = let l = longer told name 4194304 h in record {
-  text = l.0;
-  found = l.1;
-  refused = ap (λ b. if b || nat_lt 100000 (line_count l.0) then Err too_long else script_of_lines (said_lines l.0)) (lt-ltb 4194304 (length l.0) l.2);
-  sound = sound;
-}
+    IsLarge name told reads reads_after
+large name told reads reads_after h sound =
+    let l = longer told name 4194304 h in record { text = l.0; large = l.2; is = record { found = l.1; sound = sound } }
+
+-- It is refused.
+pub too_large : (text : List ℕ) → 4194304 < length text → is_too_long text ≡ true
+too_large text more = ap (λ b. b || nat_lt 100000 (line_count text)) (lt-ltb 4194304 (length text) more)
+
+pub large_script : (text : List ℕ) → 4194304 < length text → script_of text ≡ Err too_long
+large_script text more = ap (λ b. if b then Err too_long else script_of_lines (said_lines text)) (too_large text more)
+
+-- A job that stopped as it read its second file stopped at it.
+pub stops_unread : {A : Type 0} (spelled : List ℕ → Result A ScriptFault) → ((text : List ℕ) → 4194304 < length text → spelled text ≡ Err too_long) →
+    (name : Text) (told : Option Shelved) (reads reads_after : ℕ) (end : Ended) → Unread name told reads reads_after end →
+    StopsAt spelled name told reads reads_after end
+stops_unread spelled long name told reads reads_after (second_refused (misspelled too_long)) l =
+    record { text = l.text; found = l.is.found; refused = long l.text l.large; sound = l.is.sound }
+stops_unread spelled long name told reads reads_after (second_refused (misspelled (bad_line line))) l = absurd l
+stops_unread spelled long name told reads reads_after (second_refused (misspelled (no_member line))) l = absurd l
+stops_unread spelled long name told reads reads_after (second_refused too_many_rows) l = absurd l
+stops_unread spelled long name told reads reads_after read_failed l = l
+stops_unread spelled long name told reads reads_after no_memory l = l
+stops_unread spelled long name told reads reads_after _ l = absurd l
+
+-- A text that a reader refuses.
+pub refused_so : {A : Type 0} (spelled : List ℕ → Result A ScriptFault) (text : List ℕ) (error : ScriptError) → Answers (spelled text) (Err error) →
+    Refused spelled text (refused_as error)
+refused_so spelled text TooLong is = is
+refused_so spelled text (BadLine line) is = is
+refused_so spelled text (NoMember line) is = is
+refused_so spelled text Memory is = tt
+
+-- What was read and judged.
+pub fetches : {A : Type 0} (spelled : List ℕ → Result A ScriptFault) (Runs : A → Type 0) (name : Text) (told : Option Shelved)
+    (reads reads_after : ℕ) (text : List ℕ) (r : Result A Ending) → IsText name told reads reads_after text → Judges spelled Runs text r →
+    Fetches spelled Runs name told reads reads_after r
+fetches spelled Runs name told reads reads_after text (Ok value) t j =
+    record { text = text; found = t.found; spells = j.0; runs = j.1; sound = t.sound }
+fetches spelled Runs name told reads reads_after text (Err ending) t j = refused (shown ending) j where
+  refused : (end : Ended) → Refused spelled text end → StopsAt spelled name told reads reads_after end
+  refused (second_refused (misspelled fault)) j = record { text = text; found = t.found; refused = j; sound = t.sound }
+  refused (second_refused too_many_rows) j = absurd j
+  refused no_memory j = tt
+  refused _ j = absurd j
 
 -- A replay whose file is good and that stopped at its script came to that.
 pub stops : (name script : Text) (mode : Mode) (wire count : Bool) (a : Around) (between : ℕ) (stack : List LayerTree) (end : Ended) →
-    IsStack name a.told a.reads between stack → StopsAt script (option_map after_read a.told) between a.reads_after end →
+    IsStack name a.told a.reads between stack → StopsAt script_of script (option_map after_read a.told) between a.reads_after end →
     a.output_after ≡ a.output → Comes (replay name script mode wire count) a end
 stops name script mode wire count a between stack (second_refused (misspelled fault)) f s same = record {
   cause = record {

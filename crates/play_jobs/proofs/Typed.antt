@@ -1,15 +1,14 @@
 -- What a file means is typed.
-use Rattle.std.proofs.Common.{◌≡◌, refl, sym, ◌∙◌, subst, Bool, true, false, ℕ, List, Option, Some, None}
-use Rattle.std.specs.Prelude.{Result, Ok, Err, nat_lt, if◌then◌else◌}
+use Rattle.std.proofs.Common.{◌≡◌, refl, subst, Bool, true, false, ℕ, List, Option, Some, None}
+use Rattle.std.specs.Prelude.{Ok, Err, nat_lt, if◌then◌else◌}
 use Rattle.layer_mean.specs.Tree.{LayerTree}
 use Rattle.file_faults.specs.Faults as faults
 use Rattle.file_faults.specs.FileFault.{file_fault}
 use Rattle.file_mean.specs.Stack.{stack_of}
 use Rattle.stack_mean.specs.Graph.{Node, first_on_cycle}
-use Rattle.stack_mean.specs.Acceptance.{Refusal, too_many, too_many_joins, held_at_most, without_cycle, largest_weight, largest_joins, weight_limit, joins_limit}
+use Rattle.stack_mean.specs.Acceptance.{too_many, too_many_joins, held_at_most, without_cycle, largest_weight, largest_joins, weight_limit, joins_limit}
 use Rattle.chain_laws.specs.Runs.{TypedStack}
 use Rattle.file_laws.proofs.Texts.{texts_are_typed}
-use Rattle.job_mean.specs.Status.{FileFault}
 use Rattle.layer_ast.specs.Tree.{FileTree}
 use Rattle.program_mean.specs.Judged.{Means, judged_by, said_accepted}
 

@@ -1,2 +1,2 @@
-pub mod Script
+pub mod Second
 pub mod Ends

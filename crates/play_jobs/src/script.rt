@@ -1,15 +1,14 @@
 //! Scripts, read from a shelf and judged.
 
-ghost use Rattle.play_jobs.specs.Script.{Fetches, Judges};
+ghost use Rattle.script_mean.specs.Script.{IsRunnable, script_of};
+ghost use Rattle.play_jobs.specs.Second.{Fetches, Judges};
 
+use crate::second::{fetch_second, refusal};
 use job_ends::Ending;
-use outside::{Got, Shelf, ShelfError};
+use outside::Shelf;
 use script_mean::Script;
-use script_text::{ScriptError, read_script};
+use script_text::read_script;
 use std::alloc::Global;
-
-/// The most bytes of a script.
-const MOST_SCRIPT: u64 = 4_194_304;
 
 /// Reads a script, or finds how the job ends.
 pub(crate) fn fetch_script<S: Shelf>(
@@ -17,26 +16,20 @@ pub(crate) fn fetch_script<S: Shelf>(
     name: &str,
     shelf: &mut S,
 ) -> Result<Script, Ending>
-    ensures { Fetches name.now (S.told shelf.old) (S.faults shelf.old) (S.faults shelf.new) result }
+    ensures { Fetches script_of IsRunnable name.now (S.told shelf.old) (S.faults shelf.old) (S.faults shelf.new) result }
 {
-    let mut text = Vec::new(alloc);
-    match shelf.read(name, &mut text, MOST_SCRIPT) {
-        Ok(Got::Whole) => judged(alloc, &text),
-        Ok(Got::TooLong) => Err(Ending::SecondTooLong),
-        Err(ShelfError::Failed) => Err(Ending::Read),
-        Err(ShelfError::Memory) => Err(Ending::Memory),
+    match fetch_second(alloc, name, shelf) {
+        Ok(text) => judged(alloc, &text),
+        Err(ending) => Err(ending),
     }
 }
 
 /// The script of a text, or why it is refused.
 fn judged(alloc: Global, text: &[u8]) -> Result<Script, Ending>
-    ensures { Judges text.now result }
+    ensures { Judges script_of IsRunnable text.now result }
 {
     match read_script(alloc, text) {
         Ok(script) => Ok(script),
-        Err(ScriptError::TooLong) => Err(Ending::SecondTooLong),
-        Err(ScriptError::BadLine(line)) => Err(Ending::SecondLine(line)),
-        Err(ScriptError::NoMember(line)) => Err(Ending::SecondMember(line)),
-        Err(ScriptError::Memory) => Err(Ending::Memory),
+        Err(error) => Err(refusal(error)),
     }
 }

@@ -32,4 +32,4 @@ returns-in-Err-fetch_script g c = stops c.args.replay.now.file.now c.args.replay
     (rw c.in-Ok.ensures.kept at c.in-Err-fetch_script.ensures) refl
 
 pub play-requires-clause-few : goal.play-requires-clause-few
-play-requires-clause-few g c = few_read c.in-Ok-fetch_script.ensures.text c.in-Ok-fetch_script.script c.in-Ok-fetch_script.ensures.spelled
+play-requires-clause-few g c = few_read c.in-Ok-fetch_script.ensures.text c.in-Ok-fetch_script.script c.in-Ok-fetch_script.ensures.spells

@@ -1,6 +1,10 @@
-use Rattle.std.proofs.Common.{rules}
-use Rattle.play_jobs.proofs.Stops.{large_script}
+use Rattle.script_mean.specs.Script.{IsRunnable, script_of}
+use Rattle.job_ends.specs.Shown.{shown}
+use Rattle.play_jobs.proofs.Stops.{fetches, large_script, stops_unread}
 use Rattle.play_jobs.proofs.script.fetch_script.Goals as goal
 
-pub returns-in-Ok-TooLong : goal.returns-in-Ok-TooLong
-returns-in-Ok-TooLong g c = large_script _ _ _ _ (rw c.in-Ok-TooLong.field-0-is at c.in-Ok-TooLong.ensures.answered) (search rules)
+pub returns-in-Ok : goal.returns-in-Ok
+returns-in-Ok g c = fetches script_of IsRunnable _ _ _ _ c.in-Ok.text.items _ c.in-Ok.ensures (rw c.deref.ensures.value at c.judged.ensures)
+
+pub returns-in-Err : goal.returns-in-Err
+returns-in-Err g c = stops_unread script_of large_script _ _ _ _ (shown c.in-Err.ending) c.in-Err.ensures

@@ -1,0 +1,38 @@
+//! Second files, read from a shelf, and why they are refused.
+
+ghost use Rattle.std.specs.Prelude.{◌≡◌};
+ghost use Rattle.job_ends.specs.Shown.{shown};
+ghost use Rattle.play_jobs.specs.Second.{Reads, refused_as};
+
+use job_ends::Ending;
+use outside::{Got, Shelf, ShelfError};
+use script_text::ScriptError;
+use std::alloc::Global;
+
+/// The most bytes of a script or a plan.
+const MOST_SECOND: u64 = 4_194_304;
+
+/// Reads the second file of a job, or finds how the job ends.
+pub fn fetch_second<S: Shelf>(alloc: Global, name: &str, shelf: &mut S) -> Result<Vec<u8>, Ending>
+    ensures { Reads name.now (S.told shelf.old) (S.faults shelf.old) (S.faults shelf.new) result }
+{
+    let mut text = Vec::new(alloc);
+    match shelf.read(name, &mut text, MOST_SECOND) {
+        Ok(Got::Whole) => Ok(text),
+        Ok(Got::TooLong) => Err(Ending::SecondTooLong),
+        Err(ShelfError::Failed) => Err(Ending::Read),
+        Err(ShelfError::Memory) => Err(Ending::Memory),
+    }
+}
+
+/// How a job ends whose second file is refused.
+pub fn refusal(error: ScriptError) -> Ending
+    ensures { shown result ≡ refused_as error }
+{
+    match error {
+        ScriptError::TooLong => Ending::SecondTooLong,
+        ScriptError::BadLine(line) => Ending::SecondLine(line),
+        ScriptError::NoMember(line) => Ending::SecondMember(line),
+        ScriptError::Memory => Ending::Memory,
+    }
+}
