@@ -6,13 +6,18 @@ use outside::Peer;
 use std::io;
 use std::io::ErrorKind;
 use std::net::{Ipv4Addr, Net, SocketAddr, SocketAddrV4, UdpSocket};
+use std::time::Duration;
+
+/// How long a receive waits for a datagram, and a send for room, in milliseconds: long enough that a node that hears nothing leaves the
+/// processor to others.
+const PATIENCE: u64 = 1;
 
 const NOBODY: Peer = Peer {
     ip: [0, 0, 0, 0],
     port: 0,
 };
 
-/// A socket that isn't set to block, and the peers that it sends to.
+/// A socket that waits a moment and no longer, and the peers that it sends to.
 #[derive(Drop)]
 pub(crate) struct Member {
     socket: UdpSocket,
@@ -31,7 +36,9 @@ impl Member {
         ensures { IfOk result (λ member. peers_of member ≡ peers.now) }
     {
         let socket = net.bind_udp(address(place))?;
-        socket.set_nonblocking(true)?;
+        let patience = Some(Duration::from_millis(PATIENCE));
+        socket.set_read_timeout(patience)?;
+        socket.set_write_timeout(patience)?;
         Ok(Member {
             socket,
             peers: table(peers),
