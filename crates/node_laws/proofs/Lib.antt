@@ -1,0 +1,9 @@
+pub mod Acts
+pub mod Doings
+pub mod Fans
+pub mod Groups
+pub mod Happenings
+pub mod Losses
+pub mod Parts
+pub mod Sendings
+pub mod Stages

@@ -1,0 +1,6 @@
+pub mod Doings
+pub mod Losses
+pub mod Network
+pub mod Groups
+pub mod Stages
+pub mod Acts
