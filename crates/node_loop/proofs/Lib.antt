@@ -1,0 +1,15 @@
+pub mod AllTurns
+pub mod Asking
+pub mod Datagrams
+pub mod Ends
+pub mod Fed
+pub mod Handing
+pub mod Ids
+pub mod Listens
+pub mod Passing
+pub mod Planning
+pub mod Resting
+pub mod Rounds
+pub mod Served
+pub mod Steps
+pub mod Turning

@@ -1,0 +1,161 @@
+//! Packets that are handed to the network.
+
+ghost use Rattle.std.specs.Prelude.{◌≡◌, ℕ, ◌<◌, ◌≤◌, [], ◌∷◌, map, IsSomeAnd, OnOk, length};
+ghost use Rattle.std.specs.List.{AllByRecursion};
+ghost use Rattle.msg_core.specs.declared.packet.Dest.TheVariants.{All};
+ghost use Rattle.packet_full.specs.Sent.{sent_packet};
+ghost use Rattle.packet_mean.specs.Spelling.{full_bytes};
+ghost use Rattle.run_mean.specs.Journal.{receivers};
+ghost use Rattle.sink_lines.specs.Lines.{Wrote};
+ghost use Rattle.sink_lines.specs.Tells.{tells};
+ghost use Rattle.node_laws.specs.Losses as losses;
+ghost use Rattle.node_loop.specs.Around.{around};
+ghost use Rattle.node_loop.specs.Passing.{Handles};
+ghost use Rattle.node_laws.specs.Acts.{sending_acts};
+ghost use Rattle.node_loop.specs.Sending.{MayTake, sent_to};
+
+use crate::receivers::{has, member_at};
+use crate::tools::Tools;
+use msg_core::{Dest, Memory, View};
+use outside::{LinkError, Links, Sink, SinkError};
+use packet_full::{put_full_of, room_of};
+use packet_mean::Here;
+use report_lines::{Line, lost_line};
+use sink_lines::put_line;
+use step_outputs::PacketView;
+use view_core::MOST_MEMBERS;
+
+/// Puts the line of a sending that failed.
+fn write_lost<O: Sink>(line: &mut Line, number: u64, out: &mut O) -> Result<(), SinkError>
+    ensures { Wrote (losses.lost_line number ∷ []) (tells (O.contents out.old) (O.failures out.old) (O.faults out.old))
+        (tells (O.contents out.new) (O.failures out.new) (O.faults out.new)) result }
+{
+    line.clear();
+    match lost_line(line, number) {
+        Ok(()) => put_line(line.slice(), out),
+        Err(Memory) => Err(SinkError::Memory),
+    }
+}
+
+/// Hands a datagram on to a member; where that fails, a line says so.
+fn send_to<O: Sink, N: Links>(
+    line: &mut Line,
+    from: u8,
+    to: u8,
+    number: u64,
+    bytes: &[u8],
+    out: &mut O,
+    links: &mut N,
+) -> Result<(), SinkError>
+    requires peer { IsSomeAnd (N.listening links.old from) (λ peers. to < peers) }
+    requires size { length bytes.now ≤ 65507 }
+    ensures handed { Handles (sending_acts number (sent_to from bytes.now to ∷ []))
+        (around (tells (O.contents out.old) (O.failures out.old) (O.faults out.old)) (N.faults links.old) (N.send_faults links.old) (N.told links.old))
+        (around (tells (O.contents out.new) (O.failures out.new) (O.faults out.new)) (N.faults links.new) (N.send_faults links.new) (N.told links.new))
+        result }
+    ensures listening { (m : ℕ) → N.listening links.new m ≡ N.listening links.old m }
+{
+    match links.send(from, to, bytes) {
+        Ok(()) => Ok(()),
+        Err(LinkError::Failed) => write_lost(line, number, out),
+        Err(LinkError::Memory) => Err(SinkError::Memory),
+    }
+}
+
+/// Hands a datagram on to each other member of a view, by ascending id.
+fn send_to_others<O: Sink, N: Links>(
+    line: &mut Line,
+    view: View,
+    from: u8,
+    number: u64,
+    bytes: &[u8],
+    out: &mut O,
+    links: &mut N,
+) -> Result<(), SinkError>
+    requires peers { IsSomeAnd (N.listening links.old from) (λ peers. AllByRecursion (MayTake bytes.now peers) (receivers from view All)) }
+    ensures handed { Handles (sending_acts number (map (sent_to from bytes.now) (receivers from view All)))
+        (around (tells (O.contents out.old) (O.failures out.old) (O.faults out.old)) (N.faults links.old) (N.send_faults links.old) (N.told links.old))
+        (around (tells (O.contents out.new) (O.failures out.new) (O.faults out.new)) (N.faults links.new) (N.send_faults links.new) (N.told links.new))
+        result }
+    ensures listening { (m : ℕ) → N.listening links.new m ≡ N.listening links.old m }
+{
+    for to in 0..MOST_MEMBERS {
+        if has(view, to) && to != from {
+            send_to(line, from, to, number, bytes, out, links)?;
+        }
+    }
+    Ok(())
+}
+
+/// Spells a packet in full.
+fn spell(bytes: &mut Vec<u8>, here: &Here, packet: &PacketView<'_>) -> Result<(), Memory>
+    ensures { OnOk result (bytes.new.items ≡ full_bytes (sent_packet here.now packet.now.dest packet.now.headers.now packet.now.body.now)) }
+{
+    bytes.clear();
+    bytes.reserve(room_of(packet.headers, packet.body))?;
+    put_full_of(here, packet.dest, packet.headers, packet.body, bytes);
+    Ok(())
+}
+
+/// Hands a datagram on to those that it is for.
+fn send_to_all_of<O: Sink, N: Links>(
+    line: &mut Line,
+    view: View,
+    dest: Dest,
+    from: u8,
+    number: u64,
+    bytes: &[u8],
+    out: &mut O,
+    links: &mut N,
+) -> Result<(), SinkError>
+    requires peers { IsSomeAnd (N.listening links.old from) (λ peers. AllByRecursion (MayTake bytes.now peers) (receivers from view dest)) }
+    ensures handed { Handles (sending_acts number (map (sent_to from bytes.now) (receivers from view dest)))
+        (around (tells (O.contents out.old) (O.failures out.old) (O.faults out.old)) (N.faults links.old) (N.send_faults links.old) (N.told links.old))
+        (around (tells (O.contents out.new) (O.failures out.new) (O.faults out.new)) (N.faults links.new) (N.send_faults links.new) (N.told links.new))
+        result }
+    ensures listening { (m : ℕ) → N.listening links.new m ≡ N.listening links.old m }
+{
+    match dest {
+        Dest::All => send_to_others(line, view, from, number, bytes, out, links),
+        Dest::Rank(rank) => match member_at(view, rank) {
+            Some(to) => send_to(line, from, to, number, bytes, out, links),
+            None => Ok(()),
+        },
+    }
+}
+
+/// Hands a packet on to those that it is for, in full; for each sending that fails a line says so.
+pub(crate) fn hand_on<O: Sink, N: Links>(
+    tools: &mut Tools,
+    here: &Here,
+    id: u8,
+    number: u64,
+    packet: &PacketView<'_>,
+    out: &mut O,
+    links: &mut N,
+) -> Result<(), SinkError>
+    requires peers { IsSomeAnd (N.listening links.old id) (λ peers. AllByRecursion
+        (MayTake (full_bytes (sent_packet here.now packet.now.dest packet.now.headers.now packet.now.body.now)) peers)
+        (receivers id here.now.view packet.now.dest)) }
+    ensures handed { Handles (sending_acts number
+        (map (sent_to id (full_bytes (sent_packet here.now packet.now.dest packet.now.headers.now packet.now.body.now)))
+        (receivers id here.now.view packet.now.dest)))
+        (around (tells (O.contents out.old) (O.failures out.old) (O.faults out.old)) (N.faults links.old) (N.send_faults links.old) (N.told links.old))
+        (around (tells (O.contents out.new) (O.failures out.new) (O.faults out.new)) (N.faults links.new) (N.send_faults links.new) (N.told links.new))
+        result }
+    ensures listening { (m : ℕ) → N.listening links.new m ≡ N.listening links.old m }
+{
+    match spell(&mut tools.bytes, here, packet) {
+        Ok(()) => send_to_all_of(
+            &mut tools.line,
+            here.view,
+            packet.dest,
+            id,
+            number,
+            &tools.bytes,
+            out,
+            links,
+        ),
+        Err(Memory) => Err(SinkError::Memory),
+    }
+}

@@ -1,0 +1,189 @@
+//! Members over a network.
+
+ghost use Rattle.std.specs.Prelude.{◌≡◌, ◌<◌, ◌≤◌, ℕ, Some, IfOk, OnOk, length};
+ghost use Rattle.std.specs.List.{AllByRecursion};
+ghost use Rattle.stack_mean.specs.Acceptance.{largest_weight};
+ghost use Rattle.stack_mean.specs.Plans.{plans_of};
+ghost use Rattle.chain_laws.specs.Runs.{TypedStack};
+ghost use Rattle.event_graph.specs.Answer.{stack_tree};
+ghost use Rattle.packet_mean.specs.ChainedState.{IsNumber};
+ghost use Rattle.packet_plans.specs.Trees.{plans_tree};
+ghost use Rattle.packet_laws.specs.Strays.{AreNumbered};
+ghost use Rattle.sink_lines.specs.Tells.{tells};
+ghost use Rattle.node_laws.specs.Stages.{AreOrdered, from_turn};
+ghost use Rattle.node_loop.specs.Around.{around};
+ghost use Rattle.node_loop.specs.Course.{Begun, Made, SoFar, course_of, now};
+ghost use Rattle.node_loop.specs.Feeding.{IsOwn, IsUp};
+ghost use Rattle.node_loop.specs.Listening.{ListensAll};
+ghost use Rattle.node_loop.specs.Serve.{Serves, first_of_plan, layered_words, whereabouts};
+ghost use Rattle.world_core.specs.Standing.{Stands};
+
+use crate::course::{Course, Progress};
+use crate::desk::Desk;
+use crate::error::{NodeError, cut};
+use crate::tools::Tools;
+use crate::turns::turn;
+use event_graph::Stack;
+use msg_core::Memory;
+use node_laws::stopped_goes_on;
+use outside::{Clock, LinkError, Links, MOST_BYTES, Peer, Sink};
+use packet_plans::Plans;
+use report_lines::Line;
+use report_text::{Pen, write_end};
+use std::alloc::{AllocError, Global};
+use step_outputs::Outputs;
+use world_core::Feed;
+
+/// Where a datagram is received.
+fn room(alloc: Global) -> Result<Vec<u8>, AllocError>
+    ensures { IfOk result (λ room. length room.items ≡ 65507) }
+{
+    vec![in alloc; 0; MOST_BYTES]
+}
+
+/// A desk at which nothing was done.
+fn desk(alloc: Global, stack: &Stack) -> Result<Desk, Memory>
+    ensures places { IfOk result (λ d. d.outputs.places ≡ largest_weight (stack_tree stack.now)) }
+    ensures none { IfOk result (λ d. d.events ≡ 0) }
+{
+    let outputs = Outputs::fresh(alloc, stack)?;
+    let room = room(alloc)?;
+    Ok(Desk {
+        outputs,
+        tools: Tools {
+            pen: Pen::new(alloc),
+            line: Line::new(alloc),
+            bytes: Vec::new(alloc),
+        },
+        room,
+        events: 0,
+    })
+}
+
+/// Lets each own member listen.
+fn listen_all<N: Links>(peers: &[Peer], me: &[u8], links: &mut N) -> Result<(), NodeError>
+    requires members { AllByRecursion (λ id. id < length peers.now) me.now }
+    requires few { length peers.now ≤ 32 }
+    ensures told { ListensAll (length me.now) (N.faults links.old) (N.faults links.new) (N.told links.old) (N.told links.new) result }
+    ensures sends { N.send_faults links.new ≡ N.send_faults links.old }
+    ensures listening { OnOk result (AllByRecursion (λ id. N.listening links.new id ≡ Some (length peers.now)) me.now) }
+{
+    for id in me {
+        match links.listen(*id, peers) {
+            Ok(()) => {}
+            Err(LinkError::Failed) => return Err(NodeError::Link),
+            Err(LinkError::Memory) => return Err(NodeError::Memory),
+        }
+    }
+    Ok(())
+}
+
+/// A number of a plan has 32 bits.
+fn number_fits(number: u32)
+    ensures { IsNumber number }
+{}
+
+/// Makes all turns.
+fn make_turns<F: Feed, O: Sink, N: Links, C: Clock>(
+    alloc: Global,
+    feed: &mut F,
+    stack: &Stack,
+    plans: &Plans,
+    desk: &mut Desk,
+    course: Course<'_>,
+    patience: u32,
+    out: &mut O,
+    links: &mut N,
+    clock: &mut C,
+) -> Result<(), NodeError>
+    requires typed { TypedStack (stack_tree stack.now) }
+    requires numbered { AreNumbered (plans_tree plans.now) }
+    requires up { IsUp (stack_tree stack.now) (plans_tree plans.now) (F.group feed.old) desk.old (N.listening links.old) course.me.now }
+    requires own { AllByRecursion (λ entry. IsOwn entry.1) course.plan.now.turns }
+    requires ordered { AreOrdered 0 course.plan.now.turns }
+    requires members { length course.me.now ≤ 32 }
+    requires none { desk.old.events ≡ 0 }
+    ensures told { (b : Begun) → b.patience ≡ patience →
+        SoFar (stack_tree stack.now) (plans_tree plans.now) (course_of course.entry) b 0 0 (from_turn (course_of course.entry) 0 patience) 0
+        (now (F.group feed.old) desk.old
+        (around (tells (O.contents out.old) (O.failures out.old) (O.faults out.old)) (N.faults links.old) (N.send_faults links.old) (N.told links.old))
+        (C.told clock.old)) →
+        Made (stack_tree stack.now) (plans_tree plans.now) (course_of course.entry) b
+        (now (F.group feed.new) desk.new
+        (around (tells (O.contents out.new) (O.failures out.new) (O.faults out.new)) (N.faults links.new) (N.send_faults links.new) (N.told links.new))
+        (C.told clock.new)) result }
+    ensures listening { (m : ℕ) → N.listening links.new m ≡ N.listening links.old m }
+{
+    let mut progress = Progress { patience, next: 0 };
+    for t in 0..course.turns {
+        turn(
+            alloc,
+            feed,
+            stack,
+            plans,
+            desk,
+            course,
+            t,
+            &mut progress,
+            out,
+            links,
+            clock,
+        )?;
+    }
+    Ok(())
+}
+
+/// Runs the members `me` of a plan's group over links, through so many turns, and puts what they do and what it comes to line by line: behind
+/// `> ` each event, and then the lines of its report. Each packet is handed on just behind its line, in full; a sending that fails is
+/// told by `lost` and the packet's number, and not made again. A receive that fails is told by `deaf` and the member; of these so many
+/// are borne as `patience` says.
+///
+/// Each turn is a tick of the clock's moment at each own member, one receive of each, whose datagram is an event of that member, and then the
+/// plan's events of this turn for own members. The last line says how many events there were.
+pub fn serve<F: Feed, O: Sink, N: Links, C: Clock>(
+    alloc: Global,
+    feed: &mut F,
+    stack: &Stack,
+    plans: &Plans,
+    course: Course<'_>,
+    patience: u32,
+    out: &mut O,
+    links: &mut N,
+    clock: &mut C,
+) -> Result<(), NodeError>
+    requires typed { TypedStack (stack_tree stack.now) }
+    requires plans { plans_tree plans.now ≡ plans_of (stack_tree stack.now) }
+    requires stack { (F.group feed.old).stack ≡ stack_tree stack.now }
+    requires group_plans { (F.group feed.old).plans ≡ plans_tree plans.now }
+    requires group { Stands (F.group feed.old) (first_of_plan (stack_tree stack.now) course.plan.now) }
+    requires members { AllByRecursion (λ id. id < length course.plan.now.peers) course.me.now }
+    requires few_members { length course.me.now ≤ 32 }
+    requires few_peers { length course.plan.now.peers ≤ 32 }
+    requires ordered { AreOrdered 0 course.plan.now.turns }
+    requires own { AllByRecursion (λ entry. IsOwn entry.1) course.plan.now.turns }
+    ensures { Serves (record {
+      stack = stack_tree stack.now;
+      plan = course.entry.plan.now;
+      words = layered_words course.entry.turns course.entry.me.now patience;
+    })
+        (whereabouts
+        (around (tells (O.contents out.old) (O.failures out.old) (O.faults out.old)) (N.faults links.old) (N.send_faults links.old) (N.told links.old))
+        (C.told clock.old))
+        (whereabouts
+        (around (tells (O.contents out.new) (O.failures out.new) (O.faults out.new)) (N.faults links.new) (N.send_faults links.new) (N.told links.new))
+        (C.told clock.new)) result }
+{
+    stopped_goes_on();
+    number_fits(course.plan.group);
+    number_fits(course.plan.stamp);
+    let mut desk = match desk(alloc, stack) {
+        Ok(desk) => desk,
+        Err(Memory) => return Err(NodeError::Memory),
+    };
+    listen_all(course.plan.peers.slice(), course.me, links)?;
+    make_turns(
+        alloc, feed, stack, plans, &mut desk, course, patience, out, links, clock,
+    )?;
+    let events = desk.events;
+    cut(write_end(&mut desk.tools.pen, events, out))
+}
