@@ -1,0 +1,4 @@
+pub mod Comes
+pub mod Plan
+pub mod Seen
+pub mod Due

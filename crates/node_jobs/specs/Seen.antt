@@ -1,0 +1,51 @@
+-- A run of a node as the definitions of the program see it.
+use Rattle.std.specs.Prelude.{ℕ, List, Option}
+use Rattle.std.specs.Io.KnownBytes.{Appends}
+use Rattle.clap.specs.Walk.{Text}
+use Rattle.layer_mean.specs.Tree.{LayerTree}
+use Rattle.run_mean.specs.Journal.{Handed}
+use Rattle.program_mean.specs.Headline.{Run}
+use Rattle.program_mean.specs.Headline as program
+use Rattle.program_mean.specs.Output.{Surroundings}
+use Rattle.sink_lines.specs.Said.{Errors}
+use Rattle.job_ends.specs.Comes.{Around, Finds, Beside}
+use Rattle.job_ends.specs.Seen.{counted}
+use Rattle.node_laws.specs.Network.{Tells}
+use Rattle.node_loop.specs.Around.{Told}
+use Rattle.node_loop.specs.Passing.{HandedSome}
+use Rattle.node_jobs.specs.Comes.{Beyond, Node, job_of}
+
+-- A run of these words that met these files and these surroundings, handed this to the network, wrote this and said this.
+abbrev pub run_of : List Text → Around → Beyond → Errors → (file second : Option (List ℕ)) → Surroundings → List Handed → (written said : List ℕ) → Run
+run_of words a n e file second surroundings sent written said = record {
+  words = words;
+  file = file;
+  second = second;
+  surroundings = surroundings;
+  sent = sent;
+  reads = counted a.reads a.reads_after;
+  puts = counted a.output.faults a.output_after.faults;
+  links = counted n.faults n.faults_after;
+  sends = counted n.sends n.sends_after;
+  errors = counted e.before.faults e.after.faults;
+  written = written;
+  said = said;
+  status = e.status;
+}
+
+-- What the reads of a node's files find, where the shelf tells; what its clock told; what was handed to its network and heard of it, where
+-- that tells; what the sinks gained; and that this is a run of the program: it ended in one way, for the cause of its status.
+pub record NodeSeen (words : List Text) (w : Node) (a : Around) (n : Beyond) (e : Errors) : Type 0 where
+  pub file : Option (List ℕ)
+  pub second : Option (List ℕ)
+  pub met : Finds (job_of w) a.told file
+  pub beside : Beside (job_of w) a.told second
+  pub surroundings : Surroundings
+  pub sent : List Handed
+  pub clock : Told n.clock n.clock_after surroundings.clock
+  pub network : Tells (HandedSome sent surroundings.heard) n.told n.told_after
+  pub written : List ℕ
+  pub put : Appends a.output.contents a.output_after.contents written
+  pub said : List ℕ
+  pub heard : Appends e.before.contents e.after.contents said
+  pub ran : (print : List LayerTree → List ℕ) → program.Ran print (run_of words a n e file second surroundings sent written said)

@@ -1,0 +1,109 @@
+//! The job `node`, layer by layer.
+
+ghost use Rattle.chain_laws.specs.Runs.{TypedStack};
+ghost use Rattle.event_graph.specs.Answer.{stack_tree};
+ghost use Rattle.sink_lines.specs.Tells.{tells};
+ghost use Rattle.job_ends.specs.Comes.{around};
+ghost use Rattle.job_ends.specs.Shown.{shown};
+ghost use Rattle.node_loop.specs.Around as outside;
+ghost use Rattle.node_loop.specs.Serve.{whereabouts};
+ghost use Rattle.node_jobs.specs.Comes.{NodeComes, beyond};
+ghost use Rattle.node_jobs.specs.Plan.{IsServable, RunsPlan, words_of};
+
+use crate::members::{are_below, as_bytes};
+use crate::plan::fetch_plan;
+use crate::served::ending;
+use event_graph::Stack;
+use file_jobs::fetch_stack;
+use job_ends::Ending;
+use job_text::Node;
+use node_loop::{Course, serve};
+use outside::{Clock, Links, Shelf, Sink};
+use script_mean::NodePlan;
+use stack_play::{Opened, PlayError, open};
+use std::alloc::{AllocError, Global};
+
+/// Runs own members of a plan's group over a network, layer by layer, and writes what they do and what it comes to.
+pub fn run_node<S: Shelf, O: Sink, N: Links, C: Clock>(
+    alloc: Global,
+    node: &Node<'_>,
+    shelf: &mut S,
+    out: &mut O,
+    links: &mut N,
+    clock: &mut C,
+) -> Ending
+    ensures { NodeComes (words_of node.now)
+        (around (S.told shelf.old) (S.faults shelf.old) (S.faults shelf.new)
+        (tells (O.contents out.old) (O.failures out.old) (O.faults out.old))
+        (tells (O.contents out.new) (O.failures out.new) (O.faults out.new)))
+        (beyond (N.faults links.old) (N.faults links.new) (N.send_faults links.old) (N.send_faults links.new) (N.told links.old) (N.told links.new)
+        (C.told clock.old) (C.told clock.new)) (shown result) }
+{
+    match fetch_stack(alloc, node.file, shelf) {
+        Ok(stack) => match fetch_plan(alloc, node.plan, shelf) {
+            Ok(plan) => serve_plan(alloc, stack, &plan, node, out, links, clock),
+            Err(ending) => ending,
+        },
+        Err(ending) => ending,
+    }
+}
+
+/// Runs the own members of a plan whose files are read.
+fn serve_plan<O: Sink, N: Links, C: Clock>(
+    alloc: Global,
+    stack: Stack,
+    plan: &NodePlan,
+    node: &Node<'_>,
+    out: &mut O,
+    links: &mut N,
+    clock: &mut C,
+) -> Ending
+    requires typed { TypedStack (stack_tree stack) }
+    requires servable { IsServable plan.now }
+    ensures { RunsPlan (stack_tree stack) plan.now (words_of node.now)
+        (whereabouts
+        (outside.around (tells (O.contents out.old) (O.failures out.old) (O.faults out.old)) (N.faults links.old) (N.send_faults links.old)
+        (N.told links.old)) (C.told clock.old))
+        (whereabouts
+        (outside.around (tells (O.contents out.new) (O.failures out.new) (O.faults out.new)) (N.faults links.new) (N.send_faults links.new)
+        (N.told links.new)) (C.told clock.new)) (shown result) }
+{
+    let count = plan.peers.slice().len() as u8;
+    if !are_below(&node.members, count) {
+        return Ending::SecondMember(1);
+    }
+    let me = match as_bytes(alloc, &node.members) {
+        Ok(me) => me,
+        Err(AllocError) => return Ending::Memory,
+    };
+    match open(alloc, stack, plan.group, plan.stamp, count) {
+        Ok(opened) => {
+            let course = Course {
+                plan,
+                me: &me,
+                turns: node.turns,
+            };
+            let Opened {
+                stack,
+                plans,
+                mut run,
+            } = opened;
+            let served = serve(
+                alloc,
+                &mut run.world,
+                &stack,
+                &plans,
+                course,
+                node.patience,
+                out,
+                links,
+                clock,
+            );
+            run.close();
+            ending(served)
+        }
+        Err(PlayError::TooManyRows) => Ending::TooManyRows,
+        Err(PlayError::Failed) => unreachable!(),
+        Err(PlayError::Memory) => Ending::Memory,
+    }
+}

@@ -1,0 +1,20 @@
+//! How a node ended whose group ran.
+
+ghost use Rattle.std.specs.Prelude.{◌≡◌};
+ghost use Rattle.job_ends.specs.Shown.{shown};
+ghost use Rattle.node_jobs.specs.Plan.{end_of};
+
+use job_ends::Ending;
+use node_loop::NodeError;
+
+/// How the job ends whose run came to this.
+pub(crate) fn ending(served: Result<(), NodeError>) -> Ending
+    ensures { shown result ≡ end_of served }
+{
+    match served {
+        Ok(()) => Ending::Done,
+        Err(NodeError::Link) => Ending::Link,
+        Err(NodeError::Write) => Ending::Write,
+        Err(NodeError::Memory) => Ending::Memory,
+    }
+}
