@@ -1,27 +1,47 @@
 -- What `run` does, from what its job came to and what was said of that.
-use Rattle.std.proofs.Common.{◌≡◌, refl, inl, inr, ⊎_elim, ℕ, Bool, true, false, List, Option, Some, None}
+use Rattle.std.proofs.Common.{◌≡◌, ◌∙◌, refl, ap, inl, inr, ⊎_elim, ℕ, List, Option, Some, None}
 use Rattle.clap.specs.Walk.{Text}
+use Rattle.outside.specs.Links.{Network}
 use Rattle.outside.specs.Shelf.{Shelved}
 use Rattle.job_mean.specs.Job.{Job, layered, bypass, check, synth, replay, load, node, audit, job_of_words}
 use Rattle.job_mean.specs.Status.{Ended, words_refused, no_memory}
 use Rattle.program_laws.specs.OneEnd.{IsAlone}
 use Rattle.sink_lines.specs.Said.{Errors}
 use Rattle.sink_lines.specs.Tells.{Tells}
-use Rattle.job_ends.specs.Comes.{Around, around, NoJob, Comes}
+use Rattle.job_ends.specs.Comes.{Around, around, NoJob}
 use Rattle.job_ends.specs.Due.{Due}
 use Rattle.job_ends.specs.Shown.{Said}
 use Rattle.job_ends.proofs.Due.{words_due, exact, status_said}
 use Rattle.job_ends.proofs.Seen.{seen, jobless_seen}
-use Rattle.stackc_run.specs.Performed.{is_built, PerformedIf, Performed, Done, DoesIf, DoesJob}
+use Rattle.node_jobs.specs.Comes.{Beyond, Node, Untouched, beyond, job_of}
+use Rattle.node_jobs.proofs.Due.{node_exact}
+use Rattle.node_jobs.proofs.Seen.{node_seen}
+use Rattle.stackc_run.specs.Performed.{Way, over_files, over_network, unbuilt, way_of, PerformedBy, Performed, DoesBy, DoesJob}
 
--- a job that is built has no network
-alone : (job : Job) → is_built job ≡ true → IsAlone job
+-- a job over files has no network
+alone : (job : Job) → way_of job ≡ over_files → IsAlone job
 alone (check file) is = tt
 alone (synth file) is = tt
 alone (replay file script mode wire count) is = tt
 alone (load file seed events members raw mode) is = tt
-alone (node file plan turns me patience mode) is = absurd (cc is)
+alone (node file plan turns me patience layered) is = absurd (cc is)
+alone (node file plan turns me patience bypass) is = absurd (cc is)
 alone (audit file law) is = tt
+
+-- a job over a network is a node's
+node_is : (job : Job) (w : Node) → way_of job ≡ over_network w → job ≡ job_of w
+node_is (check file) w is = absurd (cc is)
+node_is (synth file) w is = absurd (cc is)
+node_is (replay file script layered wire count) w is = absurd (cc is)
+node_is (replay file script bypass wire count) w is = absurd (cc is)
+node_is (load file seed events members raw layered) w is = absurd (cc is)
+node_is (load file seed events members raw bypass) w is = absurd (cc is)
+node_is (node file plan turns me patience layered) w is =
+    let own : Node = record { file = file; plan = plan; turns = turns; me = me; patience = patience } in
+    let same : own ≡ w = cc is in
+    ap job_of same
+node_is (node file plan turns me patience bypass) w is = absurd (cc is)
+node_is (audit file law) w is = absurd (cc is)
 
 -- a job that is refused ends with 2
 refused_due : (a : Around) (e : Errors) (end : Ended) → NoJob a end → Said end e → Due 2 e.status
@@ -29,28 +49,47 @@ refused_due a e words_refused n said = status_said words_refused e said
 refused_due a e no_memory n said = ⊎_elim inr inr (status_said no_memory e said)
 refused_due a e _ n said = absurd n
 
-does_if : (words : List Text) (job : Job) (built : Bool) → is_built job ≡ built → job_of_words words ≡ Some job → (a : Around) (e : Errors) (end : Ended) →
-    PerformedIf built job a end → Said end e → DoesIf built words job a e
-does_if words job true built is a e end came said = let run = seen words job a e end is came said in record {
+does_by : (words : List Text) (job : Job) (way : Way) → way_of job ≡ way → job_of_words words ≡ Some job → (a : Around) (n : Beyond) (e : Errors) (end : Ended) →
+    PerformedBy way job a n end → Said end e → DoesBy way words job a n e
+does_by words job over_files by is a n e end came said = let run = seen words job a e end is came.0 said in record {
   end = end;
-  came = came;
+  came = came.0;
+  untouched = came.1;
   said = said;
   seen = run;
-  exact = exact words job a e is (alone job built) run end came said;
+  exact = exact words job a e is (alone job by) run end came.0 said;
 }
-does_if words job false built is a e end came said =
-    record { end = end; came = came; said = said; due = refused_due a e end came said }
+does_by words job (over_network w) by is a n e end came said =
+    let named : job_of_words words ≡ Some (job_of w) = is ∙ ap Some (node_is job w by) in
+    let run = node_seen words w a n e end named came said in record {
+      end = end;
+      came = came;
+      said = said;
+      seen = run;
+      exact = node_exact words w a n e named run end came said;
+    }
+does_by words job unbuilt by is a n e end came said =
+    record { end = end; came = came.0; untouched = came.1; said = said; due = refused_due a e end came.0 said }
 
-pub does : (words : List Text) (job : Option Job) → job_of_words words ≡ job → (a : Around) (e : Errors) (end : Ended) → Performed job a end →
-    Said end e → DoesJob words job a e
-does words None is a e end came said = let run = jobless_seen words a e end is came said in
-    record { end = end; came = came; said = said; seen = run; due = words_due words a e run is }
-does words (Some job) is a e end came said = does_if words job (is_built job) refl is a e end came said
+pub does : (words : List Text) (job : Option Job) → job_of_words words ≡ job → (a : Around) (n : Beyond) (e : Errors) (end : Ended) →
+    Performed job a n end → Said end e → DoesJob words job a n e
+does words None is a n e end came said = let run = jobless_seen words a e end is came.0 said in
+    record { end = end; came = came.0; untouched = came.1; said = said; seen = run; due = words_due words a e run is }
+does words (Some job) is a n e end came said = does_by words job (way_of job) refl is a n e end came said
 
 -- Where memory ran out over the words, nothing was done.
-pub wanted : (job : Option Job) (told : Option Shelved) (reads : ℕ) (output : Tells) → Performed job (around told reads reads output output) no_memory
-wanted None told reads output = record { untouched = refl; unread = refl }
-wanted (Some job) told reads output = go (is_built job) where
-  go : (built : Bool) → PerformedIf built job (around told reads reads output output) no_memory
-  go true = inl refl
-  go false = record { untouched = refl; unread = refl }
+pub wanted : (job : Option Job) (told : Option Shelved) (reads : ℕ) (output : Tells) (faults sends : ℕ) (links : Option Network) (clock : Option (List ℕ)) →
+    Performed job (around told reads reads output output) (beyond faults faults sends sends links links clock clock) no_memory
+wanted job told reads output faults sends links clock = go job where
+  untouched : Untouched (beyond faults faults sends sends links links clock clock)
+  untouched = record { faults = refl; sends = refl; told = refl; clock = refl }
+
+  by : (way : Way) (job : Job) →
+      PerformedBy way job (around told reads reads output output) (beyond faults faults sends sends links links clock clock) no_memory
+  by over_files job = (inl refl, untouched)
+  by (over_network w) job = inl (record { unwritten = refl; untouched = untouched })
+  by unbuilt job = (record { untouched = refl; unread = refl }, untouched)
+
+  go : (job : Option Job) → Performed job (around told reads reads output output) (beyond faults faults sends sends links links clock clock) no_memory
+  go None = (record { untouched = refl; unread = refl }, untouched)
+  go (Some job) = by (way_of job) job

@@ -1,5 +1,5 @@
 -- What the words' job came to, whichever it is, and what was said of that.
-use Rattle.std.specs.Prelude.{ℕ, Bool, true, false, List, Option, Some, None}
+use Rattle.std.specs.Prelude.{List, Option, Some, None}
 use Rattle.clap.specs.Walk.{Text}
 use Rattle.job_mean.specs.Job.{Job, layered, bypass, check, synth, replay, load, node, audit, job_of_words}
 use Rattle.job_mean.specs.Status.{Ended}
@@ -8,59 +8,83 @@ use Rattle.job_ends.specs.Comes.{Around, NoJob, Comes}
 use Rattle.job_ends.specs.Due.{Due, Exact}
 use Rattle.job_ends.specs.Seen.{Seen}
 use Rattle.job_ends.specs.Shown.{Said}
+use Rattle.node_jobs.specs.Comes.{Beyond, Node, NodeComes, Untouched}
+use Rattle.node_jobs.specs.Due.{NodeExact}
+use Rattle.node_jobs.specs.Seen.{NodeSeen}
 
--- Whether a job is built. One that isn't is refused as words that are no job.
-abbrev pub is_built : Job → Bool
-is_built (check file) = true
-is_built (synth file) = false
-is_built (replay file script layered wire count) = true
-is_built (replay file script bypass wire count) = false
-is_built (load file seed events members raw layered) = true
-is_built (load file seed events members raw bypass) = false
-is_built (node file plan turns me patience mode) = false
-is_built (audit file law) = true
+-- How a job is done: over files alone, or as a node over a network, too. One that isn't built is refused as words that are no job.
+pub data Way : Type 0 where
+  over_files : Way
+  over_network : Node → Way
+  unbuilt : Way
 
--- How a job ended that is built, or not.
-abbrev pub PerformedIf : (built : Bool) → Job → Around → Ended → Type 0
-PerformedIf true job a end = Comes job a end
-PerformedIf false job a end = NoJob a end
+abbrev pub way_of : Job → Way
+way_of (check file) = over_files
+way_of (synth file) = unbuilt
+way_of (replay file script layered wire count) = over_files
+way_of (replay file script bypass wire count) = unbuilt
+way_of (load file seed events members raw layered) = over_files
+way_of (load file seed events members raw bypass) = unbuilt
+way_of (node file plan turns me patience layered) =
+    over_network (record { file = file; plan = plan; turns = turns; me = me; patience = patience })
+way_of (node file plan turns me patience bypass) = unbuilt
+way_of (audit file law) = over_files
+
+-- How a job ended that is done in a way. One that is no node left the network and the clock as they were.
+abbrev pub PerformedBy : Way → Job → Around → Beyond → Ended → Type 0
+PerformedBy over_files job a n end = Comes job a end × Untouched n
+PerformedBy (over_network w) job a n end = NodeComes w a n end
+PerformedBy unbuilt job a n end = NoJob a end × Untouched n
 
 -- How the words' job ended.
-abbrev pub Performed : Option Job → Around → Ended → Type 0
-Performed None a end = NoJob a end
-Performed (Some job) a end = PerformedIf (is_built job) job a end
+abbrev pub Performed : Option Job → Around → Beyond → Ended → Type 0
+Performed None a n end = NoJob a end × Untouched n
+Performed (Some job) a n end = PerformedBy (way_of job) job a n end
 
--- A job ended in one way, and that was said; this is a run of the program as the definitions have it; and its status is the one that is due.
-pub record Done (words : List Text) (job : Job) (a : Around) (e : Errors) : Type 0 where
+-- A job over files ended in one way, and that was said; this is a run of the program as the definitions have it; and its status is the one
+-- that is due.
+pub record Done (words : List Text) (job : Job) (a : Around) (n : Beyond) (e : Errors) : Type 0 where
   pub end : Ended
   pub came : Comes job a end
+  pub untouched : Untouched n
   pub said : Said end e
   pub seen : Seen words (Some job) a e
   pub exact : Exact job a e.status
 
+-- The same of a node.
+pub record NodeDone (words : List Text) (w : Node) (a : Around) (n : Beyond) (e : Errors) : Type 0 where
+  pub end : Ended
+  pub came : NodeComes w a n end
+  pub said : Said end e
+  pub seen : NodeSeen words w a n e
+  pub exact : NodeExact w a n e.status
+
 -- The same of words that are no job.
-pub record Jobless (words : List Text) (a : Around) (e : Errors) : Type 0 where
+pub record Jobless (words : List Text) (a : Around) (n : Beyond) (e : Errors) : Type 0 where
   pub end : Ended
   pub came : NoJob a end
+  pub untouched : Untouched n
   pub said : Said end e
   pub seen : Seen words None a e
   pub due : Due 2 e.status
 
 -- A job that isn't built was refused, and that was said.
-pub record Unbuilt (a : Around) (e : Errors) : Type 0 where
+pub record Unbuilt (a : Around) (n : Beyond) (e : Errors) : Type 0 where
   pub end : Ended
   pub came : NoJob a end
+  pub untouched : Untouched n
   pub said : Said end e
   pub due : Due 2 e.status
 
 -- What `run` does with its words, by the job that they are.
-abbrev pub DoesIf : (built : Bool) → List Text → Job → Around → Errors → Type 0
-DoesIf true words job a e = Done words job a e
-DoesIf false words job a e = Unbuilt a e
+abbrev pub DoesBy : Way → List Text → Job → Around → Beyond → Errors → Type 0
+DoesBy over_files words job a n e = Done words job a n e
+DoesBy (over_network w) words job a n e = NodeDone words w a n e
+DoesBy unbuilt words job a n e = Unbuilt a n e
 
-abbrev pub DoesJob : List Text → Option Job → Around → Errors → Type 0
-DoesJob words None a e = Jobless words a e
-DoesJob words (Some job) a e = DoesIf (is_built job) words job a e
+abbrev pub DoesJob : List Text → Option Job → Around → Beyond → Errors → Type 0
+DoesJob words None a n e = Jobless words a n e
+DoesJob words (Some job) a n e = DoesBy (way_of job) words job a n e
 
-abbrev pub Does : List Text → Around → Errors → Type 0
-Does words a e = DoesJob words (job_of_words words) a e
+abbrev pub Does : List Text → Around → Beyond → Errors → Type 0
+Does words a n e = DoesJob words (job_of_words words) a n e

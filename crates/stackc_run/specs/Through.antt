@@ -5,13 +5,19 @@ use Rattle.std.specs.Io.KnownBytes.{Appends, Keeps}
 use Rattle.outside.specs.Count.{Rose}
 use Rattle.outside.specs.Shelf.{Shelved}
 use Rattle.clap.specs.Walk.{Text}
-use Rattle.job_mean.specs.Job.{Job, job_of_words}
+use Rattle.stack_mean.specs.Plans.{plans_of}
+use Rattle.job_mean.specs.Job.{Job, layered, job_of_words}
 use Rattle.job_mean.specs.Status.{Ended, done, breached, file_refused, report_refused, words_refused, second_refused, read_failed, write_failed, link_failed, no_memory}
+use Rattle.run_mean.specs.Journal.{node_lines}
+use Rattle.program_mean.specs.Headline.{node_words}
+use Rattle.program_mean.specs.Output.{IsNode, Surroundings, failed, noted, played}
 use Rattle.sink_lines.specs.Said.{errors}
 use Rattle.sink_lines.specs.Tells.{Tells}
 use Rattle.job_ends.specs.Comes.{Good, around}
 use Rattle.job_ends.specs.Shown.{Said}
-use Rattle.stackc_run.specs.Performed.{Performed, Does}
+use Rattle.node_loop.specs.Serve.{MadeAllTurns}
+use Rattle.node_jobs.specs.Comes.{Beyond, Node, Ran}
+use Rattle.stackc_run.specs.Performed.{Way, over_files, over_network, unbuilt, way_of, Performed, Does}
 
 -- How a job ended whose whole output was written, where its stream got all or lacks something: then that is a fault of writing.
 abbrev pub closed : Bool → Ended → Ended
@@ -43,15 +49,15 @@ HandsOn put after holds false = Rose put.faults after.faults
 
 -- A run that put so much on the output and ended so; what was handed on to the output's stream; and what was said then, of the end that
 -- comes of both, and handed on to the standard error's. Where that is the job's own end, all that `run` does is done.
-pub record RunsThrough (words : List Text) (told : Option Shelved) (reads reads_after : ℕ) (out err : Stream) (status : ℕ) : Type 0 where
+pub record RunsThrough (words : List Text) (told : Option Shelved) (reads reads_after : ℕ) (n : Beyond) (out err : Stream) (status : ℕ) : Type 0 where
   pub put : Tells
   pub end : Ended
-  pub performed : Performed (job_of_words words) (around told reads reads_after out.before put) end
+  pub performed : Performed (job_of_words words) (around told reads reads_after out.before put) n end
   pub whole : Bool
   pub handed_on : HandsOn put out.after out.holds whole
   pub closing : Tells
   pub said : Said (closed whole end) (errors err.before closing status)
-  pub does : closed whole end ≡ end → Does words (around told reads reads_after out.before put) (errors err.before closing status)
+  pub does : closed whole end ≡ end → Does words (around told reads reads_after out.before put) n (errors err.before closing status)
   pub heard : Bool
   pub told_on : HandsOn closing err.after err.holds heard
 
@@ -65,7 +71,23 @@ pub record DeliversOutput (job : Job) (told : Option Shelved) (reads reads_after
   pub sound : reads_after ≡ reads
   pub gained : Appends out.before.contents out.holds (concat good.lines)
 
+-- The whole journal of a node over what its surroundings told.
+abbrev pub journal_of : {file second : List ℕ} (w : Node) → IsNode file second w.me → Surroundings → List (List ℕ)
+journal_of w node s = let words = node_words w.turns w.me w.patience layered in
+    node_lines node.stack (plans_of node.stack) (failed s) (noted node.plan words s) (played node.stack node.plan words s)
+
+-- A node made all its turns, and the output's stream gained its whole journal.
+pub record DeliversJournal (w : Node) (told : Option Shelved) (reads reads_after : ℕ) (n : Beyond) (out : Stream) : Type 0 where
+  pub put : Tells
+  pub ran : Ran w (around told reads reads_after out.before put) n MadeAllTurns
+  pub gained : Appends out.before.contents out.holds (concat (journal_of w ran.good.node ran.served.s))
+
+abbrev pub DeliversBy : Way → Job → Option Shelved → ℕ → ℕ → Beyond → Stream → Type 0
+DeliversBy over_files job told reads reads_after n out = DeliversOutput job told reads reads_after out
+DeliversBy (over_network w) job told reads reads_after n out = DeliversJournal w told reads reads_after n out
+DeliversBy unbuilt job told reads reads_after n out = ⊥
+
 -- The words are a job, and the output's stream gained its whole output.
-abbrev pub Delivers : Option Job → Option Shelved → ℕ → ℕ → Stream → Type 0
-Delivers None told reads reads_after out = ⊥
-Delivers (Some job) told reads reads_after out = DeliversOutput job told reads reads_after out
+abbrev pub Delivers : Option Job → Option Shelved → ℕ → ℕ → Beyond → Stream → Type 0
+Delivers None told reads reads_after n out = ⊥
+Delivers (Some job) told reads reads_after n out = DeliversBy (way_of job) job told reads reads_after n out

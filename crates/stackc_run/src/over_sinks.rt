@@ -5,34 +5,40 @@ ghost use Rattle.std.specs.String.{string_bytes};
 ghost use Rattle.sink_lines.specs.Said.{errors};
 ghost use Rattle.sink_lines.specs.Tells.{tells};
 ghost use Rattle.job_ends.specs.Comes.{around};
+ghost use Rattle.node_jobs.specs.Comes.{beyond};
 ghost use Rattle.stackc_run.specs.Performed.{Does};
 
 use crate::perform::perform;
 use job_ends::say;
-use outside::{Shelf, Sink};
+use outside::{Clock, Links, Shelf, Sink};
 use std::alloc::Global;
 
 /// Does the job that the words name, the program's own name left out, and answers the program's
 /// status. What the job writes goes to `out`; where it ends with another status than 0, one line on `err` says why.
 ///
 /// With status 0 `out` gained the whole output of the definitions, byte for byte, and with 8 the breach that an audit
-/// found; 1, 2 and 3 come exactly where a file, the words, or the script or its members are refused, 4 and 5 only where the shelf or
-/// `out` counted a fault in this call, and 7 where memory ran out. A job that is good by what the shelf tells, on
-/// which no put of `out` failed, ends with 0, 8 or 7.
-pub fn run<S: Shelf, O: Sink, E: Sink>(
+/// found; 1, 2 and 3 come exactly where a file, the words, or the script, the plan or the members are refused, 4 and 5 only where the
+/// shelf or `out` counted a fault in this call, 6 only where `links` did, and 7 where memory ran out. A job that is good by what the shelf
+/// tells, on which no put of `out` failed, ends with 0, 8 or 7, a node only where the network bore it. Only a node has to do with `links`
+/// and `clock`.
+pub fn run<S: Shelf, O: Sink, E: Sink, N: Links, C: Clock>(
     alloc: Global,
     words: &[String],
     shelf: &mut S,
     out: &mut O,
     err: &mut E,
+    links: &mut N,
+    clock: &mut C,
 ) -> u8
     ensures { Does (map string_bytes words.now)
         (around (S.told shelf.old) (S.faults shelf.old) (S.faults shelf.new)
         (tells (O.contents out.old) (O.failures out.old) (O.faults out.old))
         (tells (O.contents out.new) (O.failures out.new) (O.faults out.new)))
+        (beyond (N.faults links.old) (N.faults links.new) (N.send_faults links.old) (N.send_faults links.new) (N.told links.old) (N.told links.new)
+        (C.told clock.old) (C.told clock.new))
         (errors (tells (E.contents err.old) (E.failures err.old) (E.faults err.old))
         (tells (E.contents err.new) (E.failures err.new) (E.faults err.new)) result) }
 {
-    let ending = perform(alloc, words, shelf, out);
+    let ending = perform(alloc, words, shelf, out, links, clock);
     say(alloc, ending, err)
 }

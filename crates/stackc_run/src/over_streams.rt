@@ -6,11 +6,12 @@ ghost use Rattle.outside.specs.Stream.{stream_of};
 ghost use Rattle.job_mean.specs.Job.{job_of_words};
 ghost use Rattle.job_ends.specs.Shown.{shown};
 ghost use Rattle.sink_lines.specs.Tells.{tells};
+ghost use Rattle.node_jobs.specs.Comes.{beyond};
 ghost use Rattle.stackc_run.specs.Through.{RunsThrough, Delivers, HandsOn, IsWhole, closed, stream};
 
 use crate::perform::perform;
 use job_ends::{Ending, say};
-use outside::{Shelf, Sink, StdSink};
+use outside::{Clock, Links, Shelf, Sink, StdSink};
 use std::alloc::Global;
 use std::io::Write;
 
@@ -19,14 +20,18 @@ use std::io::Write;
 /// The status is 0, or 8, only where the job's whole output was put and the output's stream got all of it. Where the
 /// stream did not, that is said as a fault of writing; how a job ended else stays. What was said is handed on to the
 /// stream of `err`, or that sink counted a fault.
-pub fn run_through<S: Shelf, O: Write + Drop, E: Write + Drop>(
+pub fn run_through<S: Shelf, O: Write + Drop, E: Write + Drop, N: Links, C: Clock>(
     alloc: Global,
     words: &[String],
     shelf: &mut S,
     out: &mut StdSink<O>,
     err: &mut StdSink<E>,
+    links: &mut N,
+    clock: &mut C,
 ) -> u8
     ensures through { RunsThrough (map string_bytes words.now) (S.told shelf.old) (S.faults shelf.old) (S.faults shelf.new)
+        (beyond (N.faults links.old) (N.faults links.new) (N.send_faults links.old) (N.send_faults links.new) (N.told links.old) (N.told links.new)
+        (C.told clock.old) (C.told clock.new))
         (stream (tells (⟦<StdSink<O> as Sink>⟧.contents out.old) (⟦<StdSink<O> as Sink>⟧.failures out.old) (⟦<StdSink<O> as Sink>⟧.faults out.old))
         (tells (⟦<StdSink<O> as Sink>⟧.contents out.new) (⟦<StdSink<O> as Sink>⟧.failures out.new) (⟦<StdSink<O> as Sink>⟧.faults out.new))
         (O.contents (stream_of out.new)))
@@ -34,11 +39,13 @@ pub fn run_through<S: Shelf, O: Write + Drop, E: Write + Drop>(
         (tells (⟦<StdSink<E> as Sink>⟧.contents err.new) (⟦<StdSink<E> as Sink>⟧.failures err.new) (⟦<StdSink<E> as Sink>⟧.faults err.new))
         (E.contents (stream_of err.new))) result }
     ensures delivered { IsWhole result → Delivers (job_of_words (map string_bytes words.now)) (S.told shelf.old) (S.faults shelf.old) (S.faults shelf.new)
+        (beyond (N.faults links.old) (N.faults links.new) (N.send_faults links.old) (N.send_faults links.new) (N.told links.old) (N.told links.new)
+        (C.told clock.old) (C.told clock.new))
         (stream (tells (⟦<StdSink<O> as Sink>⟧.contents out.old) (⟦<StdSink<O> as Sink>⟧.failures out.old) (⟦<StdSink<O> as Sink>⟧.faults out.old))
         (tells (⟦<StdSink<O> as Sink>⟧.contents out.new) (⟦<StdSink<O> as Sink>⟧.failures out.new) (⟦<StdSink<O> as Sink>⟧.faults out.new))
         (O.contents (stream_of out.new))) }
 {
-    let ending = perform(alloc, words, shelf, out);
+    let ending = perform(alloc, words, shelf, out, links, clock);
     let whole = hand_on(out);
     let status = say(alloc, closed(whole, ending), err);
     let _ = hand_on(err);

@@ -1,18 +1,20 @@
-//! The program over the system's arguments, files and streams.
+//! The program over the system's arguments, files, streams, sockets and clock.
 
 use crate::over_streams::run_through;
-use outside::{FileShelf, StdSink};
+use outside::{FileShelf, RunClock, StdSink};
 use std::alloc::Global;
 use std::env;
 use std::io::{self, ErrorKind, Write};
-use std::rt::{Env, Files};
+use std::net::Net;
+use std::rt::{Clock as SystemClock, Env, Files};
+use udp_link::UdpLinks;
 
 /// The status where memory ran out before the standard error was made.
 const NO_MEMORY: u8 = 7;
 
 /// Does the job that the command line names, and answers the program's status. Where memory runs out before the
 /// standard error is made, nothing is said.
-pub fn program<R: AllocGlobal + Env + Files, O: Write + Drop, E: Write + Drop>(
+pub fn program<R: AllocGlobal + Env + Files + Net + SystemClock, O: Write + Drop, E: Write + Drop>(
     system: &R,
     out: O,
     err: E,
@@ -20,7 +22,7 @@ pub fn program<R: AllocGlobal + Env + Files, O: Write + Drop, E: Write + Drop>(
     begun(system, out, err).unwrap_or(NO_MEMORY)
 }
 
-fn begun<R: AllocGlobal + Env + Files, O: Write + Drop, E: Write + Drop>(
+fn begun<R: AllocGlobal + Env + Files + Net + SystemClock, O: Write + Drop, E: Write + Drop>(
     system: &R,
     out: O,
     err: E,
@@ -30,7 +32,11 @@ fn begun<R: AllocGlobal + Env + Files, O: Write + Drop, E: Write + Drop>(
     let mut shelf = FileShelf::of(system);
     let mut out = StdSink::of(alloc, out)?;
     let mut err = StdSink::of(alloc, err)?;
-    Ok(run_through(alloc, &words, &mut shelf, &mut out, &mut err))
+    let mut links = UdpLinks::of(alloc, system)?;
+    let mut clock = RunClock::of(system);
+    Ok(run_through(
+        alloc, &words, &mut shelf, &mut out, &mut err, &mut links, &mut clock,
+    ))
 }
 
 /// The words of the command line, without the program's name. Where one of them isn't UTF-8 there are none, since such a

@@ -1,12 +1,13 @@
 //! Whole runs over files and sinks in memory: what no clause says is that memory is not wanted.
 
-use crate::{run, run_through};
-use outside::{MemShelf, MemSink, NamedFile, StdSink};
+use crate::run_through;
+use crate::runs::run_alone;
+use outside::{MemClock, MemLinks, MemShelf, MemSink, NamedFile, StdSink};
 use std::alloc::{AllocError, Global};
 use std::io::{self, ErrorKind, Write};
 use std::test::Fail;
 
-const COUNTER: &[u8] =
+pub(crate) const COUNTER: &[u8] =
     b"layer cnt {\n  state int k;\n  state int e[n];\n  header num(seq) passes;\n  down Cast(p, m) {\n    down Cast(p, m) with num(k);\n    set k = (k + 1);\n  }\n  up Cast(o, m) with num(seq) common (seq == e[o]) {\n    set e[o] = (seq + 1);\n    up Cast(o, m);\n  }\n}\nstack { cnt; }\n";
 
 /// A layer with a queue of one row.
@@ -19,13 +20,13 @@ const ROWS: &[u8] =
 
 /// What a run left: its status, and the bytes on its output and on its standard error.
 #[derive(Drop)]
-struct Left {
-    status: u8,
-    out: Vec<u8>,
-    err: Vec<u8>,
+pub(crate) struct Left {
+    pub status: u8,
+    pub out: Vec<u8>,
+    pub err: Vec<u8>,
 }
 
-fn words(alloc: Global, texts: &[&str]) -> Result<Vec<String>, AllocError> {
+pub(crate) fn words(alloc: Global, texts: &[&str]) -> Result<Vec<String>, AllocError> {
     let mut words = Vec::new(alloc);
     for text in texts {
         words.push(String::from_str(alloc, text)?)?;
@@ -33,7 +34,7 @@ fn words(alloc: Global, texts: &[&str]) -> Result<Vec<String>, AllocError> {
     Ok(words)
 }
 
-fn named(alloc: Global, name: &str, bytes: &[u8]) -> Result<NamedFile, AllocError> {
+pub(crate) fn named(alloc: Global, name: &str, bytes: &[u8]) -> Result<NamedFile, AllocError> {
     Ok(NamedFile {
         name: String::from_str(alloc, name)?,
         bytes: Vec::from_slice(alloc, bytes)?,
@@ -53,7 +54,7 @@ fn replayed(
     let mut shelf = MemShelf::of(files, reads);
     let mut out = MemSink::of(alloc, puts);
     let mut err = MemSink::of(alloc, Vec::new(alloc));
-    let status = run(alloc, &words, &mut shelf, &mut out, &mut err);
+    let status = run_alone(alloc, &words, &mut shelf, &mut out, &mut err);
     Ok(Left {
         status,
         out: Vec::from_slice(alloc, out.contents())?,
@@ -180,8 +181,9 @@ fn refuses_what_is_too_large(rt: HostRuntime) -> Result<(), Fail> {
 #[test]
 fn refuses_other_words(rt: HostRuntime) -> Result<(), Fail> {
     let alloc = rt.alloc();
-    let cases: [&[&str]; 7] = [
+    let cases: [&[&str]; 8] = [
         &[],
+        &["node", "f", "s", "--turns=1", "--me=0", "--run=bypass"],
         &["replay", "a"],
         &["play", "f", "s", "--run", "layered"],
         &["replay", "f", "s", "--run", "bypass"],
@@ -194,7 +196,7 @@ fn refuses_other_words(rt: HostRuntime) -> Result<(), Fail> {
         let mut out = MemSink::of(alloc, Vec::new(alloc));
         let mut err = MemSink::of(alloc, Vec::new(alloc));
         let words = words(alloc, texts)?;
-        assert_eq!(rt; run(alloc, &words, &mut shelf, &mut out, &mut err), 2);
+        assert_eq!(rt; run_alone(alloc, &words, &mut shelf, &mut out, &mut err), 2);
         assert_eq!(rt; out.contents(), b"".as_slice());
         assert_eq!(rt; err.contents(), b"words: refused\n".as_slice());
     }
@@ -202,7 +204,7 @@ fn refuses_other_words(rt: HostRuntime) -> Result<(), Fail> {
     let mut shelf = MemShelf::of(Vec::new(alloc), Vec::new(alloc));
     let mut out = MemSink::of(alloc, Vec::new(alloc));
     let mut err = MemSink::of(alloc, Vec::new(alloc));
-    assert_eq!(rt; run(alloc, &words, &mut shelf, &mut out, &mut err), 4);
+    assert_eq!(rt; run_alone(alloc, &words, &mut shelf, &mut out, &mut err), 4);
     assert_eq!(rt; err.contents(), b"read fault\n".as_slice());
     Ok(())
 }
@@ -219,7 +221,7 @@ fn judged(
     let mut shelf = MemShelf::of(files, Vec::new(alloc));
     let mut out = MemSink::of(alloc, puts);
     let mut err = MemSink::of(alloc, Vec::new(alloc));
-    let status = run(alloc, &words, &mut shelf, &mut out, &mut err);
+    let status = run_alone(alloc, &words, &mut shelf, &mut out, &mut err);
     Ok(Left {
         status,
         out: Vec::from_slice(alloc, out.contents())?,
@@ -239,7 +241,7 @@ fn adds_what_is_wanted(rt: HostRuntime) -> Result<(), Fail> {
     let mut shelf = MemShelf::of(files, Vec::new(alloc));
     let mut out = MemSink::of(alloc, Vec::new(alloc));
     let mut err = MemSink::of(alloc, Vec::new(alloc));
-    assert_eq!(rt; run(alloc, &words, &mut shelf, &mut out, &mut err), 0);
+    assert_eq!(rt; run_alone(alloc, &words, &mut shelf, &mut out, &mut err), 0);
     let report =
         b"packet 1 0 all cnt.num(0) 6869\nwire 1 e50000000100000007000000000000000700ff01000000006869\ndeliver 1 cast 0 6869\nend 2\nvisits 2\n";
     assert_eq!(rt; out.contents(), report.as_slice());
@@ -352,7 +354,11 @@ fn streamed(alloc: Global, file: &[u8], most: usize, stuck: bool) -> Result<Left
     };
     let mut out = StdSink::of(alloc, output)?;
     let mut err = StdSink::of(alloc, error)?;
-    let status = run_through(alloc, &words, &mut shelf, &mut out, &mut err);
+    let mut links = MemLinks::of(alloc, Vec::new(alloc), Vec::new(alloc), Vec::new(alloc));
+    let mut clock = MemClock::of(Vec::new(alloc));
+    let status = run_through(
+        alloc, &words, &mut shelf, &mut out, &mut err, &mut links, &mut clock,
+    );
     Ok(Left {
         status,
         out: out.stream().taken.clone()?,

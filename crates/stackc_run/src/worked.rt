@@ -1,6 +1,6 @@
 //! Worked cases of whole replays: what is written was told by an independent reading of the rules.
 
-use crate::run;
+use crate::runs::run_alone;
 use outside::{MemShelf, MemSink, NamedFile};
 use std::alloc::{AllocError, Global};
 use std::test::Fail;
@@ -48,7 +48,7 @@ fn replayed(alloc: Global, file: &[u8], script: &[u8], more: &[&str]) -> Result<
     let mut shelf = MemShelf::of(files, Vec::new(alloc));
     let mut out = MemSink::of(alloc, Vec::new(alloc));
     let mut err = MemSink::of(alloc, Vec::new(alloc));
-    let status = run(alloc, &words, &mut shelf, &mut out, &mut err);
+    let status = run_alone(alloc, &words, &mut shelf, &mut out, &mut err);
     Ok(Left {
         status,
         out: Vec::from_slice(alloc, out.contents())?,

@@ -4,7 +4,9 @@ use Rattle.outside.specs.StdSink.{gathered}
 use Rattle.job_mean.specs.Job.{job_of_words}
 use Rattle.sink_lines.specs.Said.{errors}
 use Rattle.sink_lines.specs.Tells.{tells}
+use Rattle.job_ends.specs.Comes.{around}
 use Rattle.job_ends.specs.Shown.{shown, Said}
+use Rattle.node_jobs.specs.Comes.{beyond}
 use Rattle.stackc_run.proofs.Performed.{does}
 use Rattle.stackc_run.proofs.Through.{delivers}
 use Rattle.stackc_run.proofs.over_streams.run_through.Goals as goal
@@ -18,18 +20,25 @@ returns-clause-through g c =
     let closing = tells (gathered (g.E.Write.contents last.stream) last.done last.held.items) None last.faults in
     let e = errors before closing c.say-status.result in
     let said = subst (λ end. Said end e) c.closed.ensures c.say-status.ensures in
+    let put = tells (gathered (g.O.Write.contents out.stream) out.done out.held.items) None out.faults in
+    let start = c.args.out.now in
+    let a = around (g.S.Shelf.told c.args.shelf.now) (g.S.Shelf.faults c.args.shelf.now) (g.S.Shelf.faults c.perform-ending.new.shelf)
+    (tells (gathered (g.O.Write.contents start.stream) start.done start.held.items) None start.faults) put in
+    let n = beyond (g.N.Links.faults c.args.links.now) (g.N.Links.faults c.perform-ending.new.links) (g.N.Links.send_faults c.args.links.now)
+    (g.N.Links.send_faults c.perform-ending.new.links) (g.N.Links.told c.args.links.now) (g.N.Links.told c.perform-ending.new.links)
+    (g.C.Clock.told c.args.clock.now) (g.C.Clock.told c.perform-ending.new.clock) in
     record {
-      put = tells (gathered (g.O.Write.contents out.stream) out.done out.held.items) None out.faults;
+      put = put;
       end = shown c.perform-ending.result;
       performed = c.perform-ending.ensures;
       whole = c.hand_on-whole.result;
       handed_on = c.hand_on-whole.ensures;
       closing = closing;
       said = said;
-      does = λ is. does (map string_bytes c.args.words.now) (job_of_words (map string_bytes c.args.words.now)) refl _ e (shown c.perform-ending.result) c.perform-ending.ensures (subst (λ end. Said end e) is said);
+      does = λ is. does (map string_bytes c.args.words.now) (job_of_words (map string_bytes c.args.words.now)) refl a n e (shown c.perform-ending.result) c.perform-ending.ensures (subst (λ end. Said end e) is said);
       heard = c.hand_on.result;
       told_on = c.hand_on.ensures;
     }
 
 pub returns-clause-delivered : goal.returns-clause-delivered
-returns-clause-delivered g c = delivers _ _ _ _ _ _ _ (returns-clause-through g c)
+returns-clause-delivered g c = delivers _ _ _ _ _ _ _ _ (returns-clause-through g c)
