@@ -28,7 +28,7 @@ use Rattle.file_layer.proofs.ReadyCells.{queue_fits}
 use Rattle.file_layer.proofs.Steps.{covered}
 
 -- An item's references are among those of its list, also where it isn't there.
-times_get : {A : Type 0} (f : A → List ℕ) (i : ℕ) (xs : List A) (k : ℕ) (d : A) → f d ≡ [] → times i (f (get_or xs k d)) ≤ times i (flat_map f xs)
+pub times_get : {A : Type 0} (f : A → List ℕ) (i : ℕ) (xs : List A) (k : ℕ) (d : A) → f d ≡ [] → times i (f (get_or xs k d)) ≤ times i (flat_map f xs)
 times_get f i [] k d none = let one = ap (times i) none in omega arith
 times_get f i (y ∷ xs) zero d none = omega (arith, times-append i (f y) (flat_map f xs))
 times_get f i (y ∷ xs) (suc k) d none = let rest = times_get f i xs k d none in omega (arith, times-append i (f y) (flat_map f xs))

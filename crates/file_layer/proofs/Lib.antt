@@ -6,6 +6,8 @@ pub mod Fresh
 pub mod Hand
 pub mod Held
 pub mod Lists
+pub mod OwnCells
+pub mod OwnUndone
 pub mod Parts
 pub mod Queues
 pub mod Found

@@ -26,7 +26,7 @@ use Rattle.file_layer.proofs.Queues.{cell_seen, room_seen, queued_alone, queued_
 use Rattle.file_layer.proofs.Ready.{fits_hand}
 use Rattle.file_layer.proofs.Steps.{stepped}
 
-refs_same : (cells : List (KeptCell PoolRow)) (c : ℕ) (x : KeptCell PoolRow) → cell_refs x ≡ cell_refs (get_or cells c nothing_kept) →
+pub refs_same : (cells : List (KeptCell PoolRow)) (c : ℕ) (x : KeptCell PoolRow) → cell_refs x ≡ cell_refs (get_or cells c nothing_kept) →
     flat_map cell_refs (set cells c x) ≡ flat_map cell_refs cells
 refs_same [] c x same = refl
 refs_same (y ∷ cells) zero x same = ap (λ r. r ++ flat_map cell_refs cells) same
@@ -78,11 +78,11 @@ forms_rows new old c i rows is =
 
 -- ---- rows
 
-rows_set_fits : (i : ℕ) (rows : List PoolRow) (cell : KeptCell PoolRow) → CellFits cell → QueueFits (capacity_of cell) rows → CellFits (rows_set i rows cell)
+pub rows_set_fits : (i : ℕ) (rows : List PoolRow) (cell : KeptCell PoolRow) → CellFits cell → QueueFits (capacity_of cell) rows → CellFits (rows_set i rows cell)
 rows_set_fits i rows (numbers shape ns) fit one = fit
 rows_set_fits i rows (queues shape capacity qs) fit one = let count = length-set qs i rows in let many = fit.0 in (omega arith, all-set (QueueFits capacity) qs i rows fit.1 one)
 
-rows_set_capacity : (i : ℕ) (rows : List PoolRow) (cell : KeptCell PoolRow) → capacity_of (rows_set i rows cell) ≡ capacity_of cell
+pub rows_set_capacity : (i : ℕ) (rows : List PoolRow) (cell : KeptCell PoolRow) → capacity_of (rows_set i rows cell) ≡ capacity_of cell
 rows_set_capacity i rows (numbers shape ns) = refl
 rows_set_capacity i rows (queues shape capacity qs) = refl
 
@@ -156,19 +156,19 @@ module _ (b : Begun) (p : List Held) (s : Stock) (is : InPool b p s) (fits : Sto
 
 -- ---- numbers
 
-set_refs : (i v : ℕ) (cell : KeptCell PoolRow) → cell_refs (number_set i v cell) ≡ cell_refs cell
+pub set_refs : (i v : ℕ) (cell : KeptCell PoolRow) → cell_refs (number_set i v cell) ≡ cell_refs cell
 set_refs i v (numbers shape ns) = refl
 set_refs i v (queues shape capacity qs) = refl
 
-set_lies : (p : List Held) (i v : ℕ) (cell : KeptCell PoolRow) → CellLies p cell → CellLies p (number_set i v cell)
+pub set_lies : (p : List Held) (i v : ℕ) (cell : KeptCell PoolRow) → CellLies p cell → CellLies p (number_set i v cell)
 set_lies p i v (numbers shape ns) lie = tt
 set_lies p i v (queues shape capacity qs) lie = lie
 
-set_fits : (i v : ℕ) (cell : KeptCell PoolRow) → CellFits cell → CellFits (number_set i v cell)
+pub set_fits : (i v : ℕ) (cell : KeptCell PoolRow) → CellFits cell → CellFits (number_set i v cell)
 set_fits i v (numbers shape ns) fit = fit
 set_fits i v (queues shape capacity qs) fit = fit
 
-set_capacity : (i v : ℕ) (cell : KeptCell PoolRow) → capacity_of (number_set i v cell) ≡ capacity_of cell
+pub set_capacity : (i v : ℕ) (cell : KeptCell PoolRow) → capacity_of (number_set i v cell) ≡ capacity_of cell
 set_capacity i v (numbers shape ns) = refl
 set_capacity i v (queues shape capacity qs) = refl
 

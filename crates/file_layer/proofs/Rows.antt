@@ -27,7 +27,7 @@ cell_times j i rows (numbers shape ns) within = absurd (omega arith)
 cell_times j i rows (queues shape capacity qs) within = times-set (flat_map row_refs) j qs i rows [] within
 
 module _ (k : Kept PoolRow) (c i : ℕ) (within : i < length (queues_kept (kept_at k c))) where
-  rows_times : (j : ℕ) (rows : List PoolRow) →
+  pub rows_times : (j : ℕ) (rows : List PoolRow) →
       times j (kept_refs (with_kept_rows k c i rows)) + times j (flat_map row_refs (kept_rows k c i)) ≡
       times j (kept_refs k) + times j (flat_map row_refs rows)
   rows_times j rows =

@@ -16,3 +16,4 @@ pub mod Steps
 pub mod Keeps
 pub mod Layer
 pub mod Making
+pub mod OwnCells
