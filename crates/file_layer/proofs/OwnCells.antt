@@ -143,18 +143,20 @@ module _ (layer : LayerTree) (p : List Held) (d : FileDesk) (is : IsAtRest layer
         rows_rest c i (row ∷ kept_rows d.cells c i) (own.lies, rows_lie p d.cells c i is.lie)
         (record { few = omega arith; short = (own.short, (queue_fits c i).short) })
 
-    pub without_first_rest : IsAtRest layer p (record d { cells = without_first d.cells c i })
-    without_first_rest =
+    pub without_first_rest : (k : Kept PoolRow) → k ≡ without_first d.cells c i → IsAtRest layer p (record d { cells = k })
+    without_first_rest k new =
         let queue = queue_fits c i in let few = rest_few (kept_rows d.cells c i) in let all = queue.few in
-        rows_rest c i (drop 1 (kept_rows d.cells c i)) (all-rest (RowLies p) (kept_rows d.cells c i) (rows_lie p d.cells c i is.lie))
-        (record { few = omega arith; short = all-rest (λ (r : PoolRow). IsShortIf r.message) (kept_rows d.cells c i) queue.short })
+        subst (λ k. IsAtRest layer p (record d { cells = k })) (sym new)
+        (rows_rest c i (drop 1 (kept_rows d.cells c i)) (all-rest (RowLies p) (kept_rows d.cells c i) (rows_lie p d.cells c i is.lie))
+        (record { few = omega arith; short = all-rest (λ (r : PoolRow). IsShortIf r.message) (kept_rows d.cells c i) queue.short }))
 
-    pub without_last_rest : IsAtRest layer p (record d { cells = without_last d.cells c i })
-    without_last_rest =
+    pub without_last_rest : (k : Kept PoolRow) → k ≡ without_last d.cells c i → IsAtRest layer p (record d { cells = k })
+    without_last_rest k new =
         let queue = queue_fits c i in let n = length (kept_rows d.cells c i) - 1 in
         let few = taken_few n (kept_rows d.cells c i) in let all = queue.few in
-        rows_rest c i (take n (kept_rows d.cells c i)) (all-taken (RowLies p) n (kept_rows d.cells c i) (rows_lie p d.cells c i is.lie))
-        (record { few = omega arith; short = all-taken (λ (r : PoolRow). IsShortIf r.message) n (kept_rows d.cells c i) queue.short })
+        subst (λ k. IsAtRest layer p (record d { cells = k })) (sym new)
+        (rows_rest c i (take n (kept_rows d.cells c i)) (all-taken (RowLies p) n (kept_rows d.cells c i) (rows_lie p d.cells c i is.lie))
+        (record { few = omega arith; short = all-taken (λ (r : PoolRow). IsShortIf r.message) n (kept_rows d.cells c i) queue.short }))
 
     -- A row that is there has a message, if any, that it may have.
     pub row_own : (r : ℕ) (o : Option PoolRow) → o ≡ kept_row d.cells c i r → IfSome o (λ row. CanBeOwn p row.message)

@@ -1,12 +1,12 @@
 -- What is seen of a layer's own cells that a caller changes, and that changes are undone.
-use Rattle.std.proofs.Common.{◌≡◌, ℕ, zero, suc, ◌-◌, true, List, [], ◌∷◌, Some, option_map, map, length, take, get_or, set, slice_index, refl, sym, ap, subst, ◌∙◌}
+use Rattle.std.proofs.Common.{◌≡◌, ℕ, zero, suc, ◌-◌, true, List, [], ◌∷◌, Some, option_map, map, length, take, get_or, set, slice_index, refl, sym, ap, subst, ◌∙◌, Option}
 use Rattle.std.proofs.lemmas.Iterator.Adapters.{option_map_id}
 use Rattle.std.proofs.lemmas.List.{length-map, map-id, set-get_or, set-set}
 use Rattle.layer_ast.specs.declared.syntax.Shape.TheVariants.{One}
 use Rattle.layer_mean.specs.State as state
 use Rattle.layer_mean.specs.State.{State, Contents, no_cell, numbers_in, cell_at, number_at, rows_at, row_at, has_room, written, with_number, with_rows, with_row, without_front}
 use Rattle.layer_mean.specs.declared.run.Row.{Row}
-use Rattle.cell_store.specs.Kept.{KeptCell, numbers, queues, Kept, kept_rows, kept_row, with_last, with_first, without_first, without_last, last_row, contents_seen, state_of}
+use Rattle.cell_store.specs.Kept.{KeptCell, numbers, queues, Kept, kept_rows, kept_row, with_last, with_first, without_first, without_last, first_row, last_row, contents_seen, state_of}
 use Rattle.cell_store.proofs.Seen.{rows_set_seen, rows_seen, row_seen, room_seen, last_seen, front_seen}
 use Rattle.cell_store.proofs.Undone.{first_undone, last_undone}
 use Rattle.file_layer.specs.OwnCells.{last_row_at, without_back, with_front_row, OwnChangesAreUndone}
@@ -26,15 +26,29 @@ module _ {R : Type 0} (see : R → Row) where
   long_seen : (k : Kept R) (c i : ℕ) → length (rows_at (state_of see k) c i) ≡ length (kept_rows k c i)
   long_seen k c i = ap length (rows_seen see k c i) ∙ length-map (kept_rows k c i) see
 
-  pub back_seen : (k : Kept R) (c i : ℕ) → state_of see (without_last k c i) ≡ without_back (state_of see k) c i
+  back_seen : (k : Kept R) (c i : ℕ) → state_of see (without_last k c i) ≡ without_back (state_of see k) c i
   back_seen k c i =
       rows_set_seen see k c i (take (length (kept_rows k c i) - 1) (kept_rows k c i)) ∙
       ap (with_rows (state_of see k) c i)
       (taken_seen (length (kept_rows k c i) - 1) (kept_rows k c i) ∙ (λ j. take (sym (long_seen k c i) j - 1) (sym (rows_seen see k c i) j)))
 
-  pub last_seen_at : (k : Kept R) (c i : ℕ) → last_row_at (state_of see k) c i ≡ option_map see (last_row k c i)
+  last_seen_at : (k : Kept R) (c i : ℕ) → last_row_at (state_of see k) c i ≡ option_map see (last_row k c i)
   last_seen_at k c i =
       ap (λ n. row_at (state_of see k) c i (n - 1)) (long_seen k c i) ∙ row_seen see k c i (length (kept_rows k c i) - 1)
+
+  -- The front row and the last, as they are taken.
+  pub front_read : (k : Kept R) (c i : ℕ) (o : Option R) → o ≡ first_row k c i → option_map see o ≡ row_at (state_of see k) c i 0
+  front_read k c i o is = ap (option_map see) is ∙ sym (row_seen see k c i 0)
+
+  pub last_read : (k : Kept R) (c i : ℕ) (o : Option R) → o ≡ last_row k c i → option_map see o ≡ last_row_at (state_of see k) c i
+  last_read k c i o is = ap (option_map see) is ∙ sym (last_seen_at k c i)
+
+  -- What is left.
+  pub front_left : (old k : Kept R) (c i : ℕ) → k ≡ without_first old c i → state_of see k ≡ without_front (state_of see old) c i
+  front_left old k c i new = ap (state_of see) new ∙ front_seen see old c i
+
+  pub back_left : (old k : Kept R) (c i : ℕ) → k ≡ without_last old c i → state_of see k ≡ without_back (state_of see old) c i
+  back_left old k c i new = ap (state_of see) new ∙ back_seen old c i
 
 -- ---- a state is that of cells whose rows are as they are seen
 
