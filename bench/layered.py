@@ -96,4 +96,5 @@ def main():
             bench.measure("load", min(events, 99_999), words)
 
 
-main()
+if __name__ == "__main__":
+    main()
