@@ -5,3 +5,5 @@
 mod failures;
 #[cfg(test)]
 mod served;
+#[cfg(test)]
+mod worked;

@@ -58,12 +58,26 @@ fn run_over<S: Shelf, O: Sink, E: Sink, N: Links, C: Clock>(
     run(alloc, words, shelf, out, err, links, clock)
 }
 
-fn words(alloc: Global, turns: &str) -> Result<Vec<String>, AllocError> {
+/// What a run leaves.
+pub(crate) fn left_by<N: Links, C: Clock>(
+    alloc: Global,
+    texts: &[&str],
+    mut shelf: MemShelf,
+    mut out: MemSink,
+    mut err: MemSink,
+    links: &mut N,
+    clock: &mut C,
+) -> Result<Left, AllocError> {
     let mut words = Vec::new(alloc);
-    for text in ["node", "f", "p", turns, "--me=0,1,2", "--run=layered"] {
+    for text in texts {
         words.push(String::from_str(alloc, text)?)?;
     }
-    Ok(words)
+    let status = run_over(alloc, &words, &mut shelf, &mut out, &mut err, links, clock);
+    Ok(Left {
+        status,
+        out: Vec::from_slice(alloc, out.contents())?,
+        err: Vec::from_slice(alloc, err.contents())?,
+    })
 }
 
 fn named(alloc: Global, name: &str, bytes: &[u8]) -> Result<NamedFile, AllocError> {
@@ -73,21 +87,19 @@ fn named(alloc: Global, name: &str, bytes: &[u8]) -> Result<NamedFile, AllocErro
     })
 }
 
+/// The counter layer as `f`, and another file as `p`.
+pub(crate) fn files(alloc: Global, other: &[u8]) -> Result<Vec<NamedFile>, AllocError> {
+    let files = vec![in alloc; named(alloc, "f", COUNTER)?, named(alloc, "p", other)?]?;
+    Ok(files)
+}
+
 /// Runs the node of a case.
 pub(crate) fn served(alloc: Global, case: Case) -> Result<Left, AllocError> {
-    let words = words(alloc, case.turns)?;
-    let files = vec![in alloc; named(alloc, "f", COUNTER)?, named(alloc, "p", PLAN)?]?;
-    let mut shelf = MemShelf::of(files, case.reads);
-    let mut out = MemSink::of(alloc, case.puts);
-    let mut err = MemSink::of(alloc, case.says);
+    let shelf = MemShelf::of(files(alloc, PLAN)?, case.reads);
+    let out = MemSink::of(alloc, case.puts);
+    let err = MemSink::of(alloc, case.says);
     let mut links = MemLinks::of(alloc, case.fates, case.listens, case.receives);
     let mut clock = MemClock::of(case.moments);
-    let status = run_over(
-        alloc, &words, &mut shelf, &mut out, &mut err, &mut links, &mut clock,
-    );
-    Ok(Left {
-        status,
-        out: Vec::from_slice(alloc, out.contents())?,
-        err: Vec::from_slice(alloc, err.contents())?,
-    })
+    let texts = ["node", "f", "p", case.turns, "--me=0,1,2", "--run=layered"];
+    left_by(alloc, &texts, shelf, out, err, &mut links, &mut clock)
 }
