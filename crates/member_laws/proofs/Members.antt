@@ -66,7 +66,7 @@ each_same_so : {A : Type 0} (P Q : A → Type 0) → ((x : A) → P x → Q x) �
 each_same_so P Q f [] h = tt
 each_same_so P Q f (x ∷ xs) h = (f x h.0, each_same_so P Q f xs h.1)
 
-each_unit : {A : Type 0} (xs : List A) → AllByRecursion (λ _. Unit {0}) xs
+pub each_unit : {A : Type 0} (xs : List A) → AllByRecursion (λ _. Unit {0}) xs
 each_unit [] = tt
 each_unit (x ∷ xs) = (tt, each_unit xs)
 
@@ -201,7 +201,7 @@ rank_below view id me is = position_below (λ other. other == id) (ids view) me 
 abbrev powers : List ℕ → ℕ
 powers xs = sum_by (λ i. 2 ^ i) xs
 
-bits_le : (ranks n : ℕ) (xs : List ℕ) → sum_by (λ x. if bit_at ranks x.0 == 1 then 2 ^ x.1 else 0) (enumerate_from n xs) ≤ powers xs
+pub bits_le : (ranks n : ℕ) (xs : List ℕ) → sum_by (λ x. if bit_at ranks x.0 == 1 then 2 ^ x.1 else 0) (enumerate_from n xs) ≤ powers xs
 bits_le ranks n [] = omega arith
 bits_le ranks n (x ∷ xs) = omega (
   arith,
@@ -304,7 +304,7 @@ packet_out : (stack : List LayerTree) (here : Here) (dir : Dir) (e : Event) → 
 packet_out stack here Up e is h = no_packet_above (IsSpellable stack) e.kind e
 packet_out stack here Down e is h = packet_below stack here e.kind e is h.message
 
-cons_each : {A : Type 0} (P : A → Type 0) (o : Option A) (xs : List A) → Where P o → AllByRecursion P xs → AllByRecursion P (cons_option o xs)
+pub cons_each : {A : Type 0} (P : A → Type 0) (o : Option A) (xs : List A) → Where P o → AllByRecursion P xs → AllByRecursion P (cons_option o xs)
 cons_each P None xs h i = i
 cons_each P (Some x) xs h i = (h, i)
 

@@ -1,5 +1,5 @@
 -- What is written and handed on in acts.
-use Rattle.std.proofs.Common.{◌≡◌, ℕ, zero, suc, ◌+◌, ◌≤◌, Bool, true, false, List, [], ◌∷◌, ◌++◌, length, map, take, drop, refl, sym, ap, ◌∙◌, append_assoc, append-nil, arith, Option, None}
+use Rattle.std.proofs.Common.{◌≡◌, ℕ, suc, ◌≤◌, Bool, true, false, List, [], ◌∷◌, ◌++◌, length, map, take, drop, refl, sym, ap, ◌∙◌, append_assoc, append-nil, arith, Option, None}
 use Rattle.std.proofs.lemmas.List.{length-take}
 use Rattle.std.proofs.lemmas.List.Elements.{filter_map-append}
 use Rattle.std.specs.List.{flat_map}
@@ -14,7 +14,7 @@ use Rattle.run_mean.specs.Journal.{Handed, handed_in, handed_output}
 use Rattle.run_mean.specs.Member.{Output}
 use Rattle.run_mean.specs.Report.{installed_line, lines_of, member_lines, number_behind, output_lines}
 use Rattle.run_mean.specs.World.{World, Did, taken, refused, absent, shown, happens, member_at}
-use Rattle.node_laws.specs.Acts.{Act, puts, sends, ActsAreOfDoings, EventActs, acts_of, did_acts, event_acts, line_in, lines_in, lost_acts, output_acts, outputs_acts, send_in, sending_acts, sends_in}
+use Rattle.node_laws.specs.Acts.{Act, puts, acts_of, did_acts, event_acts, line_in, lines_in, lost_acts, output_acts, outputs_acts, send_in, sending_acts, sends_in}
 use Rattle.node_laws.specs.Doings.{Doing, does, asks, bears, events_of}
 use Rattle.node_laws.specs.Losses.{behind, deaf_line, event_lines, event_sends, failures_in, fan, first_in, first_of, journal_line, lossy_lines, lost_line, moment_at, sends_of, written_of}
 use Rattle.node_laws.proofs.Fans.{output_fan}

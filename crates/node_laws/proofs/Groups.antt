@@ -2,7 +2,7 @@
 use Rattle.std.proofs.Common.{◌≡◌, ℕ, zero, suc, ◌+◌, ◌-◌, ◌<◌, ◌≤◌, Bool, true, false, List, [], ◌∷◌, ◌++◌, map, Option, Some, None, inl, refl, ap, subst, arith}
 use Rattle.std.specs.Prelude.{◌^◌, ◌==◌, ◌&&◌, not, nat_lt, if◌then◌else◌, option_map, option_to_list, slice_get}
 use Rattle.std.specs.Int.{bit_at}
-use Rattle.std.specs.List.{AllByRecursion, cons_option, enumerate_from, filter, filter_map, flat_map, range_with_len, sum_by}
+use Rattle.std.specs.List.{AllByRecursion, filter, filter_map, flat_map, range_with_len, sum_by}
 use Rattle.std.specs.Option.{option_map_or}
 use Rattle.std.proofs.lemmas.Bool.{eqb-true, ltb-true, ltb-false}
 use Rattle.std.proofs.lemmas.Nat.Bits.{bit_at_above}
@@ -31,6 +31,7 @@ use Rattle.script_mean.specs.Event.{member_of}
 use Rattle.stack_mean.specs.Plan.{Plan}
 use Rattle.job_mean.specs.Job.{layered}
 use Rattle.member_laws.specs.Members.{IsChainedWorld}
+use Rattle.member_laws.proofs.Members.{bits_le, cons_each, each_unit}
 use Rattle.run_mean.specs.Common.{with_plans}
 use Rattle.run_mean.specs.Journal.{receivers, handed_output, handed_in}
 use Rattle.run_mean.specs.View.{first_view, mask_of, last_ltime}
@@ -90,24 +91,10 @@ powers_below p n first zero h = omega arith
 powers_below p n first (suc count) h =
     one_more (p first) n first (filter p (range_with_len (first + 1) count)) h (powers_below p n (first + 1) count)
 
-mask_le : (ranks first : ℕ) (xs : List ℕ) →
-    sum_by (λ x. if bit_at ranks x.0 == 1 then 2 ^ x.1 else 0) (enumerate_from first xs) ≤ sum_by (λ id. 2 ^ id) xs
-mask_le ranks first [] = omega arith
-mask_le ranks first (x ∷ xs) = omega (
-  arith,
-  sum_by-cons (λ (x : ℕ × ℕ). if bit_at ranks x.0 == 1 then 2 ^ x.1 else 0) (first, x) (enumerate_from (first + 1) xs),
-  sum_by-cons (λ id. 2 ^ id) x xs,
-  mask_le ranks (first + 1) xs,
-  go (bit_at ranks first == 1),
-) where
-  go : (b : Bool) → (if b then 2 ^ x else 0) ≤ 2 ^ x
-  go true = omega arith
-  go false = omega arith
-
 mask_below : (view : View) (ranks n : ℕ) → AllByRecursion (λ id. id < n) (ids view) → mask_of view ranks < 2 ^ n
 mask_below view ranks n h = omega (
   arith,
-  mask_le ranks 0 (ids view),
+  bits_le ranks 0 (ids view),
   powers_below (λ id. bit_at view.mask id == 1) n 0 32 h,
   pow_pos n,
 )
@@ -139,14 +126,10 @@ member_within : (w : World) (id n : ℕ) (view : View) (states : List State) →
     AllByRecursion (λ id. id < n) (ids view)
 member_within w id n view states h is = subst (IsWithin n) is (each_or (IsWithin n) w.members id out h tt)
 
-each_number : (xs : List ℕ) → AllByRecursion (λ _. Unit {0}) xs
-each_number [] = tt
-each_number (x ∷ xs) = (tt, each_number xs)
-
 pub first_views_are_within : FirstViewsAreWithin
 first_views_are_within stack group stamp n few =
     each_map (λ _. Unit {0}) (IsWithin n) (opened stack (first_view n))
-    (λ id _. opened_within stack (first_view n) id n (omega (arith, pow_pos n))) (range_with_len 0 n) (each_number (range_with_len 0 n))
+    (λ id _. opened_within stack (first_view n) id n (omega (arith, pow_pos n))) (range_with_len 0 n) (each_unit (range_with_len 0 n))
 
 pub events_keep_within : EventsKeepWithin
 events_keep_within stack plans w event n h = each_happens stack plans w event (λ (happening : Happening). AreWithin n happening.world) record {
@@ -164,10 +147,6 @@ events_keep_within stack plans w event n h = each_happens stack plans w event (�
 
 abbrev AreBelow : ℕ → Packet → Type 0
 AreBelow n p = AllByRecursion (λ id. id < n) (ids p.view)
-
-each_cons : {A : Type 0} (P : A → Type 0) (o : Option A) (xs : List A) → Where P o → AllByRecursion P xs → AllByRecursion P (cons_option o xs)
-each_cons P None xs h i = i
-each_cons P (Some x) xs h i = (h, i)
 
 each_behind : {A : Type 0} (P : A → Type 0) (xs ys : List A) → AllByRecursion P (xs ++ ys) → AllByRecursion P ys
 each_behind P [] ys h = h
@@ -204,7 +183,7 @@ view_out here n Down e h = view_below here n e.kind e h
 views_out : (here : Here) (n : ℕ) (outs : List (Dir × Event)) → AllByRecursion (λ id. id < n) (ids here.view) →
     AllByRecursion (AreBelow n) (filter_map packet_in (map (output_of here) outs))
 views_out here n [] h = tt
-views_out here n (x ∷ outs) h = each_cons (AreBelow n) (packet_in (output_of here x)) _ (view_out here n x.0 x.1 h) (views_out here n outs h)
+views_out here n (x ∷ outs) h = cons_each (AreBelow n) (packet_in (output_of here x)) _ (view_out here n x.0 x.1 h) (views_out here n outs h)
 
 receivers_below : (id n : ℕ) (view : View) (to : Dest) → AllByRecursion (λ id. id < n) (ids view) →
     AllByRecursion (λ id. id < n) (receivers id view to)

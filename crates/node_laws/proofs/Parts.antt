@@ -1,13 +1,13 @@
 -- What is done, in parts.
-use Rattle.std.proofs.Common.{◌≡◌, ℕ, zero, suc, ◌+◌, ◌≤◌, Bool, List, [], ◌∷◌, ◌++◌, length, map, take, drop, refl, sym, ap, subst, ◌∙◌, append_assoc, append-nil, length-append, arith, Option, Some, None}
-use Rattle.std.proofs.lemmas.List.{map-append, length-map, length-replicate}
+use Rattle.std.proofs.Common.{◌≡◌, ℕ, zero, suc, ◌+◌, Bool, List, [], ◌∷◌, ◌++◌, length, map, drop, refl, sym, ap, subst, ◌∙◌, append_assoc, append-nil, arith, Option, None}
+use Rattle.std.proofs.lemmas.List.{map-append}
 use Rattle.std.proofs.lemmas.List.Elements.{filter_map-append}
 use Rattle.outside.specs.Links.{Network, after_recv}
 use Rattle.layer_mean.specs.Tree.{LayerTree}
 use Rattle.script_mean.specs.Event.{member_of}
 use Rattle.script_mean.specs.declared.event.ScriptEvent.{ScriptEvent}
 use Rattle.stack_mean.specs.Plan.{Plan}
-use Rattle.run_mean.specs.Journal.{Handed, Heard, event_in, journal}
+use Rattle.run_mean.specs.Journal.{event_in, journal}
 use Rattle.run_mean.specs.Common.{with_plans}
 use Rattle.run_mean.specs.Member.{Output}
 use Rattle.run_mean.specs.Report.{number_behind}
@@ -15,8 +15,8 @@ use Rattle.run_mean.specs.World.{World, Did, taken, refused, absent, shown, happ
 use Rattle.std.specs.List.{filter_map}
 use Rattle.std.specs.Prelude.{replicate}
 use Rattle.node_laws.specs.Doings.{Doing, does, asks, bears, events_of, heard_in, note_in}
-use Rattle.node_laws.specs.Losses.{behind, deaf_line, event_lines, event_losses, event_sends, failures_in, fan, losses, losses_in, lost_of, sends_of, written_of}
-use Rattle.node_laws.specs.Network.{Goes, after_sends, fates_of, met_as, sent_as}
+use Rattle.node_laws.specs.Losses.{behind, deaf_line, event_lines, event_losses, event_sends, fan, losses, losses_in, lost_of, sends_of, written_of}
+use Rattle.node_laws.specs.Network.{Goes, after_sends, met_as, sent_as}
 use Rattle.node_laws.proofs.Sendings.{handed_behind, met_behind, failures_none}
 
 pub events_append : (xs ys : List Doing) → events_of (xs ++ ys) ≡ events_of xs ++ events_of ys
