@@ -1,35 +1,14 @@
 -- The ids of a view, and those to whom a cast goes, from a place of the mask on.
-use Rattle.std.proofs.Common.{◌≡◌, ℕ, suc, ◌+◌, ◌-◌, ◌<◌, ◌≤◌, ◌≢◌, Bool, true, false, List, [], ◌∷◌, refl, ap, ◌∙◌, arith, Option, Some, None, inl, inr}
+use Rattle.std.proofs.Common.{◌≡◌, ℕ, suc, ◌+◌, ◌<◌, ◌≤◌, ◌≢◌, Bool, true, false, List, [], ◌∷◌, ap, ◌∙◌, arith, Option, Some, None, inl, inr}
 use Rattle.std.proofs.lemmas.Bool.Decides.{eqb_tells}
 use Rattle.std.specs.Prelude.{◌==◌, cond, not, slice_get}
 use Rattle.std.specs.Int.{bit_at}
-use Rattle.std.specs.List.{filter, range_with_len}
+use Rattle.std.specs.List.{filter}
 use Rattle.msg_core.specs.View.{ids}
 use Rattle.msg_core.specs.declared.packet.View.{View}
 use Rattle.msg_core.specs.declared.packet.Dest.TheVariants.{All}
 use Rattle.run_mean.specs.Journal.{receivers}
-
-first_of : (a b : ℕ) → a < b → range_with_len a (b - a) ≡ a ∷ range_with_len (a + 1) (b - (a + 1))
-first_of a b small = let one_more : b - a ≡ suc (b - (a + 1)) = omega arith in ap (range_with_len a) one_more
-
--- Those from a place on.
-pub ids_from : View → ℕ → List ℕ
-ids_from view at = filter (λ id. bit_at view.mask id == 1) (range_with_len at (32 - at))
-
-ids_next : (view : View) (at : ℕ) (set : Bool) → at < 32 → (bit_at view.mask at == 1) ≡ set →
-    ids_from view at ≡ cond set (at ∷ ids_from view (at + 1)) (ids_from view (at + 1))
-unfolding ids_from
-ids_next view at set small is =
-    ap (filter (λ id. bit_at view.mask id == 1)) (first_of at 32 small)
-    ∙ ap (λ b. cond b (at ∷ ids_from view (at + 1)) (ids_from view (at + 1))) is
-
-ids_end : (view : View) (at : ℕ) → 32 ≤ at → ids_from view at ≡ []
-unfolding ids_from
-ids_end view at past = let none : 32 - at ≡ 0 = omega arith in ap (λ n. filter (λ id. bit_at view.mask id == 1) (range_with_len at n)) none
-
-pub ids_begin : (view : View) → ids view ≡ ids_from view 0
-unfolding ids_from
-ids_begin view = refl
+use Rattle.view_core.proofs.Ids.{ids_from, ids_next, ids_end, ids_begin}
 
 -- The member of a rank among those from a place on.
 pub ranked_from : View → (rank at : ℕ) → Option ℕ

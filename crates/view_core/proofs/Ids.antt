@@ -17,18 +17,18 @@ first_of a b small = let one_more : b - a ≡ suc (b - (a + 1)) = omega arith in
 pub ids_from : View → ℕ → List ℕ
 ids_from view at = filter (λ id. bit_at view.mask id == 1) (range_with_len at (32 - at))
 
-ids_next : (view : View) (at : ℕ) (set : Bool) → at < 32 → (bit_at view.mask at == 1) ≡ set →
+pub ids_next : (view : View) (at : ℕ) (set : Bool) → at < 32 → (bit_at view.mask at == 1) ≡ set →
     ids_from view at ≡ cond set (at ∷ ids_from view (at + 1)) (ids_from view (at + 1))
 unfolding ids_from
 ids_next view at set small is =
     ap (filter (λ id. bit_at view.mask id == 1)) (first_of at 32 small)
     ∙ ap (λ b. cond b (at ∷ ids_from view (at + 1)) (ids_from view (at + 1))) is
 
-ids_end : (view : View) (at : ℕ) → 32 ≤ at → ids_from view at ≡ []
+pub ids_end : (view : View) (at : ℕ) → 32 ≤ at → ids_from view at ≡ []
 unfolding ids_from
 ids_end view at past = let none : 32 - at ≡ 0 = omega arith in ap (λ n. filter (λ id. bit_at view.mask id == 1) (range_with_len at n)) none
 
-ids_begin : (view : View) → members.ids view ≡ ids_from view 0
+pub ids_begin : (view : View) → members.ids view ≡ ids_from view 0
 unfolding ids_from
 ids_begin view = refl
 
