@@ -66,6 +66,7 @@ fn parted(alloc: Global, text: &[u8], mark: &[u8]) -> Result<(Vec<u8>, Vec<u8>),
     Ok((behind, others))
 }
 
+/// What stands behind the mark alone.
 fn behind(alloc: Global, text: &[u8], mark: &[u8]) -> Result<Vec<u8>, AllocError> {
     let (behind, _) = parted(alloc, text, mark)?;
     Ok(behind)
