@@ -1,6 +1,6 @@
 //! Events that were sent.
 
-ghost use Rattle.std.specs.Prelude.{◌≡◌, ◌<◌, ◌≤◌, [], ◌∷◌, ◌++◌, length, drop, slice_get, IfOk};
+ghost use Rattle.std.specs.Prelude.{◌≡◌, ◌<◌, ◌≤◌, [], ◌∷◌, ◌++◌, length, drop, slice_get, Some, option_map, IfOk};
 ghost use Rattle.circular_buffer.specs.Buffer.{buffer};
 ghost use Rattle.slot_pool.specs.References.{Covers};
 ghost use Rattle.pool_message.specs.Moves.{Returned};
@@ -80,6 +80,17 @@ impl Events {
         ensures rest { self.new ≡ buffer (drop 1 self.old.items) self.old.capacity }
     {
         self.ring.pop_front()
+    }
+
+    /// The direction of event number `k`, which is one of those that there are.
+    pub fn direction(&self, k: usize) -> Dir
+        requires { k < length self.now.items }
+        ensures { option_map (λ e. e.0) (slice_get self.now.items k) ≡ Some result }
+    {
+        match self.ring.get(k) {
+            Some((direction, _)) => *direction,
+            None => unreachable!(),
+        }
     }
 
     /// Lets all go, and gives the references of their messages back.
