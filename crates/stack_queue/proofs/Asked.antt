@@ -1,5 +1,5 @@
 -- What a visit asks is there while a run goes on.
-use Rattle.std.proofs.Common.{◌≡◌, ℕ, ◌*◌, ◌-◌, ◌≤◌, Bool, true, false, List, [], ◌∷◌, ◌++◌, Option, Some, None, length, flat_map, refl, ap, arith}
+use Rattle.std.proofs.Common.{◌≡◌, ℕ, ◌+◌, ◌*◌, ◌-◌, ◌≤◌, Bool, true, false, List, [], ◌∷◌, ◌++◌, Option, Some, None, length, flat_map, refl, ap, arith}
 use Rattle.std.specs.List.{AllByRecursion}
 use Rattle.std.proofs.lemmas.List.{length-append, length-map}
 use Rattle.std.proofs.lemmas.List.Sums.{sum_by-cons}
@@ -94,14 +94,12 @@ abbrev no_layout : Layout
 no_layout = record { rows = []; numbers = 0; messages = 0; hand = 0; places = 0 }
 
 -- there are no more tasks than they weigh
+few_seen : (b : Begun) → BeginsWell b → (ts : List (Task Event)) → AllByRecursion (IsChainedTask b.stack) ts → length ts ≤ pending_weight b.stack ts
+few_seen b well ts chained = tasks_weigh b.stack (typed_is_orderly b.stack well.typed) well.no_cycle ts
+    (all_as (IsChainedTask b.stack) (IsKnown b.stack) (chained_is_known b.stack) ts chained)
+
 pub few_tasks : (b : Begun) → BeginsWell b → (p : List Held) (n : Now) → Going b p n → length n.tasks ≤ weight_of b p n.tasks
-few_tasks b well p n g =
-    let known = all_as (IsChainedTask b.stack) (IsKnown b.stack) (chained_is_known b.stack) (tasks_seen p n.tasks) g.chained.tasks in
-    omega (
-      arith,
-      tasks_weigh b.stack (typed_is_orderly b.stack well.typed) well.no_cycle (tasks_seen p n.tasks) known,
-      length-map n.tasks (task_seen p),
-    )
+few_tasks b well p n g = omega (arith, few_seen b well (tasks_seen p n.tasks) g.chained.tasks, length-map n.tasks (task_seen p))
 
 module _ (b : Begun) (well : BeginsWell b) (p : List Held) (states : List State) (refs : List ℕ) (t : PoolTask) (rest : List PoolTask)
     (n : Now) (g : Going b p (record n { states = states; refs = refs; tasks = t ∷ rest })) where
@@ -147,9 +145,11 @@ module _ (b : Begun) (well : BeginsWell b) (p : List Held) (states : List State)
       sum_by-cons (task_joins b.stack) (task_seen p t) (tasks_seen p rest),
     )
 
-    pub places_within : places_needed (layer_at b.stack t.at) t.direction (event_seen p t.event) ≤ task_weight b.stack b.first
+    pub places_within : length rest + places_needed (layer_at b.stack t.at) t.direction (event_seen p t.event) ≤ task_weight b.stack b.first
     places_within = omega (
       arith,
+      few_seen b well (tasks_seen p rest) g.chained.tasks.1,
+      length-map rest (task_seen p),
       fits.places,
       places_at_a_desk no_layout (layer_at b.stack t.at) t.direction (event_seen p t.event),
       g.weight,

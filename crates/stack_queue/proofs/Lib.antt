@@ -1,4 +1,5 @@
 pub mod Refs
+pub mod Lists
 pub mod Lines
 pub mod Asked
 pub mod Steps

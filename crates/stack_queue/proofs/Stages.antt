@@ -1,5 +1,5 @@
 -- One of the stages of a stack makes a visit.
-use Rattle.std.proofs.Common.{◌≡◌, ℕ, ◌+◌, ◌*◌, ◌<◌, ◌≤◌, List, [], ◌++◌, map, set, get_or, length, flat_map, sym, ap, ◌∙◌, arith}
+use Rattle.std.proofs.Common.{◌≡◌, ℕ, ◌+◌, ◌*◌, ◌<◌, ◌≤◌, List, ◌++◌, map, set, get_or, length, flat_map, sym, ap, ◌∙◌, arith}
 use Rattle.std.specs.List.{AllByRecursion}
 use Rattle.std.proofs.lemmas.List.{get_or-map, length-map}
 use Rattle.std.proofs.lemmas.List.FromFn.{get_or-range_with_len}
@@ -13,8 +13,6 @@ use Rattle.layer_mean.specs.State.{State}
 use Rattle.layer_mean.specs.Tree.{LayerTree, no_layer}
 use Rattle.layer_mean.specs.Visit.{step, no_state}
 use Rattle.layer_desk.specs.Need.{most_places}
-use Rattle.pool_message.specs.Seen.{event_refs}
-use Rattle.pool_message.specs.declared.event.PoolEvent.{PoolEvent}
 use Rattle.layer_stage.specs.Room.{most_kept}
 use Rattle.stack_queue.specs.Stages.{Stand}
 use Rattle.stack_queue.proofs.Refs.{all_at, map_set_same, each_at, each_set, each_few, others_stay}
@@ -54,59 +52,55 @@ module _ {S : Type 0} (place : S → ℕ) (layer : S → LayerTree) (refs : S �
     refs_within : (i : ℕ) → times i (refs (get_or stages k d)) ≤ times i (flat_map refs stages)
     refs_within i = each_at refs stages k d i within
 
-    -- what it refers to is covered, with the event that it takes
-    module _ (e : PoolEvent) (more : List ℕ) (covers : Covers p (flat_map refs stages ++ ((event_refs e ++ more)))) where
-      pub covers_at : Covers p (refs (get_or stages k d) ++ (event_refs e ++ []))
+    -- what it refers to is covered, with what it takes
+    module _ (taken more : List ℕ) (covers : Covers p (flat_map refs stages ++ (taken ++ more))) where
+      pub covers_at : Covers p (refs (get_or stages k d) ++ taken)
       covers_at = record {
         covers = λ i. omega (
           arith,
           covers.covers i,
           refs_within i,
-          times-append i (flat_map refs stages) (event_refs e ++ more),
-          times-append i (event_refs e) more,
-          times-append i (refs (get_or stages k d)) (event_refs e ++ []),
-          times-append i (event_refs e) [],
+          times-append i (flat_map refs stages) (taken ++ more),
+          times-append i taken more,
+          times-append i (refs (get_or stages k d)) taken,
         );
       }
 
-      module _ (q : List Held) (s' : S) (sent : List ℕ) (moved : Moved p q (refs (get_or stages k d) ++ (event_refs e ++ [])) (refs s' ++ sent)) where
+      module _ (q : List Held) (s' : S) (sent : List ℕ) (moved : Moved p q (refs (get_or stages k d) ++ taken) (refs s' ++ sent)) where
         same_refs : (i : ℕ) → times i (flat_map refs (set stages k s')) + times i (refs (get_or stages k d)) ≡ times i (flat_map refs stages) + times i (refs s')
         same_refs i = each_set refs stages k s' d i within
 
-        from_here : (i : ℕ) → times i (refs (get_or stages k d) ++ (event_refs e ++ [])) ≡ times i (refs (get_or stages k d)) + times i (event_refs e)
-        from_here i = omega (arith, times-append i (refs (get_or stages k d)) (event_refs e ++ []), times-append i (event_refs e) [])
-
         -- all stages have moved as it did
-        pub moved_all : Moved p q (flat_map refs stages ++ event_refs e) (flat_map refs (set stages k s') ++ sent)
+        pub moved_all : Moved p q (flat_map refs stages ++ taken) (flat_map refs (set stages k s') ++ sent)
         moved_all = record {
           slots = moved.slots;
           counts = λ i. omega (
             arith,
             moved.counts i,
             same_refs i,
-            from_here i,
+            times-append i (refs (get_or stages k d)) taken,
             times-append i (refs s') sent,
-            times-append i (flat_map refs stages) (event_refs e),
+            times-append i (flat_map refs stages) taken,
             times-append i (flat_map refs (set stages k s')) sent,
           );
           kept = λ i less. moved.kept i (omega (
             arith,
             less,
             refs_within i,
-            from_here i,
-            times-append i (flat_map refs stages) (event_refs e),
+            times-append i (refs (get_or stages k d)) taken,
+            times-append i (flat_map refs stages) taken,
           ));
         }
 
         others : Ready q s' → AllByRecursion (Ready q) (set stages k s') × (map (state q) (set stages k s') ≡ set (map (state p) stages) k (state q s'))
-        others new = others_stay refs (Ready p) (Ready q) (state p) (state q) p (refs (get_or stages k d) ++ (event_refs e ++ []))
-            (λ x beside ready. frame p q (refs (get_or stages k d) ++ (event_refs e ++ [])) (refs s' ++ sent) x moved beside ready)
+        others new = others_stay refs (Ready p) (Ready q) (state p) (state q) p (refs (get_or stages k d) ++ taken)
+            (λ x beside ready. frame p q (refs (get_or stages k d) ++ taken) (refs s' ++ sent) x moved beside ready)
             stages k s' d within (λ i. omega (
               arith,
               covers.covers i,
-              from_here i,
-              times-append i (flat_map refs stages) (event_refs e ++ more),
-              times-append i (event_refs e) more,
+              times-append i (refs (get_or stages k d)) taken,
+              times-append i (flat_map refs stages) (taken ++ more),
+              times-append i taken more,
             )) stand.ready new
 
         pub stands : Ready q s' → place s' ≡ place (get_or stages k d) → layer s' ≡ layer (get_or stages k d) → Stand place layer Ready stack q (set stages k s')

@@ -3,7 +3,7 @@ use Rattle.std.proofs.Common.{◌≡◌, ℕ, ◌+◌, ◌-◌, ◌≤◌, true,
 use Rattle.std.proofs.lemmas.List.{map-append, length-append}
 use Rattle.std.proofs.lemmas.List.Sums.{sum_by-cons, sum_by-append}
 use Rattle.slot_pool.specs.Held.{Held, count_at, spare}
-use Rattle.slot_pool.specs.References.{Moved, Covers}
+use Rattle.slot_pool.specs.References.{Moved}
 use Rattle.slot_pool.specs.Times.{times}
 use Rattle.slot_pool.proofs.Times.{times-append}
 use Rattle.slot_pool.proofs.References.{moved-chain, moved-beside, moved-reordered}
@@ -22,35 +22,14 @@ use Rattle.layer_eval.proofs.Acts.{predicted_behind}
 use Rattle.pool_message.specs.Seen.{event_refs, event_seen, EventLies}
 use Rattle.pool_message.specs.Sent.{sent_refs, sent_seen, SentLie}
 use Rattle.pool_message.specs.declared.event.PoolEvent.{PoolEvent}
-use Rattle.pool_message.proofs.Lists.{each_stays}
-use Rattle.pool_message.proofs.Stays.{event_stays, sent_stay}
+use Rattle.pool_message.proofs.Stays.{sent_stay}
 use Rattle.layer_stage.specs.Room.{slots_needed}
 use Rattle.stack_queue.specs.declared.tasks.PoolTask.{PoolTask}
-use Rattle.stack_queue.specs.Pending.{task_seen, tasks_seen, tasks_refs, TasksLie, task_of, sent_on}
+use Rattle.stack_queue.specs.Pending.{task_seen, tasks_seen, tasks_refs, TasksLie}
 use Rattle.stack_queue.specs.Going.{Begun, Now, BeginsWell, Going, line_of, weight_of, joins_of}
 use Rattle.stack_queue.proofs.Refs.{all_both, each_both}
 use Rattle.stack_queue.proofs.Lines.{behind, chained_behind, lighter, joins_less, visited_behind, put_out_behind, comes_behind, enough_behind}
 use Rattle.stack_queue.proofs.Asked.{fits, slots_are}
-
--- what was sent, as tasks
-seen_on : (p : List Held) (at : ℕ) (xs : List (Dir × PoolEvent)) → tasks_seen p (sent_on at xs) ≡ tasks_of at (sent_seen p xs)
-seen_on p at [] = refl
-seen_on p at (x ∷ xs) = ap (λ ts. task_seen p (task_of at x) ∷ ts) (seen_on p at xs)
-
-refs_on : (at : ℕ) (xs : List (Dir × PoolEvent)) → tasks_refs (sent_on at xs) ≡ sent_refs xs
-refs_on at [] = refl
-refs_on at (x ∷ xs) = ap (λ rs. event_refs x.1 ++ rs) (refs_on at xs)
-
-lie_on : (p : List Held) (at : ℕ) (xs : List (Dir × PoolEvent)) → SentLie p xs → TasksLie p (sent_on at xs)
-lie_on p at [] h = tt
-lie_on p at (x ∷ xs) h = (h.0, lie_on p at xs h.1)
-
-tasks_stay : (p q : List Held) (a c : List ℕ) → Moved p q a c → (ts : List PoolTask) → Covers p (a ++ tasks_refs ts) → TasksLie p ts →
-    TasksLie q ts × (tasks_seen q ts ≡ tasks_seen p ts)
-tasks_stay p q a c moved ts covers lie =
-    each_stays (λ (t : PoolTask). event_refs t.event) (λ t. EventLies p t.event) (λ t. EventLies q t.event) (task_seen p) (task_seen q) p a
-    (λ t beside lies. let kept = event_stays p q a c moved t.event beside lies in
-    (kept.0, ap (λ e. record { at = t.at; dir = t.direction; event = e }) kept.1)) ts covers lie
 
 -- one more is seen behind others
 one_more : {A B : Type 0} (f : A → B) (xs : List A) (x : A) (ys zs : List B) → map f xs ≡ ys ++ zs → map f (xs ++ x ∷ []) ≡ ys ++ (zs ++ f x ∷ [])
@@ -90,76 +69,60 @@ module _ (b : Begun) (well : BeginsWell b) (p : List Held) (states : List State)
   )
 
   module _ (placed : is_place (length b.stack) t.at ≡ true) (q : List Held) (states' : List State) (refs' : List ℕ)
-      (sent : List (Dir × PoolEvent)) (decided : Predicted)
-      (moved : Moved p q (refs ++ event_refs t.event) (refs' ++ sent_refs sent))
+      (after : List PoolTask) (decided : Predicted)
+      (moved : Moved p q (refs ++ (event_refs t.event ++ tasks_refs rest)) (refs' ++ tasks_refs after))
       (spent : spare p ≤ spare q + slots_needed (layer_at b.stack t.at) t.direction (event_seen p t.event))
-      (lie : SentLie q sent)
+      (lie : TasksLie q after)
       (state_is : states' ≡ set states (t.at - 1) (visit_of b p states t).state)
-      (sent_is : sent_seen q sent ≡ (visit_of b p states t).sent)
+      (tasks_are : tasks_seen q after ≡ tasks_seen p rest ++ tasks_of t.at (visit_of b p states t).sent)
       (decided_is : decided ≡ as_predicted (visit_of b p states t).decided) where
     same_visit : visit_of b p states t ≡ visit_of b p g.world.states t
     same_visit = ap (λ ss. visit_of b p ss t) (sym g.states)
 
-    rest_stays : TasksLie q rest × (tasks_seen q rest ≡ tasks_seen p rest)
-    rest_stays = tasks_stay p q (refs ++ event_refs t.event) (refs' ++ sent_refs sent) moved rest
-        (record { covers = λ i. omega (arith, cover i, times-append i refs (event_refs t.event), times-append i (refs ++ event_refs t.event) (tasks_refs rest)) })
-        g.tasks_lie.1
-
     out_stays : SentLie q n.out × (sent_seen q n.out ≡ sent_seen p n.out)
-    out_stays = sent_stay p q (refs ++ event_refs t.event) (refs' ++ sent_refs sent) moved n.out
-        (record { covers = λ i. omega (arith, cover i, times-append i refs (event_refs t.event), times-append i (refs ++ event_refs t.event) (sent_refs n.out)) })
+    out_stays = sent_stay p q (refs ++ (event_refs t.event ++ tasks_refs rest)) (refs' ++ tasks_refs after) moved n.out
+        (record {
+          covers = λ i. omega (
+            arith,
+            cover i,
+            times-append i refs (event_refs t.event ++ tasks_refs rest),
+            times-append i (event_refs t.event) (tasks_refs rest),
+            times-append i (refs ++ (event_refs t.event ++ tasks_refs rest)) (sent_refs n.out),
+          );
+        })
         g.out_lies
 
     -- the line that is shown is the next one
-    tasks_next : tasks_seen q (rest ++ sent_on t.at sent) ≡ tasks_seen p rest ++ tasks_of t.at (visit_of b p g.world.states t).sent
-    tasks_next = map-append (task_seen q) rest (sent_on t.at sent)
-        ∙ ap (λ ts. ts ++ tasks_seen q (sent_on t.at sent)) rest_stays.1
-        ∙ ap (λ ts. tasks_seen p rest ++ ts) (seen_on q t.at sent ∙ ap (tasks_of t.at) (sent_is ∙ ap (λ (x : Visited). x.sent) same_visit))
+    tasks_next : tasks_seen q after ≡ tasks_seen p rest ++ tasks_of t.at (visit_of b p g.world.states t).sent
+    tasks_next = tasks_are ∙ ap (λ (x : Visited). tasks_seen p rest ++ tasks_of t.at x.sent) same_visit
 
-    line_next : line_of (visited t.at g.world (visit_of b p g.world.states t)).world q (rest ++ sent_on t.at sent) ≡ next
+    line_next : line_of (visited t.at g.world (visit_of b p g.world.states t)).world q after ≡ next
     line_next = ap (λ ts. record { world = (visited t.at g.world (visit_of b p g.world.states t)).world; tasks = ts }) tasks_next
         ∙ sym (visited_behind b.stack well.typed well.no_cycle g.world (task_seen p t) (tasks_seen p rest) g.chained placed)
 
-    weight_next : weight_of b q (rest ++ sent_on t.at sent) ≡ pending_weight b.stack next.tasks
+    weight_next : weight_of b q after ≡ pending_weight b.stack next.tasks
     weight_next = ap (λ (r : Line Work Event). pending_weight b.stack r.tasks) line_next
 
-    joins_next : joins_of b q (rest ++ sent_on t.at sent)
+    joins_next : joins_of b q after
         ≡ pending_joins b.stack (tasks_seen p rest) + pending_joins b.stack (sent_tasks b.stack (state_at g.world t.at) (task_seen p t))
     joins_next = ap (pending_joins b.stack) tasks_next
         ∙ sum_by-append (task_joins b.stack) (tasks_seen p rest) (sent_tasks b.stack (state_at g.world t.at) (task_seen p t))
 
-    move : Moved p q (refs ++ (tasks_refs (t ∷ rest) ++ sent_refs n.out)) (refs' ++ (tasks_refs (rest ++ sent_on t.at sent) ++ sent_refs n.out))
-    move = moved-reordered p q ((refs ++ event_refs t.event) ++ (tasks_refs rest ++ sent_refs n.out)) ((refs' ++ sent_refs sent) ++ (tasks_refs rest ++ sent_refs n.out))
-        (refs ++ (tasks_refs (t ∷ rest) ++ sent_refs n.out)) (refs' ++ (tasks_refs (rest ++ sent_on t.at sent) ++ sent_refs n.out))
-        (λ i. omega (
-          arith,
-          times-append i (refs ++ event_refs t.event) (tasks_refs rest ++ sent_refs n.out),
-          times-append i refs (event_refs t.event),
-          times-append i (tasks_refs rest) (sent_refs n.out),
-          times-append i refs (tasks_refs (t ∷ rest) ++ sent_refs n.out),
-          times-append i (tasks_refs (t ∷ rest)) (sent_refs n.out),
-          times-append i (event_refs t.event) (tasks_refs rest),
-        ))
-        (λ i. omega (
-          arith,
-          times-append i (refs' ++ sent_refs sent) (tasks_refs rest ++ sent_refs n.out),
-          times-append i refs' (sent_refs sent),
-          times-append i (tasks_refs rest) (sent_refs n.out),
-          times-append i refs' (tasks_refs (rest ++ sent_on t.at sent) ++ sent_refs n.out),
-          times-append i (tasks_refs (rest ++ sent_on t.at sent)) (sent_refs n.out),
-          each_both (λ (x : PoolTask). event_refs x.event) rest (sent_on t.at sent) i,
-          ap (times i) (refs_on t.at sent),
-        ))
-        (moved-beside p q (refs ++ event_refs t.event) (refs' ++ sent_refs sent) (tasks_refs rest ++ sent_refs n.out) moved)
+    move : Moved p q (refs ++ (tasks_refs (t ∷ rest) ++ sent_refs n.out)) (refs' ++ (tasks_refs after ++ sent_refs n.out))
+    move = moved-reordered p q ((refs ++ (event_refs t.event ++ tasks_refs rest)) ++ sent_refs n.out) ((refs' ++ tasks_refs after) ++ sent_refs n.out)
+        (refs ++ (tasks_refs (t ∷ rest) ++ sent_refs n.out)) (refs' ++ (tasks_refs after ++ sent_refs n.out))
+        (λ i. ap (times i) (append_assoc refs (tasks_refs (t ∷ rest)) (sent_refs n.out)))
+        (λ i. ap (times i) (append_assoc refs' (tasks_refs after) (sent_refs n.out)))
+        (moved-beside p q (refs ++ (event_refs t.event ++ tasks_refs rest)) (refs' ++ tasks_refs after) (sent_refs n.out) moved)
 
-    pub visit_falls : 1 + weight_of b q (rest ++ sent_on t.at sent) ≤ weight_of b p (t ∷ rest)
+    pub visit_falls : 1 + weight_of b q after ≤ weight_of b p (t ∷ rest)
     visit_falls = omega (arith, lighter_next, weight_next)
 
     -- a visit that came about lets the run go on
     pub visit_goes : Going b q (record {
       states = states';
       refs = refs';
-      tasks = rest ++ sent_on t.at sent;
+      tasks = after;
       out = n.out;
       predicted = both n.predicted decided;
       visits = n.visits + 1;
@@ -188,9 +151,9 @@ module _ (b : Begun) (well : BeginsWell b) (p : List Held) (states : List State)
         sum_by-cons (task_joins b.stack) (task_seen p t) (tasks_seen p rest),
       );
       moved = moved-chain b.pool p q (b.refs ++ sent_refs b.out) (refs ++ (tasks_refs (t ∷ rest) ++ sent_refs n.out))
-          (refs' ++ (tasks_refs (rest ++ sent_on t.at sent) ++ sent_refs n.out)) g.moved move;
+          (refs' ++ (tasks_refs after ++ sent_refs n.out)) g.moved move;
       covers = record { covers = λ i. omega (arith, move.counts i, g.covers.covers i) };
-      tasks_lie = all_both (λ (x : PoolTask). EventLies q x.event) rest (sent_on t.at sent) rest_stays.0 (lie_on q t.at sent lie);
+      tasks_lie = lie;
       out_lies = out_stays.0;
     }
 

@@ -2,25 +2,24 @@
 use Rattle.std.proofs.Common.{◌≡◌, ℕ, suc, ◌+◌, ◌-◌, ◌<◌, ◌≤◌, Bool, true, false, ◌&&◌, not, List, [], ◌∷◌, ◌++◌, map, set, get_or, flat_map, length, refl, sym, ap, ◌∙◌, subst, arith}
 use Rattle.std.specs.Prelude.{nat_le}
 use Rattle.std.proofs.lemmas.Bool.{leb-true}
-use Rattle.std.proofs.lemmas.List.{length-append, length-map}
+use Rattle.std.proofs.lemmas.List.{length-append}
 use Rattle.slot_pool.specs.Held.{Held, spare}
 use Rattle.slot_pool.specs.References.{Moved, Covers}
-use Rattle.slot_pool.proofs.Times.{times-append}
 use Rattle.layer_ast.specs.declared.tokens.Dir.{Dir}
 use Rattle.layer_mean.specs.State.{State}
 use Rattle.layer_mean.specs.Tree.{LayerTree, no_layer}
 use Rattle.layer_mean.specs.Visit.{Visited, step, no_state}
-use Rattle.layer_mean.specs.Queue.{is_place, layer_at}
+use Rattle.layer_mean.specs.Queue.{is_place, layer_at, tasks_of}
 use Rattle.weight_laws.specs.Visits.{task_weight}
 use Rattle.layer_desk.specs.Need.{most_above}
 use Rattle.layer_eval.specs.declared.predicted.Predicted.{Predicted}
 use Rattle.layer_eval.specs.Did.{as_predicted, both}
 use Rattle.pool_message.specs.Seen.{event_refs, event_seen}
-use Rattle.pool_message.specs.Sent.{sent_refs, sent_seen, SentLie}
+use Rattle.pool_message.specs.Sent.{sent_refs}
 use Rattle.pool_message.specs.declared.event.PoolEvent.{PoolEvent}
 use Rattle.layer_stage.specs.Room.{slots_needed, places_needed, headers_met, most_counted, most_kept, CountsWithin}
 use Rattle.stack_queue.specs.declared.tasks.PoolTask.{PoolTask}
-use Rattle.stack_queue.specs.Pending.{tasks_refs, task_of, sent_on}
+use Rattle.stack_queue.specs.Pending.{tasks_seen, tasks_refs, TasksLie}
 use Rattle.stack_queue.specs.Stages.{Stand}
 use Rattle.stack_queue.specs.Going.{Begun, Now, BeginsWell, Going, weight_of}
 use Rattle.stack_queue.proofs.Asked.{few_tasks, counts_within, headers_within, slots_within, places_within}
@@ -108,99 +107,69 @@ module _ {S : Type 0} (place : S → ℕ) (layer : S → LayerTree) (refs : S �
       slots_within b well p (map (state p) stages) (flat_map refs stages) t rest now front placed,
     )
 
-    pub places_suffice : places_needed (layer (get_or stages k d)) t.direction (event_seen p t.event) ≤ task_weight b.stack b.first
+    pub places_suffice : length rest + places_needed (layer (get_or stages k d)) t.direction (event_seen p t.event) ≤ task_weight b.stack b.first
     places_suffice = omega (
       arith,
       ap (λ l. places_needed l t.direction (event_seen p t.event)) same_layer,
       places_within b well p (map (state p) stages) (flat_map refs stages) t rest now front placed,
     )
 
-    all_covered : Covers p (flat_map refs stages ++ (event_refs t.event ++ (tasks_refs rest ++ sent_refs out)))
-    all_covered = record {
-      covers = λ i. omega (
-        arith,
-        front.covers.covers i,
-        times-append i (flat_map refs stages) (tasks_refs (t ∷ rest) ++ sent_refs out),
-        times-append i (tasks_refs (t ∷ rest)) (sent_refs out),
-        times-append i (event_refs t.event) (tasks_refs rest),
-        times-append i (flat_map refs stages) (event_refs t.event ++ (tasks_refs rest ++ sent_refs out)),
-        times-append i (event_refs t.event) (tasks_refs rest ++ sent_refs out),
-        times-append i (tasks_refs rest) (sent_refs out),
-      );
-    }
+    -- what is taken: the references of its event, and of the other tasks
+    abbrev taken : List ℕ
+    taken = event_refs t.event ++ tasks_refs rest
 
-    pub covers_it : (emitted : List (Dir × PoolEvent)) → emitted ≡ [] → Covers p (refs (get_or stages k d) ++ (event_refs t.event ++ sent_refs emitted))
-    covers_it emitted none = subst (λ xs. Covers p (refs (get_or stages k d) ++ (event_refs t.event ++ sent_refs xs))) (sym none)
-        (covers_at place layer refs Ready state frame few b.stack p stages stand k lt d t.event (tasks_refs rest ++ sent_refs out) all_covered)
+    all_covered : Covers p (flat_map refs stages ++ (taken ++ sent_refs out))
+    all_covered = front.covers
+
+    pub covers_it : Covers p (refs (get_or stages k d) ++ taken)
+    covers_it = covers_at place layer refs Ready state frame few b.stack p stages stand k lt d taken (sent_refs out) all_covered
 
     -- and behind it the run goes on
-    module _ (q : List Held) (s' : S) (emitted sent : List (Dir × PoolEvent)) (none : emitted ≡ []) (decided : Predicted)
-        (moved : Moved p q (refs (get_or stages k d) ++ (event_refs t.event ++ sent_refs emitted)) (refs s' ++ sent_refs sent))
+    module _ (q : List Held) (s' : S) (after : List PoolTask) (decided : Predicted)
+        (moved : Moved p q (refs (get_or stages k d) ++ taken) (refs s' ++ tasks_refs after))
         (spent : spare p ≤ spare q + slots_needed (layer (get_or stages k d)) t.direction (event_seen p t.event))
-        (lie : SentLie q sent) (ready : Ready q s')
+        (lie : TasksLie q after) (ready : Ready q s')
         (state_is : state q s' ≡ (step (place (get_or stages k d)) (layer (get_or stages k d)) (state p (get_or stages k d)) t.direction (event_seen p t.event)).state)
-        (sent_is : sent_seen q sent ≡ sent_seen p emitted ++ (step (place (get_or stages k d)) (layer (get_or stages k d)) (state p (get_or stages k d)) t.direction (event_seen p t.event)).sent)
+        (tasks_are : tasks_seen q after ≡ tasks_seen p rest ++ tasks_of t.at (step (place (get_or stages k d)) (layer (get_or stages k d)) (state p (get_or stages k d)) t.direction (event_seen p t.event)).sent)
         (decided_is : decided ≡ as_predicted (step (place (get_or stages k d)) (layer (get_or stages k d)) (state p (get_or stages k d)) t.direction (event_seen p t.event)).decided) where
-      alone : Moved p q (refs (get_or stages k d) ++ (event_refs t.event ++ [])) (refs s' ++ sent_refs sent)
-      alone = subst (λ xs. Moved p q (refs (get_or stages k d) ++ (event_refs t.event ++ sent_refs xs)) (refs s' ++ sent_refs sent)) none moved
-
       same_visit : step (place (get_or stages k d)) (layer (get_or stages k d)) (state p (get_or stages k d)) t.direction (event_seen p t.event)
           ≡ visit_of b p (map (state p) stages) t
       same_visit = visit_is place layer refs Ready state frame few b.stack p stages stand k lt d t.direction (event_seen p t.event)
           ∙ ap (λ i. step i (get_or b.stack i no_layer) (get_or (map (state p) stages) i no_state) t.direction (event_seen p t.event)) k_is
 
       shown : map (state q) (set stages k s') ≡ set (map (state p) stages) (t.at - 1) (visit_of b p (map (state p) stages) t).state
-      shown = states_are place layer refs Ready state frame few b.stack p stages stand k lt d t.event (tasks_refs rest ++ sent_refs out) all_covered q s' (sent_refs sent) alone ready
+      shown = states_are place layer refs Ready state frame few b.stack p stages stand k lt d taken (sent_refs out) all_covered q s' (tasks_refs after) moved ready
           ∙ (λ j. set (map (state p) stages) (k_is j) ((state_is ∙ ap (λ (v : Visited). v.state) same_visit) j))
 
-      moved_on : Moved p q (flat_map refs stages ++ event_refs t.event) (flat_map refs (set stages k s') ++ sent_refs sent)
-      moved_on = moved_all place layer refs Ready state frame few b.stack p stages stand k lt d t.event (tasks_refs rest ++ sent_refs out) all_covered q s' (sent_refs sent) alone
+      moved_on : Moved p q (flat_map refs stages ++ taken) (flat_map refs (set stages k s') ++ tasks_refs after)
+      moved_on = moved_all place layer refs Ready state frame few b.stack p stages stand k lt d taken (sent_refs out) all_covered q s' (tasks_refs after) moved
 
       spent_on : spare p ≤ spare q + slots_needed (layer_at b.stack t.at) t.direction (event_seen p t.event)
       spent_on = omega (arith, spent, ap (λ l. slots_needed l t.direction (event_seen p t.event)) same_layer)
 
-      sent_there : sent_seen q sent ≡ (visit_of b p (map (state p) stages) t).sent
-      sent_there = sent_is
-          ∙ ap (λ xs. sent_seen p xs ++ (step (place (get_or stages k d)) (layer (get_or stages k d)) (state p (get_or stages k d)) t.direction (event_seen p t.event)).sent) none
-          ∙ ap (λ (v : Visited). v.sent) same_visit
-
       pub visit_goes_on : Going b q (record {
         states = map (state q) (set stages k s');
         refs = flat_map refs (set stages k s');
-        tasks = rest ++ sent_on t.at sent;
+        tasks = after;
         out = out;
         predicted = both says decided;
         visits = visits + 1;
       })
       visit_goes_on = visit_goes b well p (map (state p) stages) (flat_map refs stages) t rest now front placed q (map (state q) (set stages k s'))
-          (flat_map refs (set stages k s')) sent decided moved_on spent_on lie shown sent_there
+          (flat_map refs (set stages k s')) after decided moved_on spent_on lie shown
+          (tasks_are ∙ ap (λ (v : Visited). tasks_seen p rest ++ tasks_of t.at v.sent) same_visit)
           (decided_is ∙ ap (λ (v : Visited). as_predicted v.decided) same_visit)
 
       pub visit_stands : place s' ≡ place (get_or stages k d) → layer s' ≡ layer (get_or stages k d) → Stand place layer Ready b.stack q (set stages k s')
-      visit_stands same_place same_layer = stands place layer refs Ready state frame few b.stack p stages stand k lt d t.event
-          (tasks_refs rest ++ sent_refs out) all_covered q s' (sent_refs sent) alone ready same_place same_layer
+      visit_stands same_place same_layer = stands place layer refs Ready state frame few b.stack p stages stand k lt d taken (sent_refs out) all_covered q s'
+          (tasks_refs after) moved ready same_place same_layer
 
-      pub falls : suc (weight_of b q (rest ++ sent_on t.at sent)) ≤ weight_of b p tasks
+      pub falls : suc (weight_of b q after) ≤ weight_of b p tasks
       falls = omega (
         arith,
         visit_falls b well p (map (state p) stages) (flat_map refs stages) t rest now front placed q (map (state q) (set stages k s'))
-            (flat_map refs (set stages k s')) sent decided moved_on spent_on lie shown sent_there
+            (flat_map refs (set stages k s')) after decided moved_on spent_on lie shown
+            (tasks_are ∙ ap (λ (v : Visited). tasks_seen p rest ++ tasks_of t.at v.sent) same_visit)
             (decided_is ∙ ap (λ (v : Visited). as_predicted v.decided) same_visit),
         ap (weight_of b p) is,
-      )
-
-      pub tasks_fit : length rest + length sent ≤ task_weight b.stack b.first
-      tasks_fit = omega (
-        arith,
-        visit_goes_on.weight,
-        few_tasks b well q (record {
-          states = map (state q) (set stages k s');
-          refs = flat_map refs (set stages k s');
-          tasks = rest ++ sent_on t.at sent;
-          out = out;
-          predicted = both says decided;
-          visits = visits + 1;
-        }) visit_goes_on,
-        length-append rest (sent_on t.at sent),
-        length-map sent (task_of t.at),
       )

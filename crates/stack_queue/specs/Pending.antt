@@ -1,5 +1,5 @@
 -- Pending tasks: what they refer to, and what is seen of them in a pool.
-use Rattle.std.specs.Prelude.{ℕ, List, map}
+use Rattle.std.specs.Prelude.{ℕ, List, [], ◌∷◌, map}
 use Rattle.std.specs.List.{flat_map, AllByRecursion}
 use Rattle.slot_pool.specs.Held.{Held}
 use Rattle.layer_ast.specs.declared.tokens.Dir.{Dir}
@@ -22,9 +22,12 @@ tasks_refs ts = flat_map (λ t. event_refs t.event) ts
 abbrev pub TasksLie : List Held → List PoolTask → Type 0
 TasksLie p ts = AllByRecursion (λ t. EventLies p t.event) ts
 
--- The tasks of what was sent from somewhere.
-abbrev pub task_of : ℕ → Dir × PoolEvent → PoolTask
-task_of at x = record { at = beyond x.0 at; direction = x.0; event = x.1 }
+-- The tasks of events, the first of which stands at the first of some places, and so on.
+abbrev pub tasks_at : List ℕ → List (Dir × PoolEvent) → List PoolTask
+tasks_at [] xs = []
+tasks_at (at ∷ places) [] = []
+tasks_at (at ∷ places) (x ∷ xs) = record { at = at; direction = x.0; event = x.1 } ∷ tasks_at places xs
 
-abbrev pub sent_on : ℕ → List (Dir × PoolEvent) → List PoolTask
-sent_on at xs = map (task_of at) xs
+-- Where each event goes that was sent from somewhere.
+abbrev pub places_on : ℕ → List (Dir × PoolEvent) → List ℕ
+places_on at xs = map (λ x. beyond x.0 at) xs

@@ -2,6 +2,7 @@
 #![tactic(auto)]
 
 mod laws;
+mod places;
 mod sent;
 mod tasks;
 mod turns;

@@ -1,13 +1,18 @@
 //! Tasks that are pending.
 
-ghost use Rattle.std.specs.Prelude.{◌≡◌, ℕ, ◌+◌, ◌<◌, List, [], ◌∷◌, ◌++◌, length, IfOk, IfSome, IfNone};
+ghost use Rattle.std.specs.Prelude.{◌≡◌, ℕ, ◌+◌, ◌<◌, ◌≤◌, List, [], ◌∷◌, ◌++◌, drop, length, slice_get, option_map, IfOk};
 ghost use Rattle.circular_buffer.specs.Buffer.{Buffer, buffer};
 ghost use Rattle.stack_mean.specs.Acceptance.{largest_weight};
 
+use crate::places::{go_on, put_place};
+use crate::sent::events_for;
 use circular_buffer::HeapCircularBuffer;
 use event_graph::Stack;
 use layer_ast::Dir;
-use pool_message::PoolEvent;
+use layer_eval::Predicted;
+use layer_stage::Stage;
+use pool_message::{Events, PoolEvent};
+use slot_pool::Pool;
 use std::alloc::{AllocError, Global};
 use std::marker::Model;
 
@@ -19,29 +24,50 @@ pub struct PoolTask {
     pub event: PoolEvent,
 }
 
-/// The tasks of a run that are pending, first in, first out, in as many places as the weight of its stack.
+/// The tasks of a run that are pending, first in, first out, in as many places as the weight of its stack: their events with their
+/// directions, and beside these where each of them goes.
 pub struct Tasks {
-    ring: HeapCircularBuffer<PoolTask>,
+    places: HeapCircularBuffer<u16>,
+    events: Events,
 }
 
 impl Model for Tasks {
-    ghost use Rattle.circular_buffer.specs.Buffer.{Buffer};
+    ghost use Rattle.std.specs.Prelude.{◌≡◌, length};
+    ghost use Rattle.circular_buffer.specs.Buffer.{Buffer, buffer};
+    ghost use Rattle.stack_queue.specs.Pending.{tasks_at};
     ghost use Rattle.stack_queue.specs.declared.tasks.PoolTask.{PoolTask};
 
     ghost Value = { Buffer PoolTask };
 
-    ghost view = { λ t. t.ring };
+    ghost view = { λ t. buffer (tasks_at t.places.items t.events.items) t.places.capacity };
+
+    ghost invariant = { λ t. (length t.places.items ≡ length t.events.items) × (t.places.capacity ≡ t.events.capacity) };
 }
 
 impl Tasks {
     ghost use Rattle.event_graph.specs.Answer.{stack_tree};
+    ghost use Rattle.slot_pool.specs.Held.{spare};
+    ghost use Rattle.slot_pool.specs.References.{Moved, Covers};
+    ghost use Rattle.layer_mean.specs.Queue.{tasks_of};
+    ghost use Rattle.layer_mean.specs.Visit.{step};
+    ghost use Rattle.layer_desk.specs.Need.{most_above};
+    ghost use Rattle.layer_eval.specs.Did.{as_predicted};
+    ghost use Rattle.layer_stage.specs.Room.{slots_needed, places_needed, headers_met, most_counted, CountsWithin};
+    ghost use Rattle.pool_message.specs.Seen.{event_refs, event_seen, EventLies};
+    ghost use Rattle.stack_queue.specs.Pending.{tasks_seen, tasks_refs, TasksLie};
 
     /// No task, with places for the weight of a stack.
     pub fn fresh(alloc: Global, stack: &Stack) -> Result<Tasks, AllocError>
         ensures { IfOk result (λ tasks. tasks ≡ buffer [] (largest_weight (stack_tree stack.now))) }
     {
-        let ring = HeapCircularBuffer::with_capacity(alloc, stack.weight() as usize)?;
-        Ok(Tasks { ring })
+        let places = HeapCircularBuffer::with_capacity(alloc, stack.weight() as usize)?;
+        match events_for(alloc, stack) {
+            Ok(events) => Ok(Tasks { places, events }),
+            Err(fault) => {
+                places.destroy_empty();
+                Err(fault)
+            }
+        }
     }
 
     /// The task becomes the last.
@@ -49,27 +75,77 @@ impl Tasks {
         requires { length self.old.items < self.old.capacity }
         ensures { self.new ≡ buffer (self.old.items ++ task ∷ []) self.old.capacity }
     {
-        match self.ring.try_push_back(task) {
-            Ok(()) => {}
-            Err(_task) => unreachable!(),
-        }
+        let PoolTask {
+            at,
+            direction,
+            event,
+        } = task;
+        self.events.push(direction, event);
+        put_place(&mut self.places, at);
     }
 
-    /// Takes the first task, if there is one.
-    pub fn pop(&mut self) -> Option<PoolTask>
-        ensures none { IfNone result (self.old.items ≡ []) }
-        ensures unchanged { IfNone result (self.new ≡ self.old) }
-        ensures some { IfSome result (λ task. self.old.items ≡ task ∷ self.new.items) }
-        ensures capacity { self.new.capacity ≡ self.old.capacity }
+    /// Where the first task stands, if there is one.
+    pub fn first_place(&self) -> Option<u16>
+        ensures { result ≡ option_map (λ t. t.at) (slice_get self.now.items 0) }
     {
-        self.ring.pop_front()
+        self.places.front().copied()
+    }
+
+    /// Takes the event of the first task with its direction, if there is one.
+    pub fn pop(&mut self) -> Option<(Dir, PoolEvent)>
+        ensures first { result ≡ option_map (λ t. (t.direction, t.event)) (slice_get self.old.items 0) }
+        ensures rest { self.new ≡ buffer (drop 1 self.old.items) self.old.capacity }
+    {
+        let _place = self.places.pop_front();
+        self.events.pop_front()
+    }
+
+    /// A layer takes an event that stands at a place, and what it sends becomes tasks behind the others.
+    pub(crate) fn visit<S: Stage>(
+        &mut self,
+        at: u16,
+        stage: &mut S,
+        pool: &mut Pool,
+        direction: Dir,
+        event: PoolEvent,
+    ) -> Predicted
+        requires place { (1 ≤ at) × (at ≤ 255) }
+        requires ready { S.ready pool.old stage.old }
+        requires event { EventLies pool.old event }
+        requires lie { TasksLie pool.old self.old.items }
+        requires covers { Covers pool.old (S.refs stage.old ++ (event_refs event ++ tasks_refs self.old.items)) }
+        requires counts { CountsWithin most_counted pool.old }
+        requires headers { headers_met direction (event_seen pool.old event) ≤ most_above }
+        requires slots { slots_needed (S.layer stage.old) direction (event_seen pool.old event) ≤ spare pool.old }
+        requires places { length self.old.items + places_needed (S.layer stage.old) direction (event_seen pool.old event) ≤ self.old.capacity }
+        ensures state { S.state pool.new stage.new ≡
+            (step (S.place stage.old) (S.layer stage.old) (S.state pool.old stage.old) direction (event_seen pool.old event)).state }
+        ensures tasks { tasks_seen pool.new self.new.items ≡ tasks_seen pool.old self.old.items ++ tasks_of at
+            (step (S.place stage.old) (S.layer stage.old) (S.state pool.old stage.old) direction (event_seen pool.old event)).sent }
+        ensures predicted { result ≡ as_predicted
+            (step (S.place stage.old) (S.layer stage.old) (S.state pool.old stage.old) direction (event_seen pool.old event)).decided }
+
+        // Its references, and those of the event and of the tasks, have moved in the pool, and no others.
+        ensures moved { Moved pool.old pool.new
+            (S.refs stage.old ++ (event_refs event ++ tasks_refs self.old.items)) (S.refs stage.new ++ tasks_refs self.new.items) }
+        ensures spent { spare pool.old ≤ spare pool.new + slots_needed (S.layer stage.old) direction (event_seen pool.old event) }
+        ensures capacity { self.new.capacity ≡ self.old.capacity }
+        ensures ready { S.ready pool.new stage.new }
+        ensures lie { TasksLie pool.new self.new.items }
+        ensures place { S.place stage.new ≡ S.place stage.old }
+        ensures layer { S.layer stage.new ≡ S.layer stage.old }
+    {
+        let decided = stage.take(pool, direction, event, &mut self.events);
+        go_on(&mut self.places, &self.events, at);
+        decided
     }
 
     /// Lets the places go, once no task is pending.
     pub fn end(self)
         requires { self.items ≡ [] }
     {
-        let Tasks { ring } = self;
-        ring.destroy_empty();
+        let Tasks { places, events } = self;
+        places.destroy_empty();
+        events.close();
     }
 }

@@ -1,7 +1,6 @@
 //! Runs.
 
 ghost use Rattle.std.specs.Prelude.{◌≡◌, ℕ, ◌+◌, ◌^◌, ◌<◌, ◌≤◌, not, List, [], ◌∷◌, ◌++◌, map, length};
-ghost use Rattle.circular_buffer.specs.Buffer.{buffer};
 ghost use Rattle.std.specs.List.{flat_map};
 ghost use Rattle.slot_pool.specs.Held.{Held, spare};
 ghost use Rattle.slot_pool.specs.References.{Moved, Covers};
@@ -14,26 +13,24 @@ ghost use Rattle.layer_eval.specs.Did.{as_predicted};
 ghost use Rattle.pool_message.specs.Seen.{event_refs, EventLies};
 ghost use Rattle.pool_message.specs.Sent.{sent_refs, sent_seen, SentLie};
 ghost use Rattle.layer_stage.specs.Room.{CountsWithin};
-ghost use Rattle.stack_queue.specs.Pending.{task_seen, sent_on};
+ghost use Rattle.stack_queue.specs.Pending.{task_seen};
 ghost use Rattle.stack_queue.specs.Stages.{Stand, most_at_first, run_of};
 
 use crate::tasks::{PoolTask, Tasks};
 use event_graph::Stack;
-use layer_ast::Dir;
 use layer_eval::Predicted;
 use layer_stage::Stage;
 use pool_message::Events;
 use slot_pool::Pool;
 
 /// Runs the layers of a stack from one event, until no task is left: each task is an event that its layer takes, or one that comes out
-/// at an edge. Says whether each visit decided as predicted. `tasks` and `emits` are left empty, and no memory is taken.
+/// at an edge. Says whether each visit decided as predicted. `tasks` is left empty, and no memory is taken.
 pub fn run<S: Stage>(
     stages: &mut [S],
     stack: &Stack,
     pool: &mut Pool,
     first: PoolTask,
     tasks: &mut Tasks,
-    emits: &mut Events,
     out: &mut Events,
     visits: &mut u64,
 ) -> Predicted
@@ -53,7 +50,6 @@ pub fn run<S: Stage>(
     // There is room for what can follow from the event.
     requires slots { task_joins (stack_tree stack.now) (task_seen pool.old first) ≤ spare pool.old }
     requires tasks { (tasks.old.items ≡ []) × (task_weight (stack_tree stack.now) (task_seen pool.old first) ≤ tasks.old.capacity) }
-    requires emits { (emits.old.items ≡ []) × (task_weight (stack_tree stack.now) (task_seen pool.old first) ≤ emits.old.capacity) }
     requires out { length out.old.items + task_weight (stack_tree stack.now) (task_seen pool.old first) ≤ out.old.capacity }
     requires visits { visits.old ≤ 2 ^ 63 }
     ensures states { map (S.state pool.new) stages.new ≡ (run_of (stack_tree stack.now) (map (S.state pool.old) stages.old) (task_seen pool.old first)).world.states }
@@ -69,23 +65,20 @@ pub fn run<S: Stage>(
     ensures stand { Stand S.place S.layer S.ready (stack_tree stack.now) pool.new stages.new }
     ensures lie { SentLie pool.new out.new.items }
     ensures tasks { tasks.new ≡ tasks.old }
-    ensures emits { emits.new ≡ emits.old }
     ensures capacity { out.new.capacity ≡ out.old.capacity }
 {
     tasks.push(first);
     let mut predicted = Predicted::usual();
-    while let Some(task) = tasks.pop() {
-        let PoolTask {
-            at,
-            direction,
-            event,
-        } = task;
+    while let Some(at) = tasks.first_place() {
+        let Some((direction, event)) = tasks.pop() else {
+            unreachable!();
+        };
         if is_edge(stack.places(), at) {
             out.push(direction, event);
             continue;
         }
-        let decided = stages[usize::from(at) - 1].take(pool, direction, event, emits);
-        send_on(at, emits, tasks);
+        let stage = &mut stages[usize::from(at) - 1];
+        let decided = tasks.visit(at, stage, pool, direction, event);
         *visits += 1;
         predicted = predicted.and(decided);
     }
@@ -97,31 +90,4 @@ fn is_edge(places: u8, at: u16) -> bool
     ensures { result ≡ not (spec.is_place places at) }
 {
     at == 0 || at > u16::from(places)
-}
-
-/// What was sent from a place becomes tasks behind the others.
-fn send_on(at: u16, emits: &mut Events, tasks: &mut Tasks)
-    requires place { (1 ≤ at) × (at ≤ 255) }
-    requires room { length tasks.old.items + length emits.old.items ≤ tasks.old.capacity }
-    ensures tasks { tasks.new ≡ buffer (tasks.old.items ++ sent_on at emits.old.items) tasks.old.capacity }
-    ensures emits { emits.new ≡ buffer [] emits.old.capacity }
-{
-    while let Some((direction, event)) = emits.pop_front() {
-        tasks.push(PoolTask {
-            at: beyond(direction, at),
-            direction,
-            event,
-        });
-    }
-}
-
-/// The neighbour in a direction.
-fn beyond(direction: Dir, at: u16) -> u16
-    requires { (1 ≤ at) × (at ≤ 255) }
-    ensures { result ≡ spec.beyond direction at }
-{
-    match direction {
-        Dir::Up => at + 1,
-        Dir::Down => at - 1,
-    }
 }

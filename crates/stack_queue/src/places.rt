@@ -1,0 +1,43 @@
+//! Where tasks stand.
+
+ghost use Rattle.std.specs.Prelude.{◌≡◌, ℕ, ◌+◌, ◌<◌, ◌≤◌, List, [], ◌∷◌, ◌++◌, drop, length};
+ghost use Rattle.circular_buffer.specs.Buffer.{buffer};
+ghost use Rattle.layer_mean.specs.Queue as spec;
+ghost use Rattle.stack_queue.specs.Pending.{places_on};
+
+use circular_buffer::HeapCircularBuffer;
+use layer_ast::Dir;
+use pool_message::Events;
+
+/// A place becomes the last.
+pub(crate) fn put_place(places: &mut HeapCircularBuffer<u16>, at: u16)
+    requires { length places.old.items < places.old.capacity }
+    ensures { places.new ≡ buffer (places.old.items ++ at ∷ []) places.old.capacity }
+{
+    match places.try_push_back(at) {
+        Ok(()) => {}
+        Err(_at) => unreachable!(),
+    }
+}
+
+/// The events behind those that have places were sent from one: each goes on to its neighbour.
+pub(crate) fn go_on(places: &mut HeapCircularBuffer<u16>, events: &Events, at: u16)
+    requires place { (1 ≤ at) × (at ≤ 255) }
+    requires room { events.now.capacity ≤ places.old.capacity }
+    ensures { places.new ≡ buffer (places.old.items ++ places_on at (drop (length places.old.items) events.now.items)) places.old.capacity }
+{
+    for k in places.len()..events.len() {
+        put_place(places, beyond(events.direction(k), at));
+    }
+}
+
+/// The neighbour in a direction.
+fn beyond(direction: Dir, at: u16) -> u16
+    requires { (1 ≤ at) × (at ≤ 255) }
+    ensures { result ≡ spec.beyond direction at }
+{
+    match direction {
+        Dir::Up => at + 1,
+        Dir::Down => at - 1,
+    }
+}
