@@ -1,5 +1,5 @@
 -- Tasks whose events stand in one list, and their places in another.
-use Rattle.std.proofs.Common.{◌≡◌, ℕ, suc, ◌≤◌, List, [], ◌∷◌, ◌++◌, drop, length, Option, Some, None, unwrap_or, get_or, slice_get, option_map, refl, sym, ap, ◌∙◌, arith}
+use Rattle.std.proofs.Common.{◌≡◌, ℕ, suc, ◌≤◌, List, [], ◌∷◌, ◌++◌, drop, length, Some, get_or, slice_get, option_map, refl, ap, ◌∙◌, arith}
 use Rattle.std.proofs.lemmas.List.{length-append, length-map}
 use Rattle.slot_pool.specs.Held.{Held}
 use Rattle.layer_ast.specs.declared.tokens.Dir.{Dir}
@@ -8,7 +8,6 @@ use Rattle.layer_mean.specs.Queue.{beyond, tasks_of}
 use Rattle.pool_message.specs.Seen.{event_refs, event_seen}
 use Rattle.pool_message.specs.Sent.{sent_refs, sent_seen, SentLie}
 use Rattle.pool_message.specs.declared.event.PoolEvent.{PoolEvent}
-use Rattle.stack_queue.specs.declared.tasks.PoolTask.{PoolTask}
 use Rattle.stack_queue.specs.Pending.{tasks_seen, tasks_refs, TasksLie, tasks_at, places_on}
 
 pub as_many : (places : List ℕ) (xs : List (Dir × PoolEvent)) → length places ≡ length xs → length (tasks_at places xs) ≡ length xs
@@ -25,28 +24,6 @@ pushed [] (x ∷ xs) at dir event same = absurd (omega (arith, same))
 pushed (at' ∷ places) [] at dir event same = absurd (omega (arith, same))
 pushed (at' ∷ places) (x ∷ xs) at dir event same =
     ap (λ ts. record { at = at'; direction = x.0; event = x.1 } ∷ ts) (pushed places xs at dir event (omega (arith, same)))
-
--- where the first one stands
-pub first_at : (places : List ℕ) (xs : List (Dir × PoolEvent)) → length places ≡ length xs →
-    slice_get places 0 ≡ option_map (λ (t : PoolTask). t.at) (slice_get (tasks_at places xs) 0)
-first_at [] [] same = refl
-first_at [] (x ∷ xs) same = absurd (omega (arith, same))
-first_at (at ∷ places) [] same = absurd (omega (arith, same))
-first_at (at ∷ places) (x ∷ xs) same = refl
-
--- the first task, put together, or none
-pub first_is : (ts : List PoolTask) (at : ℕ) (dir : Dir) (event : PoolEvent) (rest : List PoolTask) →
-    option_map (λ (t : PoolTask). t.at) (slice_get ts 0) ≡ Some at →
-    option_map {U = Dir × PoolEvent} (λ (t : PoolTask). (t.direction, t.event)) (slice_get ts 0) ≡ Some (dir, event) → rest ≡ drop 1 ts →
-    ts ≡ record { at = at; direction = dir; event = event } ∷ rest
-first_is [] at dir event rest stands is behind = absurd (cc stands)
-first_is (t ∷ ts) at dir event rest stands is behind =
-    let its = ap (λ (o : Option (Dir × PoolEvent)). unwrap_or o (dir, event)) is in
-    λ k. record { at = (ap (λ (o : Option ℕ). unwrap_or o at) stands) k; direction = (its k).0; event = (its k).1 } ∷ sym behind k
-
-pub none_first : (ts : List PoolTask) → option_map (λ (t : PoolTask). t.at) (slice_get ts 0) ≡ None → ts ≡ []
-none_first [] none = refl
-none_first (t ∷ ts) none = absurd (cc none)
 
 pub none_left : (places : List ℕ) (xs : List (Dir × PoolEvent)) → length places ≡ length xs → tasks_at places xs ≡ [] →
     (places ≡ []) × (xs ≡ [])

@@ -1,6 +1,6 @@
 //! Tasks that are pending.
 
-ghost use Rattle.std.specs.Prelude.{◌≡◌, ℕ, ◌+◌, ◌<◌, ◌≤◌, List, [], ◌∷◌, ◌++◌, drop, length, slice_get, option_map, IfOk};
+ghost use Rattle.std.specs.Prelude.{◌≡◌, ℕ, ◌+◌, ◌<◌, ◌≤◌, List, [], ◌∷◌, ◌++◌, length, IfOk, IfSome, IfNone};
 ghost use Rattle.circular_buffer.specs.Buffer.{Buffer, buffer};
 ghost use Rattle.stack_mean.specs.Acceptance.{largest_weight};
 
@@ -84,20 +84,26 @@ impl Tasks {
         put_place(&mut self.places, at);
     }
 
-    /// Where the first task stands, if there is one.
-    pub fn first_place(&self) -> Option<u16>
-        ensures { result ≡ option_map (λ t. t.at) (slice_get self.now.items 0) }
+    /// Takes the first task, if there is one.
+    pub fn pop(&mut self) -> Option<PoolTask>
+        ensures none { IfNone result (self.old.items ≡ []) }
+        ensures unchanged { IfNone result (self.new ≡ self.old) }
+        ensures some { IfSome result (λ task. self.old.items ≡ task ∷ self.new.items) }
+        ensures capacity { self.new.capacity ≡ self.old.capacity }
     {
-        self.places.front().copied()
-    }
-
-    /// Takes the event of the first task with its direction, if there is one.
-    pub fn pop(&mut self) -> Option<(Dir, PoolEvent)>
-        ensures first { result ≡ option_map (λ t. (t.direction, t.event)) (slice_get self.old.items 0) }
-        ensures rest { self.new ≡ buffer (drop 1 self.old.items) self.old.capacity }
-    {
-        let _place = self.places.pop_front();
-        self.events.pop_front()
+        match self.events.pop_front() {
+            Some((direction, event)) => {
+                let Some(at) = self.places.pop_front() else {
+                    unreachable!();
+                };
+                Some(PoolTask {
+                    at,
+                    direction,
+                    event,
+                })
+            }
+            None => None,
+        }
     }
 
     /// A layer takes an event that stands at a place, and what it sends becomes tasks behind the others.

@@ -69,10 +69,12 @@ pub fn run<S: Stage>(
 {
     tasks.push(first);
     let mut predicted = Predicted::usual();
-    while let Some(at) = tasks.first_place() {
-        let Some((direction, event)) = tasks.pop() else {
-            unreachable!();
-        };
+    while let Some(task) = tasks.pop() {
+        let PoolTask {
+            at,
+            direction,
+            event,
+        } = task;
         if is_edge(stack.places(), at) {
             out.push(direction, event);
             continue;
