@@ -123,7 +123,7 @@ module _ (stack : List LayerTree) (most : ℕ) where
         let small : here.rank < 2 ^ 32 = omega (arith, is_here.rank) in record {
           stand = stays.0;
           exact = exact;
-          quiet = record { tasks = ready.quiet.tasks; emits = ready.quiet.emits; outs = ready.quiet.outs };
+          quiet = record { tasks = ready.quiet.tasks; outs = ready.quiet.outs };
           lies = brings.lies;
           states = subst (λ (states : List State). AreChainedStates stack states) (sym stays.1) is_in.inside_is.states_are;
           chained = subst (λ (t : Task Event). IsChainedTask stack t) (sym brings.seen) (first_tasks_are_chained stack here.rank what small
@@ -200,11 +200,11 @@ module _ (g : Ground) (w : Works) (what : Entered) where
       BringsIn (stack_of g) g.here.rank w.pool q what first →
       HasRun (stack_of g) (record w { pool = q }) first before mid after result →
       Ended (stack_of g) g.here g.id (states_in w) what (record w { pool = q }) before mid after result →
-      Returned mid.pool last.pool (sent_refs mid.outs.items) → last.layers ≡ mid.layers → last.tasks ≡ mid.tasks → last.emits ≡ mid.emits →
+      Returned mid.pool last.pool (sent_refs mid.outs.items) → last.layers ≡ mid.layers → last.tasks ≡ mid.tasks →
       last.outs ≡ buffer [] mid.outs.capacity → begun.outputs ≡ [] → begun.here ≡ g.here →
       out ≡ record begun { outputs = begun.outputs ++ outputs_in begun.here mid.pool mid.outs.items } →
       HasPlayed g (states_in w) what last out before after result
-  played q first before mid after result last begun out ready is_in brings has ended returned layers tasks emits outs none here gathered =
+  played q first before mid after result last begun out ready is_in brings has ended returned layers tasks outs none here gathered =
       let stays = stand_stays (stack_of g) mid.pool last.pool (sent_refs mid.outs.items) [] mid.layers.items returned.moved
       (covers_turned mid.pool (refs_in mid) (sent_refs mid.outs.items) has.exact) has.stand in
       let same : states_in last ≡ states_in mid =
@@ -216,7 +216,6 @@ module _ (g : Ground) (w : Works) (what : Entered) where
               (exact_less mid.pool last.pool (refs_in mid) (sent_refs mid.outs.items) has.exact returned.moved);
           quiet = record {
             tasks = tasks ∙ has.tasks ∙ ready.quiet.tasks;
-            emits = emits ∙ has.emits ∙ ready.quiet.emits;
             outs = outs ∙ ap (λ (n : ℕ). buffer [] n) (has.room ∙ ap (λ (b : Buffer (Dir × PoolEvent)). b.capacity) ready.quiet.outs);
           };
           slots = returned.moved.slots ∙ has.slots ∙ brings.moved.slots ∙ ready.slots;

@@ -34,7 +34,6 @@ pub record Ran (stack : List LayerTree) (old : Works) (first : PoolTask) (stages
   pub stand : Stand place_of tree_of IsInOrder stack new.pool news
   pub lie : SentLie new.pool new.outs.items
   pub tasks : new.tasks ≡ old.tasks
-  pub emits : new.emits ≡ old.emits
   pub room : new.outs.capacity ≡ old.outs.capacity
 
 pub has_run : (stack : List LayerTree) (old : Works) (first : PoolTask) (stages : List FileLayer) (before : ℕ) (new : Works) (news : List FileLayer)
@@ -56,6 +55,5 @@ has_run stack old first stages before new news after result same again none exac
       lie = its.lie;
       slots = its.moved.slots;
       tasks = its.tasks;
-      emits = its.emits;
       room = its.room;
     }

@@ -57,8 +57,8 @@ module _ (stack : List LayerTree) (most : ℕ) (view next : View) (id ranks me :
   pub comes_into : (count : ℕ) (old new : Works) → next_view view ranks ≡ Some next → rank next id ≡ Some me → count ≡ member_count next →
       IsReady stack most old → HasMembers most view (states_in old) →
       Anew me count next.ltime old.pool new.pool old.layers.items new.layers.items →
-      new.tasks ≡ old.tasks → new.emits ≡ old.emits → new.outs ≡ old.outs → ComesInto stack most view id ranks next new
-  comes_into count old new behind at same ready members anew tasks emits outs =
+      new.tasks ≡ old.tasks → new.outs ≡ old.outs → ComesInto stack most view id ranks next new
+  comes_into count old new behind at same ready members anew tasks outs =
       let states : states_in new ≡ map (λ (layer : LayerTree). fresh layer me (member_count next) next.ltime) stack =
       anew.states new.pool
       ∙ ap (λ (layers : List LayerTree). map (λ (layer : LayerTree). fresh layer me count next.ltime) layers) ready.stand.layers
@@ -77,7 +77,7 @@ module _ (stack : List LayerTree) (most : ℕ) (view next : View) (id ranks me :
             ready = anew.order new.pool;
           };
           exact = subst (λ (xs : List ℕ). Exact new.pool xs) (sym anew.refs) (exact-moved old.pool new.pool (refs_in old) [] ready.exact anew.moved);
-          quiet = record { tasks = tasks ∙ ready.quiet.tasks; emits = emits ∙ ready.quiet.emits; outs = outs ∙ ready.quiet.outs };
+          quiet = record { tasks = tasks ∙ ready.quiet.tasks; outs = outs ∙ ready.quiet.outs };
           slots = anew.moved.slots ∙ ready.slots;
           few = ready.few;
         };

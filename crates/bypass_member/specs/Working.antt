@@ -41,7 +41,6 @@ AreStanding stack w = Stand place_of tree_of IsInOrder stack w.pool w.layers.ite
 -- No task is pending and nothing was sent, and there are as many places as the stack weighs.
 pub record IsQuiet (stack : List LayerTree) (w : Works) : Type 0 where
   pub tasks : w.tasks ≡ buffer [] (largest_weight stack)
-  pub emits : w.emits ≡ buffer [] (largest_weight stack)
   pub outs : w.outs ≡ buffer [] (largest_weight stack)
 
 -- A member of a first view of so many members, between two steps: what its layers refer to is all that its pool counts, which has a slot
@@ -81,7 +80,6 @@ pub record HasRun (stack : List LayerTree) (old : Works) (first : PoolTask) (bef
   pub lie : SentLie new.pool new.outs.items
   pub slots : length new.pool ≡ length old.pool
   pub tasks : new.tasks ≡ old.tasks
-  pub emits : new.emits ≡ old.emits
   pub room : new.outs.capacity ≡ old.outs.capacity
 
 -- The outputs that events are which leave the stack of a member that is here; none is sent short.

@@ -32,26 +32,17 @@ const SLOTS_BEYOND: u32 = 1025;
 /// The lists of a run, which are empty between two runs.
 struct Lists {
     tasks: Tasks,
-    emits: Events,
     outs: Events,
 }
 
 impl Lists {
     fn fresh(alloc: Global, stack: &Stack) -> Result<Lists, Memory>
         ensures tasks { IfOk result (λ l. l.tasks ≡ buffer [] (largest_weight (stack_tree stack.now))) }
-        ensures emits { IfOk result (λ l. l.emits ≡ buffer [] (largest_weight (stack_tree stack.now))) }
         ensures outs { IfOk result (λ l. l.outs ≡ buffer [] (largest_weight (stack_tree stack.now))) }
     {
         let tasks = Tasks::fresh(alloc, stack)?;
         match events_for(alloc, stack) {
-            Ok(emits) => match events_for(alloc, stack) {
-                Ok(outs) => Ok(Lists { tasks, emits, outs }),
-                Err(error) => {
-                    tasks.end();
-                    emits.close();
-                    Err(error)
-                }
-            },
+            Ok(outs) => Ok(Lists { tasks, outs }),
             Err(error) => {
                 tasks.end();
                 Err(error)
@@ -60,11 +51,10 @@ impl Lists {
     }
 
     fn close(self)
-        requires { (self.tasks.items ≡ []) × (self.emits.items ≡ []) × (self.outs.items ≡ []) }
+        requires { (self.tasks.items ≡ []) × (self.outs.items ≡ []) }
     {
-        let Lists { tasks, emits, outs } = self;
+        let Lists { tasks, outs } = self;
         tasks.end();
-        emits.close();
         outs.close();
     }
 }
@@ -144,12 +134,11 @@ pub(crate) fn open_works(
         view.ltime,
     ) {
         Ok(layers) => {
-            let Lists { tasks, emits, outs } = lists;
+            let Lists { tasks, outs } = lists;
             Ok(Works {
                 layers,
                 pool,
                 tasks,
-                emits,
                 outs,
             })
         }
@@ -164,16 +153,15 @@ pub(crate) fn open_works(
 pub(crate) fn close_works(works: Works)
     requires order { AllByRecursion (IsInOrder works.pool) works.layers.items }
     requires covers { Covers works.pool (refs_in works) }
-    requires empty { (works.tasks.items ≡ []) × (works.emits.items ≡ []) × (works.outs.items ≡ []) }
+    requires empty { (works.tasks.items ≡ []) × (works.outs.items ≡ []) }
 {
     let Works {
         layers,
         mut pool,
         tasks,
-        emits,
         outs,
     } = works;
     close_layers(layers, &mut pool);
-    let lists = Lists { tasks, emits, outs };
+    let lists = Lists { tasks, outs };
     lists.close();
 }

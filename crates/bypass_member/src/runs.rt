@@ -33,7 +33,6 @@ pub(crate) fn run_layers(
         &mut works.pool,
         first,
         &mut works.tasks,
-        &mut works.emits,
         &mut works.outs,
         visits,
     )

@@ -10,6 +10,5 @@ pub struct Works {
     pub(crate) layers: Vec<FileLayer>,
     pub(crate) pool: Pool,
     pub(crate) tasks: Tasks,
-    pub(crate) emits: Events,
     pub(crate) outs: Events,
 }

@@ -17,4 +17,4 @@ returns-in-Ok c =
     opening (stack_tree c.args.stack.now) c.args.view c.args.id c.from.result c.member_count-count.result c.args.rows (making c.args.maker.now)
     (making c.make_layers.new.maker) _ at c.member_count-count.ensures.count c.requires.rows c.requires.few c.requires.same
     (c.in-Ok.ensures.pool ∙ c.in_ok-pool.ensures) c.in-Ok.ensures.all
-    record { tasks = c.in_ok-lists.ensures.tasks; emits = c.in_ok-lists.ensures.emits; outs = c.in_ok-lists.ensures.outs }
+    record { tasks = c.in_ok-lists.ensures.tasks; outs = c.in_ok-lists.ensures.outs }

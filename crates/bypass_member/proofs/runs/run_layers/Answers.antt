@@ -22,13 +22,6 @@ run-requires-clause-tasks c =
       omega (arith, fits.weight, ap (λ (b : Buffer PoolTask). b.capacity) c.requires.can.quiet.tasks),
     )
 
-pub run-requires-clause-emits : goal.run-requires-clause-emits
-run-requires-clause-emits c =
-    let fits = c.entries_fit.ensures (stack_tree c.args.stack.now) _ c.requires.can.chained c.requires.can.enters in (
-      ap (λ (b : Buffer (Dir × PoolEvent)). b.items) c.requires.can.quiet.emits,
-      omega (arith, fits.weight, ap (λ (b : Buffer (Dir × PoolEvent)). b.capacity) c.requires.can.quiet.emits),
-    )
-
 pub run-requires-clause-out : goal.run-requires-clause-out
 run-requires-clause-out c =
     let fits = c.entries_fit.ensures (stack_tree c.args.stack.now) _ c.requires.can.chained c.requires.can.enters in
@@ -42,7 +35,6 @@ returns c = has_run (stack_tree c.args.stack.now) c.args.works.now c.args.first 
       layers = with_items c.args.works.now.layers c.run.new.stages;
       pool = c.run.new.pool;
       tasks = c.run.new.tasks;
-      emits = c.run.new.emits;
       outs = c.run.new.out;
     }
     c.run.new.stages c.run.new.visits c.run.result
@@ -60,6 +52,5 @@ returns c = has_run (stack_tree c.args.stack.now) c.args.works.now c.args.first 
       stand = c.run.ensures.stand;
       lie = c.run.ensures.lie;
       tasks = c.run.ensures.tasks;
-      emits = c.run.ensures.emits;
       room = c.run.ensures.capacity;
     }

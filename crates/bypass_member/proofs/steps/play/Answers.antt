@@ -35,5 +35,5 @@ returns-clause-played c =
     c.enter-first.ensures c.run_layers-predicted.ensures
     (ended_so c.args.ground.now c.args.works.now _ _ _ _ _ _ _ c.requires.ground c.requires.ready c.requires.is_in c.requires.entered
     c.enter-first.ensures c.run_layers-predicted.ensures)
-    c.gather.ensures.returned refl refl refl c.gather.ensures.empty (ap (λ (o : Gathered). o.outputs) c.begin.ensures)
+    c.gather.ensures.returned refl refl c.gather.ensures.empty (ap (λ (o : Gathered). o.outputs) c.begin.ensures)
     (ap (λ (o : Gathered). o.here) c.begin.ensures) c.gather.ensures.gathered

@@ -20,4 +20,4 @@ returns c =
     let behind : next_view c.args.view c.args.ranks ≡ Some c.in-Some.next = sym c.next_view.ensures ∙ c.in-Some.is in
     let at : rank c.in-Some.next c.args.id ≡ Some c.from.result = sym c.rank.ensures ∙ c.in-Some-rank.is ∙ ap Some (sym c.from.ensures) in
     comes_into (stack_tree c.args._stack.now) c.args._most c.args.view c.in-Some.next c.args.id c.args.ranks c.from.result c.member_count-count.result
-    c.args.works.now _ behind at c.member_count-count.ensures.count c.requires.ready c.requires.members c.reset_all.ensures refl refl refl
+    c.args.works.now _ behind at c.member_count-count.ensures.count c.requires.ready c.requires.members c.reset_all.ensures refl refl
