@@ -20,6 +20,7 @@ pub mod ReadyTaken
 pub mod Reserve
 pub mod Rows
 pub mod Scope
+pub mod Sent
 pub mod Sending
 pub mod Stays
 pub mod Steps

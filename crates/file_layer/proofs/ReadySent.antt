@@ -11,16 +11,17 @@ use Rattle.layer_mean.specs.Effect.{sent_as}
 use Rattle.layer_desk.specs.Need.{Layout}
 use Rattle.layer_desk.specs.Spent.{Begun}
 use Rattle.layer_desk.specs.declared.envelope.Envelope.{Envelope}
-use Rattle.pool_message.specs.Seen.{Lies, refs_if, seen_if, LiesIf}
 use Rattle.pool_message.specs.Moves.{Derived}
 use Rattle.pool_message.specs.declared.event.PoolEvent.{PoolEvent}
 use Rattle.pool_message.specs.declared.message.PoolMessage.{PoolMessage}
 use Rattle.pool_message.specs.Sent.{sent_refs}
+use Rattle.file_layer.specs.Sent.{sent_behind, TakesLast}
 use Rattle.file_layer.specs.Stock.{Stock, pool_event}
 use Rattle.file_layer.specs.Steps.{InPool}
 use Rattle.file_layer.specs.Fits.{IsShort, StockFits, SentGrows}
 use Rattle.file_layer.proofs.Lists.{all-front}
 use Rattle.file_layer.proofs.Sending.{sent_first, passed_on}
+use Rattle.file_layer.proofs.Sent.{is_derived, same_refs, still_lies, shows_sent}
 
 -- One event more.
 pub sent_grows : (from : List ℕ) (list first places : ℕ) (old new : Buffer (Dir × PoolEvent)) (x : Dir × PoolEvent) → SentGrows from list first places old →
@@ -52,28 +53,36 @@ fits_sent l s hand arrived sent fits few short places = record {
 
 module _ (b : Begun) (p : List Held) (s : Stock) (is : InPool b p s) (fits : StockFits b.layout s) (dir : Dir) (e : Envelope) (header : Header) (event : PoolEvent)
     (sent : List (Dir × PoolEvent)) (new : sent ≡ s.sent ++ (dir, event) ∷ []) (places : length s.sent + 1 ≤ b.layout.places) where
-  pub first_fits : (rest : List PoolMessage) (x y : PoolMessage) → s.hand ≡ rest ++ x ∷ [] → Derived (sent_as dir header) x y → event ≡ pool_event e (Some y) →
-      InPool b p (record s { hand = rest; sent = sent }) × StockFits b.layout (record s { hand = rest; sent = sent })
-  first_fits rest x y at made is_event =
-      let whole = new ∙ ap (λ ev. s.sent ++ (dir, ev) ∷ []) is_event in
-      let long = ap length at in let all = fits.hand in let more = ap length whole in (
-        subst (λ sent. InPool b p (record s { hand = rest; sent = sent })) (sym whole) (sent_first b p s is dir e header rest x y at made).0,
-        fits_sent b.layout s rest s.arrived sent fits (omega (arith, length-append rest (x ∷ [])))
-            (all-front IsShort rest (x ∷ []) (subst (AllByRecursion IsShort) at fits.hand_short))
-            (omega (arith, length-append s.sent ((dir, pool_event e (Some y)) ∷ []))),
+  first_goes : (rest : List PoolMessage) (o : Option PoolMessage) → TakesLast (sent_behind dir header) s.hand rest o →
+      InPool b p (record s { hand = rest; sent = s.sent ++ (dir, pool_event e o) ∷ [] }) × (length s.hand ≡ length rest + 1) ×
+      (AllByRecursion IsShort s.hand → AllByRecursion IsShort rest)
+  first_goes rest None taken = absurd taken
+  first_goes rest (Some y) taken =
+      let made : Derived (sent_as dir header) taken.last y = subst (Derived (sent_as dir header) taken.last) (sym taken.made) (is_derived dir header taken.last) in
+      let step = sent_first b p s is dir e header rest taken.last y taken.before made in (
+        step.0,
+        ap length taken.before ∙ length-append rest (taken.last ∷ []),
+        λ short. all-front IsShort rest (taken.last ∷ []) (subst (AllByRecursion IsShort) taken.before short),
       )
 
-  pub on_fits : (x y : PoolMessage) (left : Option PoolMessage) → s.arrived ≡ Some x → Derived (sent_as dir header) x y → event ≡ pool_event e (Some y) →
-      left ≡ None → InPool b p (record s { arrived = left; sent = sent }) × StockFits b.layout (record s { arrived = left; sent = sent })
-  on_fits x y left at made is_event none =
+  pub first_fits : (rest : List PoolMessage) (o : Option PoolMessage) → TakesLast (sent_behind dir header) s.hand rest o → event ≡ pool_event e o →
+      InPool b p (record s { hand = rest; sent = sent }) × StockFits b.layout (record s { hand = rest; sent = sent })
+  first_fits rest o taken is_event =
       let whole = new ∙ ap (λ ev. s.sent ++ (dir, ev) ∷ []) is_event in
-      let more = ap length whole in
-      let lies : Lies p x = subst (LiesIf p) at is.lies.arrived in
+      let step = first_goes rest o taken in (
+        subst (λ sent. InPool b p (record s { hand = rest; sent = sent })) (sym whole) step.0,
+        fits_sent b.layout s rest s.arrived sent fits (omega (arith, step.1, fits.hand)) (step.2 fits.hand_short)
+            (omega (arith, ap length whole, places, length-append s.sent ((dir, pool_event e o) ∷ []))),
+      )
+
+  pub on_fits : (left m : Option PoolMessage) → m ≡ option_map (sent_behind dir header) s.arrived → event ≡ pool_event e m → left ≡ None →
+      InPool b p (record s { arrived = left; sent = sent }) × StockFits b.layout (record s { arrived = left; sent = sent })
+  on_fits left m made is_event none =
+      let whole = new ∙ ap (λ ev. s.sent ++ (dir, ev) ∷ []) (is_event ∙ ap (pool_event e) made) in
+      let step = passed_on b p s is dir e header (option_map (sent_behind dir header) s.arrived) (same_refs dir header s.arrived)
+      (still_lies p dir header s.arrived is.lies.arrived) (shows_sent p dir header s.arrived) in
       subst (λ m. InPool b p (record s { arrived = m; sent = sent }) × StockFits b.layout (record s { arrived = m; sent = sent })) (sym none) (
-        subst (λ sent. InPool b p (record s { arrived = None; sent = sent })) (sym whole)
-            (passed_on b p s is dir e header (Some y)
-            (made.slots ∙ ap refs_if (sym at)) (made.lies p lies)
-            (ap (λ c. Some c) (made.shows p) ∙ ap (λ m. option_map (sent_as dir header) (seen_if p m)) (sym at))).0,
+        subst (λ sent. InPool b p (record s { arrived = None; sent = sent })) (sym whole) step.0,
         fits_sent b.layout s s.hand None sent fits fits.hand fits.hand_short
-            (omega (arith, length-append s.sent ((dir, pool_event e (Some y)) ∷ []))),
+            (omega (arith, ap length whole, places, length-append s.sent ((dir, pool_event e (option_map (sent_behind dir header) s.arrived)) ∷ []))),
       )

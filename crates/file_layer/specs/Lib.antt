@@ -6,6 +6,7 @@ pub mod Fits
 pub mod Rest
 pub mod Scope
 pub mod Stock
+pub mod Sent
 pub mod Taken
 pub mod Fresh
 pub mod Laws

@@ -1,16 +1,19 @@
 //! What a visit leaves behind.
 
-ghost use Rattle.std.specs.Prelude.{◌≡◌, [], vec_capacity};
+ghost use Rattle.std.specs.Prelude.{◌≡◌, [], None, vec_capacity};
+ghost use Rattle.slot_pool.specs.References.{Covers};
 ghost use Rattle.layer_desk.specs.Laid.{left};
 ghost use Rattle.layer_desk.specs.Need.{nothing_needed};
 ghost use Rattle.layer_desk.specs.Spent.{SpentAtMost};
+ghost use Rattle.pool_message.specs.Moves.{Returned};
+ghost use Rattle.pool_message.specs.Seen.{refs_if};
 ghost use Rattle.file_layer.specs.Scope.{without_messages};
 ghost use Rattle.file_layer.specs.Stock.{laid};
 ghost use Rattle.file_layer.specs.Ready.{stock_of, room_of, IsReady};
 
 use crate::desk::FileDesk;
 use layer_desk::Start;
-use pool_message::give_back_if_any;
+use pool_message::{PoolMessage, give_back_if_any};
 use slot_pool::Pool;
 
 /// Gives all messages of the scope back.
@@ -27,6 +30,19 @@ pub(crate) fn forget_messages<K: Start>(desk: &mut FileDesk, pool: &mut Pool)
     }
 }
 
+/// Gives the message that arrived back, where it is still there.
+fn forget_arrived(arrived: &mut Option<PoolMessage>, pool: &mut Pool)
+    requires { Covers pool.old (refs_if arrived.old) }
+    ensures none { arrived.new ≡ None }
+    ensures returned { Returned pool.old pool.new (refs_if arrived.old) }
+{
+    if arrived.is_none() {
+        return;
+    }
+    let message = arrived.take();
+    give_back_if_any(message, pool);
+}
+
 pub(crate) fn leave<K: Start>(desk: &mut FileDesk, pool: &mut Pool)
     requires { IsReady K.begun pool.old desk.old }
     ensures ready { IsReady K.begun pool.new desk.new }
@@ -35,6 +51,5 @@ pub(crate) fn leave<K: Start>(desk: &mut FileDesk, pool: &mut Pool)
 {
     forget_messages::<K>(desk, pool);
     desk.numbers.clear();
-    let arrived = desk.arrived.take();
-    give_back_if_any(arrived, pool);
+    forget_arrived(&mut desk.arrived, pool);
 }

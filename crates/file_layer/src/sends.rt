@@ -1,13 +1,13 @@
 //! What a desk sends, and the message that arrived.
 
-ghost use Rattle.std.specs.Prelude.{◌≡◌, None, OnOk};
+ghost use Rattle.std.specs.Prelude.{◌≡◌, ◌<◌, None, length, option_map, vec_capacity, OnOk};
+ghost use Rattle.std.specs.List.{AllByRecursion};
 ghost use Rattle.layer_desk.specs.Laid.{event_in, sends, sends_first, first_header, header_popped, passes_on};
 ghost use Rattle.layer_desk.specs.Need.{one_place, headers_of, passing_need};
 ghost use Rattle.layer_desk.specs.Spent.{Spent};
-ghost use Rattle.pool_message.specs.Moves.{Derived};
 ghost use Rattle.pool_message.specs.Seen.{seen_if};
-ghost use Rattle.layer_mean.specs.Effect.{sent_as};
-ghost use Rattle.std.specs.Prelude.{◌<◌, length};
+ghost use Rattle.file_layer.specs.Fits.{IsShort, IsShortIf};
+ghost use Rattle.file_layer.specs.Sent.{sent_behind, TakesLast};
 ghost use Rattle.file_layer.specs.Stock.{laid, pool_event};
 ghost use Rattle.file_layer.specs.Ready.{stock_of, room_of, IsReady};
 
@@ -31,18 +31,41 @@ fn event_of(envelope: Envelope, message: Option<PoolMessage>) -> PoolEvent
     }
 }
 
-/// A message as it is sent: going down behind a header.
-fn sent_behind(direction: Dir, header: Header, message: PoolMessage) -> PoolMessage
-    requires { length message.headers < 24 }
-    ensures { Derived (sent_as direction header) message result }
+/// Takes the newest message out of a hand, as it is sent: going down it gets a header, which is pushed where it lies.
+fn taken_behind(direction: Dir, header: Header, hand: &mut Vec<PoolMessage>) -> Option<PoolMessage>
+    requires some { 0 < length hand.old.items }
+    requires short { AllByRecursion IsShort hand.old.items }
+    ensures message { TakesLast (sent_behind direction header) hand.old.items hand.new.items result }
+    ensures room { vec_capacity hand.new ≡ vec_capacity hand.old }
 {
-    let mut message = message;
     match direction {
-        Dir::Up => message,
+        Dir::Up => hand.pop(),
         Dir::Down => {
-            message.push_header(header);
-            message
+            let last = hand.len() - 1;
+            hand[last].push_header(header);
+            hand.pop()
         }
+    }
+}
+
+/// A message that arrived becomes as it is sent, where it lies.
+fn put_behind(direction: Dir, header: Header, arrived: &mut Option<PoolMessage>)
+    requires { IsShortIf arrived.old }
+    ensures { arrived.new ≡ option_map (sent_behind direction header) arrived.old }
+{
+    match direction {
+        Dir::Up => {}
+        Dir::Down => push_if_any(header, arrived),
+    }
+}
+
+/// Pushes a header onto the message that arrived, if there is one.
+fn push_if_any(header: Header, arrived: &mut Option<PoolMessage>)
+    requires { IsShortIf arrived.old }
+    ensures { arrived.new ≡ option_map (sent_behind Dir.Down header) arrived.old }
+{
+    if let Some(message) = arrived {
+        message.push_header(header);
     }
 }
 
@@ -80,11 +103,11 @@ pub(crate) fn send_first<K: Start>(
     if desk.sent.len() >= desk.places {
         return Err(NoRoom::Place);
     }
-    let Some(message) = desk.hand.pop() else {
+    if desk.hand.is_empty() {
         return Ok(());
-    };
-    let message = sent_behind(direction, header, message);
-    desk.sent.push(direction, event_of(envelope, Some(message)));
+    }
+    let message = taken_behind(direction, header, &mut desk.hand);
+    desk.sent.push(direction, event_of(envelope, message));
     Ok(())
 }
 
@@ -130,15 +153,8 @@ pub(crate) fn pass_on<K: Start>(
     if arrived_headers(desk, pool) > MOST_ABOVE {
         return Err(NoRoom::Headers);
     }
-    match desk.arrived.take() {
-        Some(message) => {
-            let message = sent_behind(direction, header, message);
-            desk.sent.push(direction, event_of(envelope, Some(message)));
-            Ok(())
-        }
-        None => {
-            desk.sent.push(direction, event_of(envelope, None));
-            Ok(())
-        }
-    }
+    put_behind(direction, header, &mut desk.arrived);
+    desk.sent
+        .push(direction, event_of(envelope, desk.arrived.take()));
+    Ok(())
 }

@@ -1,4 +1,4 @@
-use Rattle.std.proofs.Common.{rules, arith, sym, ap, ◌∙◌}
+use Rattle.std.proofs.Common.{rules, arith, ap, ◌∙◌}
 use Rattle.circular_buffer.specs.Buffer.{Buffer}
 use Rattle.layer_ast.specs.declared.tokens.Dir.{Dir}
 use Rattle.layer_desk.specs.Need.{Layout}
@@ -7,11 +7,10 @@ use Rattle.file_layer.specs.Ready.{stock_of}
 use Rattle.file_layer.proofs.ReadySent.{sent_grows, on_fits}
 use Rattle.file_layer.proofs.sends.pass_on.Goals as goal
 
-pub returns-in-Some-clause-ready : goal.returns-in-Some-clause-ready
-returns-in-Some-clause-ready g c =
+pub returns-clause-ready : goal.returns-clause-ready
+returns-clause-ready g c =
     let places = ap (λ (l : Layout). l.places) c.requires.layout in
     let step = on_fits g.K.Start.begun c.args.pool.now (stock_of c.args.desk.now) c.requires.pool c.requires.fits c.args.direction c.args.envelope c.args.header
-    c.event_of.result c.push.new.self.items (ap (λ (x : Buffer (Dir × PoolEvent)). x.items) c.push.ensures) (omega arith)
-    c.in-Some.message c.sent_behind-message.result c.take.new.self (sym c.take.ensures.value ∙ c.in-Some.is) c.sent_behind-message.ensures c.event_of.ensures
-    c.take.ensures.after in
+    c.event_of.result c.push.new.self.items (ap (λ (x : Buffer (Dir × PoolEvent)). x.items) c.push.ensures) (omega arith) c.take.new.self c.take.result
+    (c.take.ensures.value ∙ c.put_behind.ensures) c.event_of.ensures c.take.ensures.after in
     record { pool = step.0; layout = search rules; fits = step.1; numbers = search rules; messages = search rules; forms = search rules; sent = sent_grows g.K.Start.begun.refs g.K.Start.begun.list c.args.desk.now.first c.args.desk.now.places c.args.desk.now.sent c.push.new.self _ c.requires.sent c.push.ensures }

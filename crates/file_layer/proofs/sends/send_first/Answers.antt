@@ -11,6 +11,6 @@ pub returns-clause-ready : goal.returns-clause-ready
 returns-clause-ready g c =
     let places = ap (λ (l : Layout). l.places) c.requires.layout in
     let step = first_fits g.K.Start.begun c.args.pool.now (stock_of c.args.desk.now) c.requires.pool c.requires.fits c.args.direction c.args.envelope c.args.header
-    c.event_of.result c.push.new.self.items (ap (λ (x : Buffer (Dir × PoolEvent)). x.items) c.push.ensures) (omega arith) c.pop.new.self.items c.in-Some.message c.sent_behind-message.result
-    c.in-Some.ensures.items c.sent_behind-message.ensures c.event_of.ensures in
+    c.event_of.result c.push.new.self.items (ap (λ (x : Buffer (Dir × PoolEvent)). x.items) c.push.ensures) (omega arith) c.taken_behind-message.new.hand.items
+    c.taken_behind-message.result c.taken_behind-message.ensures.message c.event_of.ensures in
     record { pool = step.0; layout = search rules; fits = step.1; numbers = search rules; messages = search rules; forms = search rules; sent = sent_grows g.K.Start.begun.refs g.K.Start.begun.list c.args.desk.now.first c.args.desk.now.places c.args.desk.now.sent c.push.new.self _ c.requires.sent c.push.ensures }

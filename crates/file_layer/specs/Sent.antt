@@ -1,0 +1,21 @@
+-- Messages as they are sent.
+use Rattle.std.specs.Prelude.{◌≡◌, List, [], ◌∷◌, ◌++◌, Option, Some, None}
+use Rattle.msg_core.specs.declared.message.Header.{Header}
+use Rattle.layer_ast.specs.declared.tokens.Dir.{Dir}
+use Rattle.layer_ast.specs.declared.tokens.Dir.TheVariants.{Up, Down}
+use Rattle.pool_message.specs.declared.message.PoolMessage.{PoolMessage}
+
+-- Going up as it is, and going down behind a header.
+abbrev pub sent_behind : Dir → Header → PoolMessage → PoolMessage
+sent_behind Up header m = m
+sent_behind Down header m = record m { headers = header ∷ m.headers }
+
+-- The last of a list was taken out, and became another.
+pub record LastAs (f : PoolMessage → PoolMessage) (old new : List PoolMessage) (y : PoolMessage) : Type 0 where
+  pub last : PoolMessage
+  pub before : old ≡ new ++ last ∷ []
+  pub made : y ≡ f last
+
+abbrev pub TakesLast : (PoolMessage → PoolMessage) → List PoolMessage → List PoolMessage → Option PoolMessage → Type 0
+TakesLast f old new None = ⊥
+TakesLast f old new (Some y) = LastAs f old new y
