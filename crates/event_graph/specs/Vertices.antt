@@ -1,5 +1,5 @@
 -- Vertices as the code keeps them, and the nodes of a place.
-use Rattle.std.specs.Prelude.{ℕ, List, ◌++◌, map}
+use Rattle.std.specs.Prelude.{ℕ, List, [], ◌∷◌, ◌++◌, map}
 use Rattle.std.specs.List.{flat_map}
 use Rattle.layer_ast.specs.declared.tokens.Dir.{Dir}
 use Rattle.layer_ast.specs.declared.tokens.Kind.{Kind}
@@ -10,10 +10,17 @@ use Rattle.stack_mean.specs.Graph as graph
 use Rattle.stack_mean.specs.Graph.{nodes_of}
 use Rattle.weight_laws.specs.Tables as table
 use Rattle.event_graph.specs.declared.table.Vertex.{Vertex}
+use Rattle.event_graph.specs.declared.table.Edges.{Edges}
+use Rattle.event_graph.specs.declared.table.Edges.TheVariants.{Nowhere, Passed, Emitted}
 use Rattle.event_graph.specs.Edges.{edge_tree}
 
+abbrev pub edges_tree : Edges → List table.Edge
+edges_tree Nowhere = []
+edges_tree (Passed edge) = edge_tree edge ∷ []
+edges_tree (Emitted edges) = map edge_tree edges.items
+
 abbrev pub vertex_tree : Vertex → table.Vertex
-vertex_tree v = record { joins = v.joins; edges = map edge_tree v.edges.items }
+vertex_tree v = record { joins = v.joins; edges = edges_tree v.edges }
 
 -- The node of an event of a direction and a kind at a place, by its tag.
 abbrev pub node_at : ℕ → Dir → Kind → ℕ → graph.Node

@@ -17,6 +17,7 @@ ghost use Rattle.typed_layer.specs.Places.{typed_tree};
 
 use crate::edges::{Node, number_at};
 use crate::error::StackError;
+use crate::order::order_of;
 use crate::rounds::{Measure, costs_in, largest_cost};
 use crate::search::first_met;
 use crate::steady::{all_fall, steady_costs};
@@ -164,7 +165,8 @@ pub fn judge(alloc: Global, stack: &Typed) -> Result<u32, StackError>
 {
     let nodes = nodes(alloc, stack)?;
     let vertices = table(alloc, stack, &nodes)?;
-    let weights = steady_costs(alloc, Measure::Tasks, &nodes, &vertices)?;
+    let order = order_of(alloc, &nodes, &vertices)?;
+    let weights = steady_costs(alloc, Measure::Tasks, &order, &nodes, &vertices)?;
     if let Some(node) = cycle_of(alloc, stack, &nodes, &vertices, &weights)? {
         return Err(StackError::Cycle(node.at.saturating_sub(1), node.kind));
     }
@@ -172,7 +174,7 @@ pub fn judge(alloc: Global, stack: &Typed) -> Result<u32, StackError>
     if weight > WEIGHT_LIMIT {
         return Err(StackError::TooMany(weight));
     }
-    let counts = steady_costs(alloc, Measure::Joins, &nodes, &vertices)?;
+    let counts = steady_costs(alloc, Measure::Joins, &order, &nodes, &vertices)?;
     let joins = largest_in(alloc, Measure::Joins, stack, &nodes, &vertices, &counts)?;
     if joins > JOINS_LIMIT {
         return Err(StackError::TooManyJoins);

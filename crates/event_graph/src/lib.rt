@@ -6,6 +6,7 @@ mod edges;
 mod error;
 mod joins;
 mod judge;
+mod order;
 mod rounds;
 mod rows;
 mod search;

@@ -9,7 +9,7 @@ ghost use Rattle.event_graph.specs.Vertices.{vertex_tree};
 ghost use Rattle.event_graph.specs.Measures.{own_of};
 
 use crate::edges::Edge;
-use crate::table::Vertex;
+use crate::table::{Edges, Vertex};
 use std::alloc::{AllocError, Global};
 
 /// What is counted: tasks, or joins.
@@ -61,15 +61,27 @@ fn add_edge(costs: &[u32], sum: u32, edge: Edge) -> u32
     )
 }
 
+/// A sum with the costs of edges.
+fn add_edges(costs: &[u32], own: u32, edges: &[Edge]) -> u32
+    ensures { result ≡ fold (round.with_edge costs.now) own (map edge_tree edges.now) }
+{
+    let mut sum = own;
+    for edge in edges {
+        sum = add_edge(costs, sum, *edge);
+    }
+    sum
+}
+
 /// The cost of a vertex over the costs of the round before.
 pub fn vertex_cost(measure: Measure, costs: &[u32], vertex: &Vertex) -> u32
     ensures { result ≡ round.vertex_cost (own_of measure) costs.now (vertex_tree vertex.now) }
 {
-    let mut sum = own_cost(measure, vertex);
-    for edge in vertex.edges.as_slice() {
-        sum = add_edge(costs, sum, *edge);
+    let own = own_cost(measure, vertex);
+    match &vertex.edges {
+        Edges::Nowhere => own,
+        Edges::Passed(edge) => add_edge(costs, own, *edge),
+        Edges::Emitted(edges) => add_edges(costs, own, edges.as_slice()),
     }
-    sum
 }
 
 /// What each vertex costs of its own.

@@ -8,7 +8,7 @@ ghost use Rattle.event_graph.specs.Vertices.{vertex_tree};
 ghost use Rattle.event_graph.specs.Searches.{search_tree, meets_itself};
 
 use crate::edges::{Edge, Node, number_at};
-use crate::table::Vertex;
+use crate::table::{Edges, Vertex};
 use std::alloc::{AllocError, Global};
 
 /// Which numbers were seen, and those that were seen last, in order.
@@ -74,12 +74,23 @@ impl Search {
         Ok(())
     }
 
+    /// Sees the targets of the edges from a vertex.
+    fn see_edges_of(&mut self, vertex: &Vertex) -> Result<(), AllocError>
+        ensures { OnOk result (search_tree self.new ≡ fold search.see_targets (search_tree self.old) (vertex_tree vertex.now).edges) }
+    {
+        match &vertex.edges {
+            Edges::Nowhere => Ok(()),
+            Edges::Passed(edge) => self.see_targets(*edge),
+            Edges::Emitted(edges) => self.see_edges(edges),
+        }
+    }
+
     /// Sees what follows from a number.
     fn see_vertex(&mut self, vertices: &[Vertex], number: usize) -> Result<(), AllocError>
         ensures { OnOk result (search_tree self.new ≡ search.see_vertex (map vertex_tree vertices.now) (search_tree self.old) number) }
     {
         if number < vertices.len() {
-            self.see_edges(&vertices[number].edges)
+            self.see_edges_of(&vertices[number])
         } else {
             Ok(())
         }

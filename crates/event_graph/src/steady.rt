@@ -8,34 +8,19 @@ ghost use Rattle.event_graph.specs.Measures.{own_of};
 ghost use Rattle.event_graph.specs.Steady.{is_steady_at, falls_at, is_often};
 
 use crate::edges::{Edge, Node, number_at};
-use crate::rounds::{Measure, cost_at, own_costs, vertex_cost};
-use crate::table::Vertex;
-use layer_ast::Dir;
+use crate::rounds::{Measure, cost_at, vertex_cost};
+use crate::table::{Edges, Vertex};
 use std::alloc::{AllocError, Global};
 
-/// How many sweeps there and back are made at most; more are of no use for most stacks.
+/// How many sweeps are made at most; for most stacks one is enough.
 const MOST_SWEEPS: u8 = 33;
 
-/// Sets the cost of a node to that of one more round. (Whatever is set, only costs that are steady are used.)
-fn improve(measure: Measure, vertices: &[Vertex], node: Node, costs: &mut Vec<u32>) {
-    let number = number_at(u16::from(node.at), node.dir, node.kind, node.tag) as usize;
-    if number < vertices.len() && number < costs.len() {
-        let cost = vertex_cost(measure, costs.as_slice(), &vertices[number]);
-        costs[number] = cost;
-    }
-}
-
-/// Improves the costs of all nodes, each mostly behind the next one on its way: those that go down from the lowest place to the
-/// highest, then those that go up from the highest to the lowest.
-fn sweep(measure: Measure, nodes: &[Node], vertices: &[Vertex], costs: &mut Vec<u32>) {
-    for node in nodes {
-        if node.dir == Dir::Down {
-            improve(measure, vertices, *node, costs);
-        }
-    }
-    for node in nodes.iter().rev() {
-        if node.dir == Dir::Up {
-            improve(measure, vertices, *node, costs);
+/// Sets the cost of each number to that of one more round, in order. (Whatever is set, only costs that are steady are used.)
+fn sweep(measure: Measure, order: &[u32], vertices: &[Vertex], costs: &mut Vec<u32>) {
+    for number in order {
+        let number = *number as usize;
+        if number < vertices.len() && number < costs.len() {
+            costs[number] = vertex_cost(measure, costs.as_slice(), &vertices[number]);
         }
     }
 }
@@ -64,21 +49,22 @@ fn are_steady(measure: Measure, nodes: &[Node], vertices: &[Vertex], costs: &[u3
     true
 }
 
-/// Costs that a round wouldn't change, if some are found soon.
+/// Costs that a round wouldn't change, if some are found soon by going through the numbers in an order.
 pub fn steady_costs(
     alloc: Global,
     measure: Measure,
+    order: &[u32],
     nodes: &[Node],
     vertices: &[Vertex],
 ) -> Result<Option<Vec<u32>>, AllocError>
     ensures { IfOk result (λ found. IfSome found (λ costs. list_all (is_steady_at (own_of measure) (map vertex_tree vertices.now) costs.items) (map node_tree nodes.now) ≡ true)) }
 {
-    let mut costs = own_costs(alloc, measure, vertices)?;
+    let mut costs = vec![in alloc; 1; vertices.len()]?;
     for _sweep in 0..MOST_SWEEPS {
+        sweep(measure, order, vertices, &mut costs);
         if are_steady(measure, nodes, vertices, costs.as_slice()) {
             return Ok(Some(costs));
         }
-        sweep(measure, nodes, vertices, &mut costs);
     }
     Ok(None)
 }
@@ -95,13 +81,24 @@ fn are_often(edges: &[Edge]) -> bool
     true
 }
 
+/// Whether each edge from a vertex stands for one time at least.
+fn is_often_left(vertex: &Vertex) -> bool
+    ensures { result ≡ true → list_all is_often (vertex_tree vertex.now).edges ≡ true }
+{
+    match &vertex.edges {
+        Edges::Nowhere => true,
+        Edges::Passed(edge) => edge.times > 0,
+        Edges::Emitted(edges) => are_often(edges.as_slice()),
+    }
+}
+
 /// Whether the cost of a node is below what is held, and each of its edges stands for one time at least.
 fn falls(vertices: &[Vertex], costs: &[u32], node: Node) -> bool
     ensures { result ≡ true → falls_at (map vertex_tree vertices.now) costs.now (node_tree node) ≡ true }
 {
     let number = number_at(u16::from(node.at), node.dir, node.kind, node.tag) as usize;
     if number < vertices.len() && cost_at(costs, number) < u32::MAX {
-        are_often(vertices[number].edges.as_slice())
+        is_often_left(&vertices[number])
     } else {
         false
     }

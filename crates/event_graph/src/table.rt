@@ -36,11 +36,22 @@ const KINDS: [Kind; 12] = [
 /// How many numbers the nodes of a place can have.
 const NUMBERS: usize = 192;
 
+/// How many nodes most places have at most; where there are more, their room grows.
+const NODES: usize = 32;
+
 /// The joins of the handler that a node enters, and the edges from the node.
 #[derive(Drop)]
 pub struct Vertex {
     pub joins: u32,
-    pub edges: Vec<Edge>,
+    pub edges: Edges,
+}
+
+/// The edges from a node. Most nodes enter no handler and have one at most, which takes no memory of its own.
+#[derive(Drop)]
+pub enum Edges {
+    Nowhere,
+    Passed(Edge),
+    Emitted(Vec<Edge>),
 }
 
 /// The tags that an event of a kind can have in front of the layer at a place.
@@ -85,28 +96,39 @@ fn popped_tag(node: Node) -> u8
     }
 }
 
+/// A vertex from which nothing follows.
+fn nowhere() -> Vertex
+    ensures { vertex_tree result ≡ no_vertex }
+{
+    Vertex {
+        joins: 0,
+        edges: Edges::Nowhere,
+    }
+}
+
 /// What follows from a node.
 fn make_vertex(alloc: Global, stack: &Typed, node: Node) -> Result<Vertex, AllocError>
     ensures { IfOk result (λ v. vertex_tree v ≡ vertex_of (typed_tree stack.now) (node_tree node)) }
 {
-    let mut edges = Vec::new(alloc);
     let Some(layer) = stack.visited(node.at) else {
-        return Ok(Vertex { joins: 0, edges })
+        return Ok(nowhere());
     };
     match layer.handlers.find(node.dir, node.kind, popped_tag(node)) {
         Some(handler) => {
+            let mut edges = Vec::new(alloc);
             add_block(stack, node, 1, &handler.block, &mut edges)?;
             Ok(Vertex {
                 joins: of_handler(handler),
-                edges,
+                edges: Edges::Emitted(edges),
             })
         }
-        None => {
-            if let Some(edge) = passed(stack, node) {
-                edges.push(edge)?;
-            }
-            Ok(Vertex { joins: 0, edges })
-        }
+        None => match passed(stack, node) {
+            Some(edge) => Ok(Vertex {
+                joins: 0,
+                edges: Edges::Passed(edge),
+            }),
+            None => Ok(nowhere()),
+        },
     }
 }
 
@@ -168,8 +190,9 @@ fn add_place(stack: &Typed, at: u8, nodes: &mut Vec<Node>) -> Result<(), AllocEr
 pub fn nodes(alloc: Global, stack: &Typed) -> Result<Vec<Node>, AllocError>
     ensures { IfOk result (λ nodes. map node_tree nodes.items ≡ graph.nodes (typed_tree stack.now)) }
 {
-    let mut nodes = Vec::new(alloc);
-    for at in 0..stack.places() + 2 {
+    let places = stack.places() + 2;
+    let mut nodes = Vec::with_capacity(alloc, usize::from(places) * NODES)?;
+    for at in 0..places {
         add_place(stack, at, &mut nodes)?;
     }
     Ok(nodes)
@@ -182,10 +205,7 @@ fn empty(alloc: Global, places: u8) -> Result<Vec<Vertex>, AllocError>
     let count = (usize::from(places) + 2) * NUMBERS;
     let mut vertices = Vec::with_capacity(alloc, count)?;
     for _number in 0..count {
-        vertices.push(Vertex {
-            joins: 0,
-            edges: Vec::new(alloc),
-        })?;
+        vertices.push(nowhere())?;
     }
     Ok(vertices)
 }
