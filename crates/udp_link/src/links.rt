@@ -1,5 +1,5 @@
 // Links over the system's sockets.
-ghost use Rattle.std.specs.Prelude.{◌≡◌, ◌≢◌, ◌<◌, ◌≤◌, ℕ, None, Some, Err, IsSome, IsSomeAnd, IfOk, IfSome, OnOk, OnErr, length, replicate, slice_get};
+ghost use Rattle.std.specs.Prelude.{◌≡◌, ◌≢◌, ◌<◌, ◌≤◌, ℕ, None, Some, Err, IsSome, IsSomeAnd, IfOk, IfSome, OnOk, OnErr, length, replicate, slice_get, vec_capacity};
 ghost use Rattle.outside.specs.declared.links.LinkError.TheVariants.{Memory};
 ghost use Rattle.outside.specs.Links.{Listens, Sends, Receives, WritesFront, faults_after_call};
 ghost use Rattle.udp_link.specs.Listening.{listening_in, peers_in, peers_of};
@@ -16,12 +16,12 @@ pub struct UdpLinks<R: Net + Drop> {
     net: R,
     // Each member at its place.
     members: Vec<Option<Member>>,
-    // Where a datagram is received before it is handed on.
+    // Where a datagram is received before it is handed on. It is filled when the first is waited for.
     room: Vec<u8>,
     faults: u64,
     send_faults: u64,
     ghost places: { length members.items ≡ 32 },
-    ghost room_size: { length room.items ≡ 65507 },
+    ghost room_size: { 65507 ≤ vec_capacity room },
 }
 
 impl<R: Net + Drop> UdpLinks<R> {
@@ -32,7 +32,7 @@ impl<R: Net + Drop> UdpLinks<R> {
         ensures send_faults { IfOk result (λ links. ⟦<UdpLinks<R> as Links>⟧.send_faults links ≡ 0) }
     {
         let members = nobody(alloc)?;
-        let room = room(alloc)?;
+        let room = Vec::with_capacity(alloc, MOST_BYTES)?;
         Ok(UdpLinks {
             net,
             members,
@@ -67,10 +67,16 @@ fn nobody(alloc: Global) -> Result<Vec<Option<Member>>, AllocError>
     Ok(members)
 }
 
-fn room(alloc: Global) -> Result<Vec<u8>, AllocError>
-    ensures { IfOk result (λ room. length room.items ≡ 65507) }
+/// Fills a room that has memory for the longest datagram.
+fn fill(room: &mut Vec<u8>)
+    requires { 65507 ≤ vec_capacity room.old }
+    ensures size { length room.new.items ≡ 65507 }
+    ensures capacity { 65507 ≤ vec_capacity room.new }
 {
-    vec![in alloc; 0; MOST_BYTES]
+    match room.resize(MOST_BYTES, 0) {
+        Ok(()) => {}
+        Err(_) => unreachable!(),
+    }
 }
 
 #[tactic(auto, unfolding(crate::specs::Listening::peers_in))]
@@ -150,6 +156,7 @@ impl<R: Net + Drop> Links for UdpLinks<R> {
         ensures told { Receives member into.new None None result }
         ensures memory { result ≢ Err Memory }
     {
+        fill(&mut self.room);
         match listener(&self.members, member).recv(&mut self.room) {
             Ok(Some(count)) => {
                 into[..count].copy_from_slice(&self.room[..count]);
