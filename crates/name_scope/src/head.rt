@@ -4,11 +4,13 @@ ghost use Rattle.std.specs.Prelude.{◌≡◌, ◌++◌, [], option_map, OnOk, I
 ghost use Rattle.layer_ast.specs.View.{handler_tree, popped_tree};
 ghost use Rattle.file_faults.specs.Scope as spec;
 ghost use Rattle.name_scope.specs.Scope.{locals_of, scope_of};
+ghost use Rattle.name_scope.specs.Sorts.{sorts_of};
 
 use crate::forms::declares_end;
 use crate::locals::add_sorted;
 use crate::names::{listed, written};
 use crate::scope::{Local, Scope};
+use crate::sorts::Sorts;
 use layer_ast::{Handler, Kind, Name, Popped, Sort};
 use std::alloc::{AllocError, Global};
 
@@ -29,17 +31,14 @@ fn sort_behind(scope: &Scope, popped: &Option<Popped>) -> Sort
 }
 
 /// The sorts of a handler's arguments.
-fn argument_sorts(alloc: Global, scope: &Scope, handler: &Handler) -> Result<Vec<Sort>, AllocError>
-    ensures { IfOk result (λ all. all.items ≡ spec.argument_sorts (scope_of scope.now).layer (handler_tree handler.now)) }
+fn argument_sorts(scope: &Scope, handler: &Handler) -> Sorts
+    ensures { sorts_of result ≡ spec.argument_sorts (scope_of scope.now).layer (handler_tree handler.now) }
 {
-    let mut sorts = Vec::new(alloc);
-    sorts.push(Sort::Int)?;
     match handler.kind {
-        Kind::Cast | Kind::Send => sorts.push(sort_behind(scope, &handler.popped))?,
-        Kind::Stable | Kind::Ack => sorts.push(Sort::Int)?,
-        _ => {}
+        Kind::Cast | Kind::Send => Sorts::two(Sort::Int, sort_behind(scope, &handler.popped)),
+        Kind::Stable | Kind::Ack => Sorts::two(Sort::Int, Sort::Int),
+        _ => Sorts::one(Sort::Int),
     }
-    Ok(sorts)
 }
 
 /// The names of the fields of a popped header.
@@ -83,9 +82,9 @@ pub fn head_locals(
 ) -> Result<Vec<Local>, AllocError>
     ensures { IfOk result (λ all. locals_of all.items ≡ (spec.head_scope (scope_of scope.now).layer (handler_tree handler.now)).locals) }
 {
-    let sorts = argument_sorts(alloc, scope, handler)?;
+    let sorts = argument_sorts(scope, handler);
     let mut locals = Vec::new(alloc);
-    add_sorted(&mut locals, &sorts, &handler.names)?;
+    add_sorted(&mut locals, sorts.slice(), &handler.names)?;
     add_fields(&mut locals, &handler.popped)?;
     Ok(locals)
 }

@@ -7,6 +7,7 @@ mod head;
 mod locals;
 mod names;
 mod scope;
+mod sorts;
 mod words;
 
 pub use declared::{declared_name, has_item, is_same};

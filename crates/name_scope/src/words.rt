@@ -1,6 +1,6 @@
 //! Words that are found without a search.
 
-ghost use Rattle.std.specs.Prelude.{◌≡◌, ◌-◌, ◌++◌, ◌∷◌, [], IfOk, OnOk, OnErr, bytes_eq, length, take};
+ghost use Rattle.std.specs.Prelude.{◌≡◌, ◌<◌, ◌-◌, ◌++◌, ◌∷◌, [], IfOk, OnOk, OnErr, bytes_eq, length, take, vec_len, vec_capacity};
 ghost use Rattle.std.specs.List.{position};
 ghost use Rattle.indexmap.specs.IndexMap.{get};
 ghost use Rattle.name_scope.specs.Words.{Forgets, HasTable, IsSameTable, IsTable, NotesFirst, is_at, place_of};
@@ -58,7 +58,10 @@ impl Hash for Spelling {
 }
 
 /// How many words are looked through one by one; more have a table.
-const FEW: usize = 8;
+const FEW: usize = 16;
+
+/// For how many words there is room with the first.
+const AT_FIRST: usize = 8;
 
 /// Words in order, and once they are more than a few a table of where each is first.
 #[derive(Drop)]
@@ -112,7 +115,7 @@ impl Words {
         ensures pushed { OnOk result (self.new ≡ self.old ++ word.now ∷ []) }
         ensures failed { OnErr result (self.new ≡ self.old) }
     {
-        self.words.reserve(1)?;
+        make_room(&mut self.words)?;
         note_next(&mut self.first, &self.words, word)?;
         self.words.push(*word)?;
         Ok(())
@@ -137,6 +140,17 @@ impl Words {
             forget_last(&mut self.first, &self.words, &word);
         }
     }
+}
+
+/// Makes room for one word more; with the first there is room for several.
+fn make_room(words: &mut Vec<Word>) -> Result<(), AllocError>
+    ensures items { words.new.items ≡ words.old.items }
+    ensures room { OnOk result (vec_len words.new < vec_capacity words.new) }
+{
+    if words.is_empty() {
+        return words.reserve(AT_FIRST);
+    }
+    words.reserve(1)
 }
 
 /// Where a word is first among others.
