@@ -1,5 +1,5 @@
 -- How a job ends at its file.
-use Rattle.std.proofs.Common.{◌≡◌, refl, ℕ, ◌<◌, List, length, Option, Some, None, inl}
+use Rattle.std.proofs.Common.{◌≡◌, ℕ, ◌<◌, length, Option, inl}
 use Rattle.std.specs.Prelude.{IfSome, IsSomeAnd, Err, if◌then◌else◌}
 use Rattle.std.proofs.Common.{ap}
 use Rattle.std.proofs.lemmas.Bool.{lt-ltb}

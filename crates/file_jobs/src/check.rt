@@ -1,7 +1,8 @@
 //! The job `check`.
 #![tactic(auto, using(sink_lines::proofs::Gaining::begins_none))]
 
-ghost use Rattle.std.specs.Prelude.{[], ◌∷◌, codes, ◌++◌};
+ghost use Rattle.std.specs.Prelude.{◌≡◌, [], ◌∷◌, codes, ◌++◌, length};
+ghost use Rattle.event_graph.specs.Answer.{stack_tree};
 ghost use Rattle.std.specs.Fmt.{decimal};
 ghost use Rattle.job_mean.specs.Job as job;
 ghost use Rattle.job_mean.specs.Status.{done};
@@ -12,9 +13,11 @@ ghost use Rattle.job_ends.specs.Shown.{shown};
 use crate::judged::{Output, write};
 use crate::lines::accepted_line;
 use crate::stack::fetch_stack;
+use event_graph::Stack;
 use job_ends::Ending;
 use outside::{Shelf, Sink};
 use std::alloc::{AllocError, Global};
+use std::mem::forget;
 
 /// Judges a stack file, and writes how many places its stack has.
 pub fn check_stack<S: Shelf, O: Sink>(
@@ -29,9 +32,18 @@ pub fn check_stack<S: Shelf, O: Sink>(
         (tells (O.contents out.new) (O.failures out.new) (O.faults out.new))) (shown result) }
 {
     match fetch_stack(alloc, file, shelf) {
-        Ok(stack) => accept(alloc, stack.places(), out),
+        Ok(stack) => accept(alloc, places_of(stack), out),
         Err(ending) => ending,
     }
+}
+
+/// How many places a stack has, which isn't wanted any longer. Its memory goes back with that of the program.
+fn places_of(stack: Stack) -> u8
+    ensures { result ≡ length (stack_tree stack) }
+{
+    let places = stack.places();
+    forget(stack);
+    places
 }
 
 /// Writes that a stack of so many places is accepted.

@@ -19,11 +19,11 @@ returns-in-Ok g c = written (check c.args.file.now) (around (g.S.Shelf.told c.ar
       second = [];
       found = c.in-Ok.ensures.read.found;
       beside = refl;
-      lines = (codes "accepted " ++ decimal c.places.result ++ codes "\n") ∷ [];
+      lines = (codes "accepted " ++ decimal c.places_of.result ++ codes "\n") ∷ [];
       output = record {
         stack = stack_tree c.in-Ok.stack;
         means = c.in-Ok.ensures.read.means;
-        written = ap (λ n. (codes "accepted " ++ decimal n ++ codes "\n") ∷ []) c.places.ensures ∙ accepted_as _;
+        written = ap (λ n. (codes "accepted " ++ decimal n ++ codes "\n") ∷ []) c.places_of.ensures ∙ accepted_as _;
       };
     })
     (shown c.accept.result) c.in-Ok.ensures.read.sound c.accept.ensures
