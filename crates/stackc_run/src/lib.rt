@@ -6,18 +6,10 @@
 //! files, the streams, the sockets and the clock of the system, and a program's `main` is a call of that.
 #![tactic(auto)]
 
-#[cfg(test)]
-mod nodes;
 mod over_sinks;
 mod over_streams;
 mod over_system;
 mod perform;
-#[cfg(test)]
-mod runs;
-#[cfg(test)]
-mod tests;
-#[cfg(test)]
-mod worked;
 
 pub use over_sinks::run;
 pub use over_streams::run_through;

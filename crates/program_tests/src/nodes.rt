@@ -1,7 +1,6 @@
 //! A node whose members are all of a plan's group, over a network in memory: its lines are told by hand from the definitions.
 
-use crate::runs::run_over;
-use crate::tests::{COUNTER, Left, named, words};
+use crate::runs::{COUNTER, Left, named, run_over, words};
 use outside::{MemClock, MemLinks, MemShelf, MemSink};
 use std::alloc::{AllocError, Global};
 use std::test::Fail;

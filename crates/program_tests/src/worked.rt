@@ -1,12 +1,8 @@
 //! Worked cases of whole replays: what is written was told by an independent reading of the rules.
 
-use crate::runs::run_alone;
-use outside::{MemShelf, MemSink, NamedFile};
+use crate::runs::{COUNTER, Left, left_by, named, words};
 use std::alloc::{AllocError, Global};
 use std::test::Fail;
-
-const COUNTER: &[u8] =
-    b"layer cnt {\n  state int k;\n  state int e[n];\n  header num(seq) passes;\n  down Cast(p, m) {\n    down Cast(p, m) with num(k);\n    set k = (k + 1);\n  }\n  up Cast(o, m) with num(seq) common (seq == e[o]) {\n    set e[o] = (seq + 1);\n    up Cast(o, m);\n  }\n}\nstack { cnt; }\n";
 
 /// A layer that branches on a cell that it has just written.
 const ALIAS: &[u8] =
@@ -20,73 +16,60 @@ const ONE: &[u8] =
 const BIG: &[u8] =
     b"layer big { state queue q0[n][64] of (m: msg); state queue q1[n][64] of (m: msg); state queue q2[n][64] of (m: msg); state queue q3[n][64] of (m: msg); state queue q4[n][64] of (m: msg); } stack { big; }";
 
-/// What a replay left: its status, and the bytes on its output and on its standard error.
-#[derive(Drop)]
-struct Left {
-    status: u8,
-    out: Vec<u8>,
-    err: Vec<u8>,
-}
-
-fn named(alloc: Global, name: &str, bytes: &[u8]) -> Result<NamedFile, AllocError> {
-    Ok(NamedFile {
-        name: String::from_str(alloc, name)?,
-        bytes: Vec::from_slice(alloc, bytes)?,
-    })
-}
-
-/// A replay of a script over a stack file, with more words.
-fn replayed(alloc: Global, file: &[u8], script: &[u8], more: &[&str]) -> Result<Left, AllocError> {
-    let mut words = Vec::new(alloc);
-    for text in ["replay", "f", "s", "--run", "layered"] {
-        words.push(String::from_str(alloc, text)?)?;
+/// What a replay of a script over a stack file left, where its packets' bytes are wanted or not, and the number of visits.
+fn shown(
+    alloc: Global,
+    file: &[u8],
+    script: &[u8],
+    wire: bool,
+    count: bool,
+) -> Result<Left, AllocError> {
+    let mut words = words(alloc, &["replay", "f", "s", "--run", "layered"])?;
+    if wire {
+        words.push(String::from_str(alloc, "--wire")?)?;
     }
-    for text in more {
-        words.push(String::from_str(alloc, text)?)?;
+    if count {
+        words.push(String::from_str(alloc, "--count")?)?;
     }
     let files = vec![in alloc; named(alloc, "f", file)?, named(alloc, "s", script)?]?;
-    let mut shelf = MemShelf::of(files, Vec::new(alloc));
-    let mut out = MemSink::of(alloc, Vec::new(alloc));
-    let mut err = MemSink::of(alloc, Vec::new(alloc));
-    let status = run_alone(alloc, &words, &mut shelf, &mut out, &mut err);
-    Ok(Left {
-        status,
-        out: Vec::from_slice(alloc, out.contents())?,
-        err: Vec::from_slice(alloc, err.contents())?,
-    })
+    left_by(alloc, &words, files, Vec::new(alloc), Vec::new(alloc))
 }
 
 #[test]
 fn replays_stacks(rt: HostRuntime) -> Result<(), Fail> {
     let alloc = rt.alloc();
-    let cases: [(&[u8], &[u8], &[&str], &[u8]); 4] = [
+    let cases: [(&[u8], &[u8], bool, bool, &[u8]); 4] = [
         (
             b"stack { bottom; local; total; }",
             b"group 1 stamp 1 members 2\ncast 0 61\ncast 1 62\ngive 2 0\n",
-            &["--count"],
+            false,
+            true,
             b"packet 1 0 all bottom.net(1)/local.none()/total.num(0,0) 61\ndeliver 0 cast 0 61\npacket 2 1 0 bottom.net(1)/local.none()/total.ask() 62\npacket 3 0 all bottom.net(1)/local.none()/total.num(1,1) 62\ndeliver 0 cast 1 62\nend 3\nvisits 13\n",
         ),
         (
             b"stack { bottom; mnak; local; total; }",
             b"group 1 stamp 1 members 2\ncast 0 61\nstate 0\n",
-            &["--wire", "--count"],
+            true,
+            true,
             b"deliver 0 cast 0 61\npacket 1 0 all bottom.net(1)/mnak.num(0)/local.none()/total.num(0,0) 61\nwire 1 e50000000100000001000000000000000300ff010000000101000000000001000000000000000061\nstate 0 0 3\ncell 0 1 mnak.out 1\ncell 0 1 mnak.base 0\ncell 0 1 mnak.told 0\ncell 0 1 mnak.next 0 0\ncell 0 1 mnak.kept [local.none()/total.num(0,0):61]\ncell 0 1 mnak.early[0] -\ncell 0 1 mnak.early[1] -\ncell 0 3 total.out 1\ncell 0 3 total.next 1\nend 2\nvisits 5\n",
         ),
         (
             ALIAS,
             b"group 1 stamp 1 members 2\ncast 0 -\ncast 0 -\ncast 0 -\nstate 0\n",
-            &["--count"],
+            false,
+            true,
             b"packet 1 0 all alias.b() -\npacket 2 0 all alias.a() -\npacket 3 0 all alias.a() -\nstate 0 0 3\ncell 0 0 alias.k 4\ncell 0 0 alias.e 5 5\nend 4\nvisits 3\n",
         ),
         (
             ONE,
             b"group 1 stamp 1 members 1\ncast 0 61\ncast 0 62\nstate 0\n",
-            &[],
+            false,
+            false,
             b"packet 1 0 all one.num(0) 61\npacket 2 0 all one.full() -\npacket 3 0 all one.num(1) 62\nstate 0 0 1\ncell 0 0 one.s 1\ncell 0 0 one.q [4294967295]\nend 3\n",
         ),
     ];
-    for (file, script, more, out) in cases {
-        let left = replayed(alloc, file, script, more)?;
+    for (file, script, wire, count, out) in cases {
+        let left = shown(alloc, file, script, wire, count)?;
         assert_eq!(rt; left.status, 0);
         assert_eq!(rt; left.out.as_slice(), out);
         assert_eq!(rt; left.err.as_slice(), b"".as_slice());
@@ -95,53 +78,57 @@ fn replays_stacks(rt: HostRuntime) -> Result<(), Fail> {
 }
 
 #[test]
-fn refuses_files_and_scripts(rt: HostRuntime) -> Result<(), Fail> {
+fn refuses_files(rt: HostRuntime) -> Result<(), Fail> {
     let alloc = rt.alloc();
-    let cases: [(&[u8], &[u8], u8, &[u8]); 10] = [
-        (BIG, b"group 1 stamp 1 members 32\n", 3, b"script: rows\n"),
+    let cases: [(&[u8], &[u8]); 6] = [
         (
             b"layer echo { down Cast(p, m) { up Cast(p, m); } up Cast(o, m) { down Cast(o, m); } } stack { echo; echo; }",
-            b"group 1 stamp 1 members 1\n",
-            1,
             b"file: cycle 0 Cast\n",
         ),
         (
             b"layer fan { up Cast(o, m) { each i below 16 max 16 { up Cast(o, m); } } } stack { fan; fan; fan; fan; }",
-            b"x",
-            1,
             b"file: too many 69905\n",
         ),
         (
             b"layer a {\n  down Cast(p, m) { set z = 1; }\n}\nstack { a; }",
-            b"x",
-            1,
             b"file: unknown 2:25\n",
         ),
         (
             b"layer a {\n  header h() ends;\n  down Cast(p, m) { down Cast(p, m) with h(); }\n}\nstack { a; }",
-            b"x",
-            1,
             b"file: header 3:21\n",
         ),
-        (b"", b"x", 1, b"file: unexpected 1:1\n"),
-        (b"$", b"x", 1, b"file: token 1:1\n"),
+        (b"", b"file: unexpected 1:1\n"),
+        (b"$", b"file: token 1:1\n"),
+    ];
+    for (file, err) in cases {
+        let left = shown(alloc, file, b"x", false, false)?;
+        assert_eq!(rt; left.status, 1);
+        assert_eq!(rt; left.out.as_slice(), b"".as_slice());
+        assert_eq!(rt; left.err.as_slice(), err);
+    }
+    Ok(())
+}
+
+#[test]
+fn refuses_scripts(rt: HostRuntime) -> Result<(), Fail> {
+    let alloc = rt.alloc();
+    let cases: [(&[u8], &[u8], &[u8]); 4] = [
+        (BIG, b"group 1 stamp 1 members 32\n", b"script: rows\n"),
         (
             COUNTER,
             b"group 1 stamp 7 members 3\ncast 0 6\n",
-            3,
             b"script: line 2\n",
         ),
         (
             COUNTER,
             b"group 1 stamp 7 members 3\ncast 3 61\n",
-            3,
             b"script: member 2\n",
         ),
-        (COUNTER, b"", 3, b"script: line 1\n"),
+        (COUNTER, b"", b"script: line 1\n"),
     ];
-    for (file, script, status, err) in cases {
-        let left = replayed(alloc, file, script, &[])?;
-        assert_eq!(rt; left.status, status);
+    for (file, script, err) in cases {
+        let left = shown(alloc, file, script, false, false)?;
+        assert_eq!(rt; left.status, 3);
         assert_eq!(rt; left.out.as_slice(), b"".as_slice());
         assert_eq!(rt; left.err.as_slice(), err);
     }

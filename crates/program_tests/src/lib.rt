@@ -1,0 +1,15 @@
+//! What no clause says of the program: that its jobs are done where there is memory, and what they then write.
+#![tactic(auto)]
+
+#[cfg(test)]
+mod jobs;
+#[cfg(test)]
+mod nodes;
+#[cfg(test)]
+mod replays;
+#[cfg(test)]
+mod runs;
+#[cfg(test)]
+mod streams;
+#[cfg(test)]
+mod worked;

@@ -1,0 +1,93 @@
+//! Runs over streams that lack something.
+
+use crate::runs::{COUNTER, Left, named, words};
+use outside::{Clock, Links, MemClock, MemLinks, MemShelf, Shelf, StdSink};
+use stackc_run::run_through;
+use std::alloc::{AllocError, Global};
+use std::io::{self, ErrorKind, Write};
+use std::test::Fail;
+
+/// A stream that takes so many bytes and no more, and whose flush may fail.
+#[derive(Drop)]
+struct Narrow {
+    taken: Vec<u8>,
+    most: usize,
+    stuck: bool,
+}
+
+impl Write for Narrow {
+    fn write(&mut self, buf: &[u8]) -> io::Result<usize> {
+        let count = buf.len().min(self.most.saturating_sub(self.taken.len()));
+        self.taken.extend_from_slice(&buf[..count])?;
+        Ok(count)
+    }
+
+    fn flush(&mut self) -> io::Result<()> {
+        if self.stuck {
+            return Err(io::Error::from(ErrorKind::BrokenPipe));
+        }
+        Ok(())
+    }
+}
+
+/// A run over streams. What it says of concrete ones isn't asked here.
+fn run_narrowly<S: Shelf, O: Write + Drop, E: Write + Drop, N: Links, C: Clock>(
+    alloc: Global,
+    words: &[String],
+    shelf: &mut S,
+    out: &mut StdSink<O>,
+    err: &mut StdSink<E>,
+    links: &mut N,
+    clock: &mut C,
+) -> u8 {
+    run_through(alloc, words, shelf, out, err, links, clock)
+}
+
+/// A run of the counter layer, or of another file, over a stream that takes so many bytes.
+fn streamed(alloc: Global, file: &[u8], most: usize, stuck: bool) -> Result<Left, AllocError> {
+    let words = words(alloc, &["replay", "f", "s", "--run", "layered"])?;
+    let script = b"group 1 stamp 7 members 3\n";
+    let files = vec![in alloc; named(alloc, "f", file)?, named(alloc, "s", script)?]?;
+    let mut shelf = MemShelf::of(files, Vec::new(alloc));
+    let output = Narrow {
+        taken: Vec::new(alloc),
+        most,
+        stuck,
+    };
+    let error = Narrow {
+        taken: Vec::new(alloc),
+        most: 100,
+        stuck: false,
+    };
+    let mut out = StdSink::of(alloc, output)?;
+    let mut err = StdSink::of(alloc, error)?;
+    let mut links = MemLinks::of(alloc, Vec::new(alloc), Vec::new(alloc), Vec::new(alloc));
+    let mut clock = MemClock::of(Vec::new(alloc));
+    let status = run_narrowly(
+        alloc, &words, &mut shelf, &mut out, &mut err, &mut links, &mut clock,
+    );
+    Ok(Left {
+        status,
+        out: out.stream().taken.clone()?,
+        err: err.stream().taken.clone()?,
+    })
+}
+
+#[test]
+fn hands_on_what_was_put(rt: HostRuntime) -> Result<(), Fail> {
+    let alloc = rt.alloc();
+    let cases: [(&[u8], usize, bool, u8, &[u8], &[u8]); 5] = [
+        (COUNTER, 100, false, 0, b"end 0\n", b""),
+        (COUNTER, 3, false, 5, b"end", b"write fault\n"),
+        (COUNTER, 100, true, 5, b"end 0\n", b"write fault\n"),
+        (b"$", 100, false, 1, b"", b"file: token 1:1\n"),
+        (b"$", 100, true, 1, b"", b"file: token 1:1\n"),
+    ];
+    for (file, most, stuck, status, out, err) in cases {
+        let left = streamed(alloc, file, most, stuck)?;
+        assert_eq!(rt; left.status, status);
+        assert_eq!(rt; left.out.as_slice(), out);
+        assert_eq!(rt; left.err.as_slice(), err);
+    }
+    Ok(())
+}
