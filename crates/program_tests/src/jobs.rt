@@ -1,19 +1,15 @@
 //! Words that are no job, and the jobs of one file.
 
-use crate::runs::{COUNTER, Left, ROWS, left_by, named, words};
+use crate::runs::{COUNTER, REPLAY, ROWS, left_by, named};
+use outside::MemShelf;
 use std::alloc::{AllocError, Global};
 use std::test::Fail;
 
-/// What the words left, where there are no files.
-fn fileless(alloc: Global, texts: &[&str]) -> Result<Left, AllocError> {
-    let words = words(alloc, texts)?;
-    left_by(
-        alloc,
-        &words,
-        Vec::new(alloc),
-        Vec::new(alloc),
-        Vec::new(alloc),
-    )
+/// Whether the words leave this and no output, where there are no files.
+fn refuses(alloc: Global, texts: &[&str], status: u8, err: &[u8]) -> Result<bool, AllocError> {
+    let mut shelf = MemShelf::of(Vec::new(alloc), Vec::new(alloc));
+    let left = left_by(alloc, texts, &mut shelf, Vec::new(alloc))?;
+    Ok(left.is(status, b"", err))
 }
 
 #[test]
@@ -30,27 +26,27 @@ fn refuses_other_words(rt: HostRuntime) -> Result<(), Fail> {
         &["audit", "f"],
     ];
     for texts in cases {
-        let left = fileless(alloc, texts)?;
-        assert_eq!(rt; left.status, 2);
-        assert_eq!(rt; left.out.as_slice(), b"".as_slice());
-        assert_eq!(rt; left.err.as_slice(), b"words: refused\n".as_slice());
+        assert!(rt; refuses(alloc, texts, 2, b"words: refused\n")?);
     }
-    let left = fileless(alloc, &["replay", "f", "s", "--run", "layered"])?;
-    assert_eq!(rt; left.status, 4);
-    assert_eq!(rt; left.err.as_slice(), b"read fault\n".as_slice());
+    assert!(rt; refuses(alloc, REPLAY, 4, b"read fault\n")?);
     Ok(())
 }
 
-/// What a job of one file left, with the puts that are to fail.
-fn judged(
+/// Whether a job of one file leaves this, with the puts that are to fail.
+fn leaves(
     alloc: Global,
     texts: &[&str],
     file: &[u8],
     puts: Vec<Option<u64>>,
-) -> Result<Left, AllocError> {
-    let words = words(alloc, texts)?;
-    let files = vec![in alloc; named(alloc, "f", file)?]?;
-    left_by(alloc, &words, files, Vec::new(alloc), puts)
+    status: u8,
+    out: &[u8],
+    err: &[u8],
+) -> Result<bool, AllocError> {
+    let mut files = Vec::new(alloc);
+    files.push(named(alloc, "f", file)?)?;
+    let mut shelf = MemShelf::of(files, Vec::new(alloc));
+    let left = left_by(alloc, texts, &mut shelf, puts)?;
+    Ok(left.is(status, out, err))
 }
 
 #[test]
@@ -65,11 +61,9 @@ fn counts_generated_scripts(rt: HostRuntime) -> Result<(), Fail> {
         "--raw",
         "--run=layered",
     ];
-    let left = judged(alloc, load, COUNTER, Vec::new(alloc))?;
-    assert_eq!(rt; left.status, 0);
     let counts =
         b"deliver 9 packet 8 timer 0 block 0 announce 0 view 0 out 0 refused 10 absent 6 end 40\nshort 0\n";
-    assert_eq!(rt; left.out.as_slice(), counts.as_slice());
+    assert!(rt; leaves(alloc, load, COUNTER, Vec::new(alloc), 0, counts, b"")?);
     let load: &[&str] = &[
         "load",
         "f",
@@ -78,9 +72,17 @@ fn counts_generated_scripts(rt: HostRuntime) -> Result<(), Fail> {
         "--members=32",
         "--run=layered",
     ];
-    let left = judged(alloc, load, ROWS, Vec::new(alloc))?;
-    assert_eq!(rt; left.status, 3);
-    assert_eq!(rt; left.err.as_slice(), b"script: rows\n".as_slice());
+    assert!(rt;
+        leaves(
+            alloc,
+            load,
+            ROWS,
+            Vec::new(alloc),
+            3,
+            b"",
+            b"script: rows\n"
+        )?
+    );
     Ok(())
 }
 
@@ -106,14 +108,9 @@ fn audits_reports(rt: HostRuntime) -> Result<(), Fail> {
         ),
     ];
     for (texts, file, status, out, err) in cases {
-        let left = judged(alloc, texts, file, Vec::new(alloc))?;
-        assert_eq!(rt; left.status, status);
-        assert_eq!(rt; left.out.as_slice(), out);
-        assert_eq!(rt; left.err.as_slice(), err);
+        assert!(rt; leaves(alloc, texts, file, Vec::new(alloc), status, out, err)?);
     }
-    let left = judged(alloc, total, CROSSED, vec![in alloc; Some(6)]?)?;
-    assert_eq!(rt; left.status, 5);
-    assert_eq!(rt; left.out.as_slice(), b"breach".as_slice());
-    assert_eq!(rt; left.err.as_slice(), b"write fault\n".as_slice());
+    let puts = vec![in alloc; Some(6)]?;
+    assert!(rt; leaves(alloc, total, CROSSED, puts, 5, b"breach", b"write fault\n")?);
     Ok(())
 }

@@ -1,7 +1,7 @@
 //! A node whose members are all of a plan's group, over a network in memory: its lines are told by hand from the definitions.
 
-use crate::runs::{COUNTER, Left, named, run_over, words};
-use outside::{MemClock, MemLinks, MemShelf, MemSink};
+use crate::runs::{COUNTER, Left, left_over, pair, words};
+use outside::{MemClock, MemLinks, MemShelf};
 use std::alloc::{AllocError, Global};
 use std::test::Fail;
 
@@ -18,34 +18,34 @@ const SERVED: &[u8] =
 const BORNE: &[u8] =
     b"> tick 0 5\n> tick 1 5\n> tick 2 5\ndeaf 1\n> cast 0 6869\npacket 1 0 all cnt.num(0) 6869\n> tick 0 6\n> tick 1 6\n> tick 2 6\n> raw 1 e50000000100000007000000000000000700ff01000000006869\ndeliver 1 cast 0 6869\n> raw 2 e50000000100000007000000000000000700ff01000000006869\ndeliver 2 cast 0 6869\n> cast 2 7a\npacket 2 2 all cnt.num(0) 7a\nend 10\n";
 
-/// Two turns of the counter layer, in which the third listen fails or not, and the second receive.
+/// Links of which the third listen fails or not, and the second receive.
+fn failing(alloc: Global, listen: bool, receive: bool) -> Result<MemLinks, AllocError> {
+    let listens = vec![in alloc; false, false, listen]?;
+    let receives = vec![in alloc; false, receive]?;
+    Ok(MemLinks::of(alloc, Vec::new(alloc), listens, receives))
+}
+
+/// Two turns of the counter layer over links.
 fn served(
     alloc: Global,
     me: &str,
     patience: &str,
-    listen_fails: bool,
-    receive_fails: bool,
+    links: &mut MemLinks,
 ) -> Result<Left, AllocError> {
     let words = words(
         alloc,
         &["node", "f", "p", "--turns=2", me, "--run=layered", patience],
     )?;
-    let files = vec![in alloc; named(alloc, "f", COUNTER)?, named(alloc, "p", PLAN)?]?;
-    let listens = vec![in alloc; false, false, listen_fails]?;
-    let receives = vec![in alloc; false, receive_fails]?;
-    let mut shelf = MemShelf::of(files, Vec::new(alloc));
-    let mut out = MemSink::of(alloc, Vec::new(alloc));
-    let mut err = MemSink::of(alloc, Vec::new(alloc));
-    let mut links = MemLinks::of(alloc, Vec::new(alloc), listens, receives);
+    let mut shelf = MemShelf::of(pair(alloc, COUNTER, "p", PLAN)?, Vec::new(alloc));
     let mut clock = MemClock::of(vec![in alloc; 5, 6]?);
-    let status = run_over(
-        alloc, &words, &mut shelf, &mut out, &mut err, &mut links, &mut clock,
-    );
-    Ok(Left {
-        status,
-        out: Vec::from_slice(alloc, out.contents())?,
-        err: Vec::from_slice(alloc, err.contents())?,
-    })
+    left_over(
+        alloc,
+        &words,
+        &mut shelf,
+        Vec::new(alloc),
+        links,
+        &mut clock,
+    )
 }
 
 #[test]
@@ -68,10 +68,8 @@ fn serves_and_bears(rt: HostRuntime) -> Result<(), Fail> {
         ),
     ];
     for (me, patience, listen_fails, receive_fails, status, out, err) in cases {
-        let left = served(alloc, me, patience, listen_fails, receive_fails)?;
-        assert_eq!(rt; left.status, status);
-        assert_eq!(rt; left.out.as_slice(), out);
-        assert_eq!(rt; left.err.as_slice(), err);
+        let mut links = failing(alloc, listen_fails, receive_fails)?;
+        assert!(rt; served(alloc, me, patience, &mut links)?.is(status, out, err));
     }
     Ok(())
 }

@@ -1,20 +1,13 @@
 //! Replays of scripts over stack files.
 
-use crate::runs::{COUNTER, Left, ROWS, left_by, named, replayed, words};
+use crate::runs::{COUNTER, FIRST, REPLAY, ROWS, leaves, left_by, pair};
+use outside::MemShelf;
 use std::alloc::{AllocError, Global};
 use std::test::Fail;
 
 /// A layer with a queue of one row.
 const QUEUE: &[u8] =
     b"layer one {\n  state int s = 4294967295;\n  state queue q[1] of (x: int);\n  header num(v) passes;\n  header full() ends;\n  down Cast(p, m) {\n    push q (s) else { down Cast(p, nothing) with full(); }\n    set s = (s + 1);\n    down Cast(p, m) with num(s);\n  }\n}\nstack { one; }\n";
-
-/// The first line of a script.
-const FIRST: &[u8] = b"group 1 stamp 7 members 3\n";
-
-/// A replay on which no read and no put fails.
-fn replays(alloc: Global, file: &[u8], script: &[u8]) -> Result<Left, AllocError> {
-    replayed(alloc, file, script, Vec::new(alloc), Vec::new(alloc))
-}
 
 #[test]
 fn reports(rt: HostRuntime) -> Result<(), Fail> {
@@ -43,10 +36,7 @@ fn reports(rt: HostRuntime) -> Result<(), Fail> {
         ),
     ];
     for (file, script, out) in cases {
-        let left = replays(alloc, file, script)?;
-        assert_eq!(rt; left.status, 0);
-        assert_eq!(rt; left.out.as_slice(), out);
-        assert_eq!(rt; left.err.as_slice(), b"".as_slice());
+        assert!(rt; leaves(alloc, REPLAY, file, script, 0, out, b"")?);
     }
     Ok(())
 }
@@ -54,34 +44,37 @@ fn reports(rt: HostRuntime) -> Result<(), Fail> {
 #[test]
 fn refuses(rt: HostRuntime) -> Result<(), Fail> {
     let alloc = rt.alloc();
-    let empty = replays(alloc, b"", b"")?;
-    assert_eq!(rt; empty.status, 1);
-    assert_eq!(rt; empty.out.as_slice(), b"".as_slice());
-    assert_eq!(rt; empty.err.as_slice(), b"file: unexpected 1:1\n".as_slice());
-    let rows = replays(alloc, ROWS, b"group 1 stamp 7 members 32\n")?;
-    assert_eq!(rt; rows.status, 3);
-    assert_eq!(rt; rows.out.as_slice(), b"".as_slice());
-    assert_eq!(rt; rows.err.as_slice(), b"script: rows\n".as_slice());
+    assert!(rt; leaves(alloc, REPLAY, b"", b"", 1, b"", b"file: unexpected 1:1\n")?);
+    let many = b"group 1 stamp 7 members 32\n";
+    assert!(rt; leaves(alloc, REPLAY, ROWS, many, 3, b"", b"script: rows\n")?);
     Ok(())
+}
+
+const SCRIPT: &[u8] = b"group 1 stamp 7 members 3\ncast 0 6869\ngive 1 1\n";
+
+/// Whether a replay of SCRIPT leaves this, with the reads and the puts that are to fail.
+fn fails(
+    alloc: Global,
+    reads: Vec<bool>,
+    puts: Vec<Option<u64>>,
+    status: u8,
+    out: &[u8],
+    err: &[u8],
+) -> Result<bool, AllocError> {
+    let mut shelf = MemShelf::of(pair(alloc, COUNTER, "s", SCRIPT)?, reads);
+    let left = left_by(alloc, REPLAY, &mut shelf, puts)?;
+    Ok(left.is(status, out, err))
 }
 
 #[test]
 fn says_what_failed(rt: HostRuntime) -> Result<(), Fail> {
     let alloc = rt.alloc();
-    let script = b"group 1 stamp 7 members 3\ncast 0 6869\ngive 1 1\n";
     let puts = vec![in alloc; None, None, Some(0)]?;
-    let third = replayed(alloc, COUNTER, script, Vec::new(alloc), puts)?;
-    assert_eq!(rt; third.status, 5);
-    assert_eq!(rt;
-        third.out.as_slice(),
-        b"packet 1 0 all cnt.num(0) 6869\ndeliver 1 cast 0 6869\n".as_slice()
-    );
-    assert_eq!(rt; third.err.as_slice(), b"write fault\n".as_slice());
-    for reads in [vec![in alloc; true]?, vec![in alloc; false, true]?] {
-        let left = replayed(alloc, COUNTER, script, reads, Vec::new(alloc))?;
-        assert_eq!(rt; left.status, 4);
-        assert_eq!(rt; left.out.as_slice(), b"".as_slice());
-        assert_eq!(rt; left.err.as_slice(), b"read fault\n".as_slice());
+    let lines = b"packet 1 0 all cnt.num(0) 6869\ndeliver 1 cast 0 6869\n";
+    assert!(rt; fails(alloc, Vec::new(alloc), puts, 5, lines, b"write fault\n")?);
+    for second in [false, true] {
+        let reads = vec![in alloc; !second, second]?;
+        assert!(rt; fails(alloc, reads, Vec::new(alloc), 4, b"", b"read fault\n")?);
     }
     Ok(())
 }
@@ -91,41 +84,55 @@ fn filled(alloc: Global, byte: u8, count: usize) -> Result<Vec<u8>, AllocError> 
     vec![in alloc; byte; count]
 }
 
+fn refuses_spaces(alloc: Global, count: usize) -> Result<bool, AllocError> {
+    let file = filled(alloc, b' ', count)?;
+    leaves(alloc, REPLAY, &file, FIRST, 1, b"", b"file: too large\n")
+}
+
+fn refuses_lines(alloc: Global, count: usize) -> Result<bool, AllocError> {
+    let script = filled(alloc, b'\n', count)?;
+    leaves(
+        alloc,
+        REPLAY,
+        COUNTER,
+        &script,
+        3,
+        b"",
+        b"script: too long\n",
+    )
+}
+
+/// Whether a cast of so many bytes is refused by the member.
+fn refuses_body(alloc: Global, count: usize) -> Result<bool, AllocError> {
+    let mut script = Vec::from_slice(alloc, b"group 1 stamp 7 members 3\ncast 0 ")?;
+    script.extend_from_slice(&filled(alloc, b'6', count.saturating_mul(2))?)?;
+    leaves(
+        alloc,
+        REPLAY,
+        COUNTER,
+        &script,
+        0,
+        b"refused 0 big\nend 1\n",
+        b"",
+    )
+}
+
 #[test]
 fn refuses_what_is_too_large(rt: HostRuntime) -> Result<(), Fail> {
     let alloc = rt.alloc();
-    let large = filled(alloc, b' ', 1_048_577)?;
-    let left = replays(alloc, &large, FIRST)?;
-    assert_eq!(rt; left.status, 1);
-    assert_eq!(rt; left.err.as_slice(), b"file: too large\n".as_slice());
-    for count in [4_194_305, 100_001] {
-        let script = filled(alloc, b'\n', count)?;
-        let left = replays(alloc, COUNTER, &script)?;
-        assert_eq!(rt; left.status, 3);
-        assert_eq!(rt; left.out.as_slice(), b"".as_slice());
-        assert_eq!(rt; left.err.as_slice(), b"script: too long\n".as_slice());
-    }
-    let mut script = Vec::from_slice(alloc, b"group 1 stamp 7 members 3\ncast 0 ")?;
-    script.extend_from_slice(&filled(alloc, b'6', 2 * 8193)?)?;
-    let left = replays(alloc, COUNTER, &script)?;
-    assert_eq!(rt; left.status, 0);
-    assert_eq!(rt; left.out.as_slice(), b"refused 0 big\nend 1\n".as_slice());
+    assert!(rt; refuses_spaces(alloc, 1_048_577)?);
+    assert!(rt; refuses_lines(alloc, 4_194_305)?);
+    assert!(rt; refuses_lines(alloc, 100_001)?);
+    assert!(rt; refuses_body(alloc, 8193)?);
     Ok(())
 }
 
 #[test]
 fn adds_what_is_wanted(rt: HostRuntime) -> Result<(), Fail> {
     let alloc = rt.alloc();
-    let words = words(
-        alloc,
-        &["replay", "f", "s", "--run=layered", "--wire", "--count"],
-    )?;
-    let script = b"group 1 stamp 7 members 3\ncast 0 6869\ngive 1 1\n";
-    let files = vec![in alloc; named(alloc, "f", COUNTER)?, named(alloc, "s", script)?]?;
-    let left = left_by(alloc, &words, files, Vec::new(alloc), Vec::new(alloc))?;
-    assert_eq!(rt; left.status, 0);
+    let texts: &[&str] = &["replay", "f", "s", "--run=layered", "--wire", "--count"];
     let report =
         b"packet 1 0 all cnt.num(0) 6869\nwire 1 e50000000100000007000000000000000700ff01000000006869\ndeliver 1 cast 0 6869\nend 2\nvisits 2\n";
-    assert_eq!(rt; left.out.as_slice(), report.as_slice());
+    assert!(rt; leaves(alloc, texts, COUNTER, SCRIPT, 0, report, b"")?);
     Ok(())
 }

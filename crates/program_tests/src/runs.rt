@@ -4,6 +4,12 @@ use outside::{Clock, Links, MemClock, MemLinks, MemShelf, MemSink, NamedFile, Sh
 use stackc_run::run;
 use std::alloc::{AllocError, Global};
 
+/// The words of a replay.
+pub(crate) const REPLAY: &[&str] = &["replay", "f", "s", "--run", "layered"];
+
+/// The first line of a script.
+pub(crate) const FIRST: &[u8] = b"group 1 stamp 7 members 3\n";
+
 pub(crate) const COUNTER: &[u8] =
     b"layer cnt {\n  state int k;\n  state int e[n];\n  header num(seq) passes;\n  down Cast(p, m) {\n    down Cast(p, m) with num(k);\n    set k = (k + 1);\n  }\n  up Cast(o, m) with num(seq) common (seq == e[o]) {\n    set e[o] = (seq + 1);\n    up Cast(o, m);\n  }\n}\nstack { cnt; }\n";
 
@@ -19,8 +25,15 @@ pub(crate) struct Left {
     pub err: Vec<u8>,
 }
 
+impl Left {
+    /// Whether a run left this.
+    pub(crate) fn is(&self, status: u8, out: &[u8], err: &[u8]) -> bool {
+        self.status == status && self.out.as_slice() == out && self.err.as_slice() == err
+    }
+}
+
 /// A run. What it says of concrete files, sinks and links isn't asked here, and would cost each test much.
-pub(crate) fn run_over<S: Shelf, O: Sink, E: Sink, N: Links, C: Clock>(
+fn run_over<S: Shelf, O: Sink, E: Sink, N: Links, C: Clock>(
     alloc: Global,
     words: &[String],
     shelf: &mut S,
@@ -30,6 +43,43 @@ pub(crate) fn run_over<S: Shelf, O: Sink, E: Sink, N: Links, C: Clock>(
     clock: &mut C,
 ) -> u8 {
     run(alloc, words, shelf, out, err, links, clock)
+}
+
+/// What a run over files, links and a clock left, with the puts that are to fail.
+pub(crate) fn left_over(
+    alloc: Global,
+    words: &[String],
+    shelf: &mut MemShelf,
+    puts: Vec<Option<u64>>,
+    links: &mut MemLinks,
+    clock: &mut MemClock,
+) -> Result<Left, AllocError> {
+    let mut out = MemSink::of(alloc, puts);
+    let mut err = MemSink::of(alloc, Vec::new(alloc));
+    let status = run_over(alloc, words, shelf, &mut out, &mut err, links, clock);
+    Ok(Left {
+        status,
+        out: Vec::from_slice(alloc, out.contents())?,
+        err: Vec::from_slice(alloc, err.contents())?,
+    })
+}
+
+/// Links to nobody.
+pub(crate) fn no_links(alloc: Global) -> MemLinks {
+    MemLinks::of(alloc, Vec::new(alloc), Vec::new(alloc), Vec::new(alloc))
+}
+
+/// What a job over files left, with the puts that are to fail.
+pub(crate) fn left_by(
+    alloc: Global,
+    texts: &[&str],
+    shelf: &mut MemShelf,
+    puts: Vec<Option<u64>>,
+) -> Result<Left, AllocError> {
+    let words = words(alloc, texts)?;
+    let mut links = no_links(alloc);
+    let mut clock = MemClock::of(Vec::new(alloc));
+    left_over(alloc, &words, shelf, puts, &mut links, &mut clock)
 }
 
 pub(crate) fn words(alloc: Global, texts: &[&str]) -> Result<Vec<String>, AllocError> {
@@ -47,38 +97,30 @@ pub(crate) fn named(alloc: Global, name: &str, bytes: &[u8]) -> Result<NamedFile
     })
 }
 
-/// What a job left, with the reads and the puts that are to fail, a network in which nobody listens, and a clock that stands at 0.
-pub(crate) fn left_by(
-    alloc: Global,
-    words: &[String],
-    files: Vec<NamedFile>,
-    reads: Vec<bool>,
-    puts: Vec<Option<u64>>,
-) -> Result<Left, AllocError> {
-    let mut shelf = MemShelf::of(files, reads);
-    let mut out = MemSink::of(alloc, puts);
-    let mut err = MemSink::of(alloc, Vec::new(alloc));
-    let mut links = MemLinks::of(alloc, Vec::new(alloc), Vec::new(alloc), Vec::new(alloc));
-    let mut clock = MemClock::of(Vec::new(alloc));
-    let status = run_over(
-        alloc, words, &mut shelf, &mut out, &mut err, &mut links, &mut clock,
-    );
-    Ok(Left {
-        status,
-        out: Vec::from_slice(alloc, out.contents())?,
-        err: Vec::from_slice(alloc, err.contents())?,
-    })
-}
-
-/// What a replay of a script over a stack file left, with the reads and the puts that are to fail.
-pub(crate) fn replayed(
+/// A stack file, and a second file by its name.
+pub(crate) fn pair(
     alloc: Global,
     file: &[u8],
+    name: &str,
+    second: &[u8],
+) -> Result<Vec<NamedFile>, AllocError> {
+    let mut files = Vec::new(alloc);
+    files.push(named(alloc, "f", file)?)?;
+    files.push(named(alloc, name, second)?)?;
+    Ok(files)
+}
+
+/// Whether a replay of a script over a stack file leaves this.
+pub(crate) fn leaves(
+    alloc: Global,
+    texts: &[&str],
+    file: &[u8],
     script: &[u8],
-    reads: Vec<bool>,
-    puts: Vec<Option<u64>>,
-) -> Result<Left, AllocError> {
-    let words = words(alloc, &["replay", "f", "s", "--run", "layered"])?;
-    let files = vec![in alloc; named(alloc, "f", file)?, named(alloc, "s", script)?]?;
-    left_by(alloc, &words, files, reads, puts)
+    status: u8,
+    out: &[u8],
+    err: &[u8],
+) -> Result<bool, AllocError> {
+    let mut shelf = MemShelf::of(pair(alloc, file, "s", script)?, Vec::new(alloc));
+    let left = left_by(alloc, texts, &mut shelf, Vec::new(alloc))?;
+    Ok(left.is(status, out, err))
 }

@@ -1,7 +1,7 @@
 //! Runs over streams that lack something.
 
-use crate::runs::{COUNTER, Left, named, words};
-use outside::{Clock, Links, MemClock, MemLinks, MemShelf, Shelf, StdSink};
+use crate::runs::{COUNTER, FIRST, Left, REPLAY, no_links, pair, words};
+use outside::{Clock, Links, MemClock, MemShelf, Shelf, StdSink};
 use stackc_run::run_through;
 use std::alloc::{AllocError, Global};
 use std::io::{self, ErrorKind, Write};
@@ -43,34 +43,40 @@ fn run_narrowly<S: Shelf, O: Write + Drop, E: Write + Drop, N: Links, C: Clock>(
     run_through(alloc, words, shelf, out, err, links, clock)
 }
 
-/// A run of the counter layer, or of another file, over a stream that takes so many bytes.
-fn streamed(alloc: Global, file: &[u8], most: usize, stuck: bool) -> Result<Left, AllocError> {
-    let words = words(alloc, &["replay", "f", "s", "--run", "layered"])?;
-    let script = b"group 1 stamp 7 members 3\n";
-    let files = vec![in alloc; named(alloc, "f", file)?, named(alloc, "s", script)?]?;
-    let mut shelf = MemShelf::of(files, Vec::new(alloc));
-    let output = Narrow {
+/// A sink over a stream that takes so many bytes, and whose flush may fail.
+fn sink_of(alloc: Global, most: usize, stuck: bool) -> Result<StdSink<Narrow>, AllocError> {
+    let stream = Narrow {
         taken: Vec::new(alloc),
         most,
         stuck,
     };
-    let error = Narrow {
-        taken: Vec::new(alloc),
-        most: 100,
-        stuck: false,
-    };
-    let mut out = StdSink::of(alloc, output)?;
-    let mut err = StdSink::of(alloc, error)?;
-    let mut links = MemLinks::of(alloc, Vec::new(alloc), Vec::new(alloc), Vec::new(alloc));
+    StdSink::of(alloc, stream)
+}
+
+/// What a replay left on its streams.
+fn left_through(
+    alloc: Global,
+    shelf: &mut MemShelf,
+    out: &mut StdSink<Narrow>,
+    err: &mut StdSink<Narrow>,
+) -> Result<Left, AllocError> {
+    let words = words(alloc, REPLAY)?;
+    let mut links = no_links(alloc);
     let mut clock = MemClock::of(Vec::new(alloc));
-    let status = run_narrowly(
-        alloc, &words, &mut shelf, &mut out, &mut err, &mut links, &mut clock,
-    );
+    let status = run_narrowly(alloc, &words, shelf, out, err, &mut links, &mut clock);
     Ok(Left {
         status,
         out: out.stream().taken.clone()?,
         err: err.stream().taken.clone()?,
     })
+}
+
+/// A run of the counter layer, or of another file, over a stream that takes so many bytes.
+fn streamed(alloc: Global, file: &[u8], most: usize, stuck: bool) -> Result<Left, AllocError> {
+    let mut shelf = MemShelf::of(pair(alloc, file, "s", FIRST)?, Vec::new(alloc));
+    let mut out = sink_of(alloc, most, stuck)?;
+    let mut err = sink_of(alloc, 100, false)?;
+    left_through(alloc, &mut shelf, &mut out, &mut err)
 }
 
 #[test]
@@ -84,10 +90,7 @@ fn hands_on_what_was_put(rt: HostRuntime) -> Result<(), Fail> {
         (b"$", 100, true, 1, b"", b"file: token 1:1\n"),
     ];
     for (file, most, stuck, status, out, err) in cases {
-        let left = streamed(alloc, file, most, stuck)?;
-        assert_eq!(rt; left.status, status);
-        assert_eq!(rt; left.out.as_slice(), out);
-        assert_eq!(rt; left.err.as_slice(), err);
+        assert!(rt; streamed(alloc, file, most, stuck)?.is(status, out, err));
     }
     Ok(())
 }

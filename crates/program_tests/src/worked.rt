@@ -1,7 +1,6 @@
 //! Worked cases of whole replays: what is written was told by an independent reading of the rules.
 
-use crate::runs::{COUNTER, Left, left_by, named, words};
-use std::alloc::{AllocError, Global};
+use crate::runs::{COUNTER, REPLAY, leaves};
 use std::test::Fail;
 
 /// A layer that branches on a cell that it has just written.
@@ -16,47 +15,41 @@ const ONE: &[u8] =
 const BIG: &[u8] =
     b"layer big { state queue q0[n][64] of (m: msg); state queue q1[n][64] of (m: msg); state queue q2[n][64] of (m: msg); state queue q3[n][64] of (m: msg); state queue q4[n][64] of (m: msg); } stack { big; }";
 
-/// What a replay of a script over a stack file left, where its packets' bytes are wanted or not, and the number of visits.
-fn shown(
-    alloc: Global,
-    file: &[u8],
-    script: &[u8],
-    wire: bool,
-    count: bool,
-) -> Result<Left, AllocError> {
-    let mut words = words(alloc, &["replay", "f", "s", "--run", "layered"])?;
-    if wire {
-        words.push(String::from_str(alloc, "--wire")?)?;
-    }
-    if count {
-        words.push(String::from_str(alloc, "--count")?)?;
-    }
-    let files = vec![in alloc; named(alloc, "f", file)?, named(alloc, "s", script)?]?;
-    left_by(alloc, &words, files, Vec::new(alloc), Vec::new(alloc))
-}
+const COUNTED: &[&str] = &["replay", "f", "s", "--run", "layered", "--count"];
+
+const WIRED: &[&str] = &["replay", "f", "s", "--run", "layered", "--wire", "--count"];
 
 #[test]
-fn replays_stacks(rt: HostRuntime) -> Result<(), Fail> {
+fn replays_library_layers(rt: HostRuntime) -> Result<(), Fail> {
     let alloc = rt.alloc();
-    let cases: [(&[u8], &[u8], bool, bool, &[u8]); 4] = [
+    let cases: [(&[u8], &[u8], bool, &[u8]); 2] = [
         (
             b"stack { bottom; local; total; }",
             b"group 1 stamp 1 members 2\ncast 0 61\ncast 1 62\ngive 2 0\n",
             false,
-            true,
             b"packet 1 0 all bottom.net(1)/local.none()/total.num(0,0) 61\ndeliver 0 cast 0 61\npacket 2 1 0 bottom.net(1)/local.none()/total.ask() 62\npacket 3 0 all bottom.net(1)/local.none()/total.num(1,1) 62\ndeliver 0 cast 1 62\nend 3\nvisits 13\n",
         ),
         (
             b"stack { bottom; mnak; local; total; }",
             b"group 1 stamp 1 members 2\ncast 0 61\nstate 0\n",
             true,
-            true,
             b"deliver 0 cast 0 61\npacket 1 0 all bottom.net(1)/mnak.num(0)/local.none()/total.num(0,0) 61\nwire 1 e50000000100000001000000000000000300ff010000000101000000000001000000000000000061\nstate 0 0 3\ncell 0 1 mnak.out 1\ncell 0 1 mnak.base 0\ncell 0 1 mnak.told 0\ncell 0 1 mnak.next 0 0\ncell 0 1 mnak.kept [local.none()/total.num(0,0):61]\ncell 0 1 mnak.early[0] -\ncell 0 1 mnak.early[1] -\ncell 0 3 total.out 1\ncell 0 3 total.next 1\nend 2\nvisits 5\n",
         ),
+    ];
+    for (file, script, wire, out) in cases {
+        let texts = if wire { WIRED } else { COUNTED };
+        assert!(rt; leaves(alloc, texts, file, script, 0, out, b"")?);
+    }
+    Ok(())
+}
+
+#[test]
+fn replays_layers_of_files(rt: HostRuntime) -> Result<(), Fail> {
+    let alloc = rt.alloc();
+    let cases: [(&[u8], &[u8], bool, &[u8]); 2] = [
         (
             ALIAS,
             b"group 1 stamp 1 members 2\ncast 0 -\ncast 0 -\ncast 0 -\nstate 0\n",
-            false,
             true,
             b"packet 1 0 all alias.b() -\npacket 2 0 all alias.a() -\npacket 3 0 all alias.a() -\nstate 0 0 3\ncell 0 0 alias.k 4\ncell 0 0 alias.e 5 5\nend 4\nvisits 3\n",
         ),
@@ -64,15 +57,12 @@ fn replays_stacks(rt: HostRuntime) -> Result<(), Fail> {
             ONE,
             b"group 1 stamp 1 members 1\ncast 0 61\ncast 0 62\nstate 0\n",
             false,
-            false,
             b"packet 1 0 all one.num(0) 61\npacket 2 0 all one.full() -\npacket 3 0 all one.num(1) 62\nstate 0 0 1\ncell 0 0 one.s 1\ncell 0 0 one.q [4294967295]\nend 3\n",
         ),
     ];
-    for (file, script, wire, count, out) in cases {
-        let left = shown(alloc, file, script, wire, count)?;
-        assert_eq!(rt; left.status, 0);
-        assert_eq!(rt; left.out.as_slice(), out);
-        assert_eq!(rt; left.err.as_slice(), b"".as_slice());
+    for (file, script, count, out) in cases {
+        let texts = if count { COUNTED } else { REPLAY };
+        assert!(rt; leaves(alloc, texts, file, script, 0, out, b"")?);
     }
     Ok(())
 }
@@ -101,10 +91,7 @@ fn refuses_files(rt: HostRuntime) -> Result<(), Fail> {
         (b"$", b"file: token 1:1\n"),
     ];
     for (file, err) in cases {
-        let left = shown(alloc, file, b"x", false, false)?;
-        assert_eq!(rt; left.status, 1);
-        assert_eq!(rt; left.out.as_slice(), b"".as_slice());
-        assert_eq!(rt; left.err.as_slice(), err);
+        assert!(rt; leaves(alloc, REPLAY, file, b"x", 1, b"", err)?);
     }
     Ok(())
 }
@@ -127,10 +114,7 @@ fn refuses_scripts(rt: HostRuntime) -> Result<(), Fail> {
         (COUNTER, b"", b"script: line 1\n"),
     ];
     for (file, script, err) in cases {
-        let left = shown(alloc, file, script, false, false)?;
-        assert_eq!(rt; left.status, 3);
-        assert_eq!(rt; left.out.as_slice(), b"".as_slice());
-        assert_eq!(rt; left.err.as_slice(), err);
+        assert!(rt; leaves(alloc, REPLAY, file, script, 3, b"", err)?);
     }
     Ok(())
 }
