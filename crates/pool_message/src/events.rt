@@ -4,11 +4,13 @@ ghost use Rattle.std.specs.Prelude.{◌≡◌, ◌<◌, ◌≤◌, [], ◌∷◌
 ghost use Rattle.circular_buffer.specs.Buffer.{buffer};
 ghost use Rattle.slot_pool.specs.References.{Covers};
 ghost use Rattle.pool_message.specs.Moves.{Returned};
-ghost use Rattle.pool_message.specs.Sent.{sent_refs, most_events};
+ghost use Rattle.pool_message.specs.Sent.{sent_refs, most_events, first_sent, message_passed, event_passed, CanPass};
 
 use crate::event::PoolEvent;
+use crate::message::PoolMessage;
 use circular_buffer::HeapCircularBuffer;
 use layer_ast::Dir;
+use msg_core::Header;
 use slot_pool::{Memory, Pool};
 use std::alloc::Global;
 use std::marker::Model;
@@ -82,6 +84,44 @@ impl Events {
         self.ring.pop_front()
     }
 
+    /// The first one, if there is one.
+    pub fn first(&self) -> Option<(Dir, &PoolEvent)>
+        ensures { option_map (λ e. (e.0, e.1.now)) result ≡ slice_get self.now.items 0 }
+    {
+        match self.ring.front() {
+            Some((direction, event)) => Some((*direction, event)),
+            None => None,
+        }
+    }
+
+    /// The first one passes a layer and becomes the last: its message, if it has one, gets this header in front where it goes down, and loses
+    /// its first one where it goes up. Where it is the only one, nothing is moved.
+    pub fn pass(&mut self, header: Header)
+        requires some { 0 < length self.old.items }
+        requires room { CanPass (first_sent self.old.items).0 (first_sent self.old.items).1.message }
+        ensures { self.new ≡ buffer (drop 1 self.old.items ++ event_passed header (first_sent self.old.items) ∷ []) self.old.capacity }
+    {
+        let Some(sent) = self.ring.get_mut(0) else {
+            unreachable!();
+        };
+        pass_event(sent, header);
+        self.go_round();
+    }
+
+    /// The first one becomes the last.
+    fn go_round(&mut self)
+        requires { 0 < length self.old.items }
+        ensures { self.new ≡ buffer (drop 1 self.old.items ++ first_sent self.old.items ∷ []) self.old.capacity }
+    {
+        if self.ring.len() == 1 {
+            return;
+        }
+        let Some((direction, event)) = self.ring.pop_front() else {
+            unreachable!();
+        };
+        self.push(direction, event);
+    }
+
     /// The direction of event number `k`, which is one of those that there are.
     pub fn direction(&self, k: usize) -> Dir
         requires { k < length self.now.items }
@@ -110,5 +150,28 @@ impl Events {
     {
         let Events { ring } = self;
         ring.destroy_empty();
+    }
+}
+
+/// An event passes a layer, with its message.
+fn pass_event(sent: &mut (Dir, PoolEvent), header: Header)
+    requires { CanPass sent.old.0 sent.old.1.message }
+    ensures { sent.new ≡ event_passed header sent.old }
+{
+    pass_message(sent.0, header, &mut sent.1.message);
+}
+
+/// A message passes a layer, if there is one.
+fn pass_message(direction: Dir, header: Header, message: &mut Option<PoolMessage>)
+    requires { CanPass direction message.old }
+    ensures { message.new ≡ option_map (message_passed direction header) message.old }
+{
+    if let Some(message) = message {
+        match direction {
+            Dir::Up => {
+                let _popped = message.pop_header();
+            }
+            Dir::Down => message.push_header(header),
+        }
     }
 }
