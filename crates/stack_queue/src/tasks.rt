@@ -116,12 +116,7 @@ impl Tasks {
     }
 
     /// A layer takes the event of the first task, which stands at a place, and what it sends becomes tasks behind the others.
-    pub(crate) fn visit<S: Stage>(
-        &mut self,
-        at: u16,
-        stage: &mut S,
-        pool: &mut Pool,
-    ) -> Predicted
+    pub(crate) fn visit<S: Stage>(&mut self, at: u16, stage: &mut S, pool: &mut Pool) -> Predicted
         requires some { 0 < length self.old.items }
         requires at { (first_task self.old.items).at ≡ at }
         requires place { (1 ≤ at) × (at ≤ 255) }

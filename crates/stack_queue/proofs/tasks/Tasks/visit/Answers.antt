@@ -1,4 +1,4 @@
-use Rattle.std.proofs.Common.{◌++◌, ◌+◌, ◌≤◌, drop, length, sym, ap, subst, ◌∙◌, arith}
+use Rattle.std.proofs.Common.{◌++◌, drop, length, sym, ap, subst, ◌∙◌, arith}
 use Rattle.circular_buffer.specs.Buffer.{Buffer}
 use Rattle.slot_pool.specs.References.{Moved, Covers}
 use Rattle.layer_ast.specs.declared.tokens.Dir.{Dir}
@@ -46,7 +46,10 @@ invariant_of-self g c =
           ∙ placed_all c.args.at (drop 1 c.self.inside.places.items) c.take-decided.new.events.items (omega (
             arith,
             same,
-            more_now c.args.pool.now c.take-decided.new.pool (drop 1 c.self.inside.events.items) c.take-decided.new.events.items _ c.take-decided.ensures.sent,
+            more_now c.args.pool.now c.take-decided.new.pool (drop 1 c.self.inside.events.items) c.take-decided.new.events.items
+                (step (g.S.Stage.place c.args.stage.now) (g.S.Stage.layer c.args.stage.now) (g.S.Stage.state c.args.pool.now c.args.stage.now)
+                (first_sent c.self.inside.events.items).0 (event_seen c.args.pool.now (first_sent c.self.inside.events.items).1)).sent
+                c.take-decided.ensures.sent,
           )),
       ap (λ b. b.capacity) c.go_on.ensures ∙ ap (λ b. b.capacity) c.pop_front.ensures.items ∙ c.self.invariant.1 ∙ sym c.take-decided.ensures.capacity,
     )
