@@ -1,6 +1,7 @@
 -- Tasks whose events stand in one list, and their places in another.
 use Rattle.std.proofs.Common.{◌≡◌, ℕ, suc, ◌≤◌, List, [], ◌∷◌, ◌++◌, drop, length, Option, Some, None, IfSome, IfNone, get_or, slice_get, option_map, refl, sym, ap, subst, ◌∙◌, arith}
 use Rattle.std.proofs.lemmas.List.{length-append, length-map}
+use Rattle.circular_buffer.specs.Buffer.{Buffer, buffer}
 use Rattle.slot_pool.specs.Held.{Held}
 use Rattle.layer_ast.specs.declared.tokens.Dir.{Dir}
 use Rattle.layer_mean.specs.declared.run.Event.{Event}
@@ -41,7 +42,8 @@ no_first (at ∷ places) xs tasks None view is = absurd (cc is)
 no_first [] xs tasks (Some at) view is = tt
 no_first (at' ∷ places) xs tasks (Some at) view is = tt
 
-abbrev IsFirst : List PoolTask → ℕ → Type 0
+-- the first of some tasks, which stands there, has the others behind it
+abbrev pub IsFirst : List PoolTask → ℕ → Type 0
 IsFirst ts at = (ts ≡ first_task ts ∷ drop 1 ts) × ((first_task ts).at ≡ at)
 
 first_stands : (places : List ℕ) (xs : List (Dir × PoolEvent)) (o : Option ℕ) → length places ≡ length xs → o ≡ slice_get places 0 →
@@ -53,7 +55,7 @@ first_stands (at' ∷ places) [] (Some at) same is = absurd (omega (arith, same)
 first_stands (at' ∷ places) (x ∷ xs) (Some at) same is = (refl, sym (cc is))
 
 pub first_place : (places : List ℕ) (xs : List (Dir × PoolEvent)) (tasks : List PoolTask) (o : Option ℕ) → length places ≡ length xs →
-    tasks_at places xs ≡ tasks → o ≡ slice_get places 0 → IfSome o (λ at. (tasks ≡ first_task tasks ∷ drop 1 tasks) × ((first_task tasks).at ≡ at))
+    tasks_at places xs ≡ tasks → o ≡ slice_get places 0 → IfSome o (IsFirst tasks)
 first_place places xs tasks o same view is = subst (λ ts. IfSome o (IsFirst ts)) view (first_stands places xs o same is)
 
 first_goes : (places : List ℕ) (xs : List (Dir × PoolEvent)) → length places ≡ length xs →
@@ -153,3 +155,10 @@ pub goes_on : (at : ℕ) (places : List ℕ) (ys : List (Dir × PoolEvent)) (dir
 goes_on at places ys dir k to now is next there many =
     ap (λ ps. ps ++ places_on at (drop (length ps) ys)) (is ∙ ap (λ n. places ++ n ∷ []) next)
     ∙ place_given at places ys dir (ap (λ n. option_map (λ (x : Dir × PoolEvent). x.0) (slice_get ys n)) many ∙ there)
+
+-- the same behind the places that are left once the first is gone
+pub goes_behind : (at : ℕ) (places : List ℕ) (ys : List (Dir × PoolEvent)) (room : ℕ) (left now : Buffer ℕ) → left ≡ buffer (drop 1 places) room →
+    now ≡ buffer (left.items ++ places_on at (drop (length left.items) ys)) left.capacity →
+    now ≡ buffer (drop 1 places ++ places_on at (drop (length (drop 1 places)) ys)) room
+goes_behind at places ys room left now is on =
+    on ∙ ap (λ (b : Buffer ℕ). buffer (b.items ++ places_on at (drop (length b.items) ys)) b.capacity) is

@@ -22,6 +22,7 @@ use Rattle.stack_queue.specs.declared.tasks.PoolTask.{PoolTask}
 use Rattle.stack_queue.specs.Pending.{first_task, tasks_seen, tasks_refs, TasksLie}
 use Rattle.stack_queue.specs.Stages.{Stand}
 use Rattle.stack_queue.specs.Going.{Begun, Now, BeginsWell, Going, weight_of}
+use Rattle.stack_queue.proofs.Lists.{IsFirst}
 use Rattle.stack_queue.proofs.Asked.{few_tasks, counts_within, headers_within, slots_within, places_within}
 use Rattle.stack_queue.proofs.Stages.{few_refs, visit_is, layer_at_place, covers_at, moved_all, stands, states_are}
 use Rattle.stack_queue.proofs.Steps.{visit_of, visit_goes, visit_falls, output_goes, output_falls}
@@ -61,7 +62,7 @@ module _ {S : Type 0} (place : S → ℕ) (layer : S → LayerTree) (refs : S �
     (b : Begun) (well : BeginsWell b) (p : List Held) (stages : List S) (stand : Stand place layer Ready b.stack p stages)
     (tasks : List PoolTask) (out : List (Dir × PoolEvent)) (says : Predicted) (visits : ℕ)
     (going : Going b p (record { states = map (state p) stages; refs = flat_map refs stages; tasks = tasks; out = out; predicted = says; visits = visits }))
-    (at : ℕ) (is : (tasks ≡ first_task tasks ∷ drop 1 tasks) × ((first_task tasks).at ≡ at)) where
+    (at : ℕ) (is : IsFirst tasks at) where
   -- the first task, and those behind it
   abbrev t : PoolTask
   t = first_task tasks

@@ -1,4 +1,4 @@
-use Rattle.std.proofs.Common.{◌++◌, drop, length, sym, ap, subst, ◌∙◌, arith}
+use Rattle.std.proofs.Common.{◌++◌, drop, length, sym, ap, subst, ◌∙◌, arith, rules}
 use Rattle.circular_buffer.specs.Buffer.{Buffer}
 use Rattle.slot_pool.specs.References.{Moved, Covers}
 use Rattle.layer_ast.specs.declared.tokens.Dir.{Dir}
@@ -8,9 +8,9 @@ use Rattle.layer_stage.specs.Room.{places_needed}
 use Rattle.pool_message.specs.Seen.{event_seen}
 use Rattle.pool_message.specs.Sent.{first_sent, sent_refs}
 use Rattle.pool_message.specs.declared.event.PoolEvent.{PoolEvent}
-use Rattle.stack_queue.specs.Pending.{tasks_seen, tasks_refs, TasksLie, tasks_at, places_on}
+use Rattle.stack_queue.specs.Pending.{tasks_seen, tasks_refs, TasksLie, tasks_at}
 use Rattle.stack_queue.specs.declared.tasks.PoolTask.{PoolTask}
-use Rattle.stack_queue.proofs.Lists.{as_many, first_event, rest_at, same_behind, refs_at, lie_at, events_lie, sent_behind, more_now, placed_all}
+use Rattle.stack_queue.proofs.Lists.{as_many, first_event, rest_at, same_behind, refs_at, lie_at, events_lie, sent_behind, more_now, placed_all, goes_behind}
 use Rattle.stack_queue.proofs.tasks.Tasks.visit.Goals as goal
 
 pub take-decided-requires-clause-lie : goal.take-decided-requires-clause-lie
@@ -40,9 +40,9 @@ take-decided-requires-clause-places g c =
 
 pub invariant_of-self : goal.invariant_of-self
 invariant_of-self g c =
-    let same = same_behind c.self.inside.places.items c.self.inside.events.items c.self.invariant.0 in (
-      ap (λ b. length b.items) c.go_on.ensures
-          ∙ (λ k. length ((c.pop_front.ensures.items k).items ++ places_on c.args.at (drop (length (c.pop_front.ensures.items k).items) c.take-decided.new.events.items)))
+    let same = same_behind c.self.inside.places.items c.self.inside.events.items c.self.invariant.0 in
+    let on = goes_behind c.args.at c.self.inside.places.items c.take-decided.new.events.items c.self.inside.places.capacity _ _ (search rules) c.go_on.ensures in (
+      ap (λ b. length b.items) on
           ∙ placed_all c.args.at (drop 1 c.self.inside.places.items) c.take-decided.new.events.items (omega (
             arith,
             same,
@@ -51,16 +51,15 @@ invariant_of-self g c =
                 (first_sent c.self.inside.events.items).0 (event_seen c.args.pool.now (first_sent c.self.inside.events.items).1)).sent
                 c.take-decided.ensures.sent,
           )),
-      ap (λ b. b.capacity) c.go_on.ensures ∙ ap (λ b. b.capacity) c.pop_front.ensures.items ∙ c.self.invariant.1 ∙ sym c.take-decided.ensures.capacity,
+      ap (λ b. b.capacity) on ∙ c.self.invariant.1 ∙ sym c.take-decided.ensures.capacity,
     )
 
 pub returns-clause-tasks : goal.returns-clause-tasks
 returns-clause-tasks g c =
     let view = ap (λ (b : Buffer PoolTask). b.items) c.self.view_is in
     let first = first_event c.self.inside.places.items c.self.inside.events.items c.args.self.now.items c.self.invariant.0 view in
-    ap (λ b. tasks_seen c.take-decided.new.pool (tasks_at b.items c.take-decided.new.events.items)) c.go_on.ensures
-    ∙ ap (λ b. tasks_seen c.take-decided.new.pool (tasks_at (b.items ++ places_on c.args.at (drop (length b.items) c.take-decided.new.events.items)) c.take-decided.new.events.items))
-    c.pop_front.ensures.items
+    ap (λ b. tasks_seen c.take-decided.new.pool (tasks_at b.items c.take-decided.new.events.items))
+    (goes_behind c.args.at c.self.inside.places.items c.take-decided.new.events.items c.self.inside.places.capacity _ _ (search rules) c.go_on.ensures)
     ∙ sent_behind c.args.pool.now c.take-decided.new.pool c.args.at (drop 1 c.self.inside.places.items) (drop 1 c.self.inside.events.items)
     c.take-decided.new.events.items
     (step (g.S.Stage.place c.args.stage.now) (g.S.Stage.layer c.args.stage.now) (g.S.Stage.state c.args.pool.now c.args.stage.now)
