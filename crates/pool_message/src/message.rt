@@ -1,6 +1,6 @@
 //! Messages whose bodies stand in a pool.
 
-use crate::headers::{copied, none_headers};
+use crate::headers::none_headers;
 use crate::join::join_bodies;
 use crate::part::Part;
 use msg_core::{Header, Headers};
@@ -78,7 +78,7 @@ impl PoolMessage {
     pub fn copied_headers(&self) -> Headers
         ensures { result ≡ self.now.headers }
     {
-        copied(&self.headers)
+        self.headers.copy()
     }
 
     /// How many bytes it has.
@@ -109,7 +109,7 @@ impl PoolMessage {
         ensures same { result ≡ self.now }
         ensures kept { Kept pool.old pool.new (refs self.now) }
     {
-        let headers = copied(&self.headers);
+        let headers = self.headers.copy();
         match &self.body {
             Some(part) => PoolMessage {
                 headers,
