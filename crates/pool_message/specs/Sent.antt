@@ -2,7 +2,7 @@
 use Rattle.std.specs.Prelude.{ℕ, ◌<◌, List, [], ◌∷◌, map, length, Option, Some, None, option_map}
 use Rattle.std.specs.List.{flat_map, AllByRecursion}
 use Rattle.slot_pool.specs.Held.{Held}
-use Rattle.msg_core.specs.Chain.{rest_of}
+use Rattle.msg_core.specs.Chain.{first_of, rest_of}
 use Rattle.msg_core.specs.Headers.{most_headers}
 use Rattle.msg_core.specs.declared.message.Header.{Header}
 use Rattle.layer_ast.specs.declared.tokens.Dir.{Dir}
@@ -32,9 +32,17 @@ abbrev pub first_sent : List (Dir × PoolEvent) → Dir × PoolEvent
 first_sent [] = (Up, record { kind = kind.Timer; peer = 0; a = 0; b = 0; message = None })
 first_sent (x ∷ xs) = x
 
+-- The first header of a message, if there is one, and the message without it.
+abbrev pub first_header : Option PoolMessage → Option Header
+first_header None = None
+first_header (Some m) = first_of m.headers
+
+abbrev pub without_first : PoolMessage → PoolMessage
+without_first m = record m { headers = rest_of m.headers }
+
 -- A message that passes a layer: going down it gets a header in front, and going up it loses its first one.
 abbrev pub message_passed : Dir → Header → PoolMessage → PoolMessage
-message_passed Up header m = record m { headers = rest_of m.headers }
+message_passed Up header m = without_first m
 message_passed Down header m = record m { headers = header ∷ m.headers }
 
 -- An event that passes a layer, with its message, if it has one.

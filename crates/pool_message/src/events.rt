@@ -1,15 +1,18 @@
 //! Events that were sent.
 
-ghost use Rattle.std.specs.Prelude.{◌≡◌, ◌<◌, ◌≤◌, [], ◌∷◌, ◌++◌, length, drop, slice_get, Some, option_map, IfOk};
-ghost use Rattle.circular_buffer.specs.Buffer.{buffer};
+ghost use Rattle.std.specs.Prelude.{◌≡◌, ◌<◌, ◌≤◌, [], ◌∷◌, ◌++◌, length, drop, slice_get, Some, None, option_map, IfOk};
+ghost use Rattle.circular_buffer.specs.Buffer.{buffer, last_item};
 ghost use Rattle.slot_pool.specs.References.{Covers};
 ghost use Rattle.pool_message.specs.Moves.{Returned};
+ghost use Rattle.pool_message.specs.Piled.{without_last};
+ghost use Rattle.pool_message.specs.Seen.{event_refs};
 ghost use Rattle.pool_message.specs.Sent.{sent_refs, most_events, first_sent, message_passed, event_passed, CanPass};
 
 use crate::event::PoolEvent;
-use crate::message::PoolMessage;
+use crate::messages::Messages;
+use crate::place::Place;
 use circular_buffer::HeapCircularBuffer;
-use layer_ast::Dir;
+use layer_ast::{Dir, Kind};
 use msg_core::Header;
 use slot_pool::{Memory, Pool};
 use std::alloc::Global;
@@ -76,14 +79,6 @@ impl Events {
         }
     }
 
-    /// Takes the first one out; its place is spare again.
-    pub fn pop_front(&mut self) -> Option<(Dir, PoolEvent)>
-        ensures first { result ≡ slice_get self.old.items 0 }
-        ensures rest { self.new ≡ buffer (drop 1 self.old.items) self.old.capacity }
-    {
-        self.ring.pop_front()
-    }
-
     /// The first one, if there is one.
     pub fn first(&self) -> Option<(Dir, &PoolEvent)>
         ensures { option_map (λ e. (e.0, e.1.now)) result ≡ slice_get self.now.items 0 }
@@ -122,6 +117,135 @@ impl Events {
         self.push(direction, event);
     }
 
+    /// Puts an event of this kind, with these numbers and with what lies in a place, behind the others. The place is empty then.
+    pub fn push_from(
+        &mut self,
+        direction: Dir,
+        kind: Kind,
+        peer: u32,
+        a: u32,
+        b: u32,
+        message: &mut Place,
+    )
+        requires { length self.old.items < self.old.capacity }
+        ensures pushed { self.new ≡ buffer (self.old.items ++ (direction, record { kind = kind; peer = peer; a = a; b = b; message = message.old }) ∷ []) self.old.capacity }
+        ensures left { message.new ≡ None }
+    {
+        let mut own = Place::empty();
+        own.take_over(message);
+        let event = PoolEvent {
+            kind,
+            peer,
+            a,
+            b,
+            message: own,
+        };
+        self.push(direction, event);
+    }
+
+    /// Puts an event of this kind, with these numbers and without a message, behind the others.
+    pub fn push_bare(&mut self, direction: Dir, kind: Kind, peer: u32, a: u32, b: u32)
+        requires { length self.old.items < self.old.capacity }
+        ensures { self.new ≡ buffer (self.old.items ++ (direction, record { kind = kind; peer = peer; a = a; b = b; message = None }) ∷ []) self.old.capacity }
+    {
+        let event = PoolEvent {
+            kind,
+            peer,
+            a,
+            b,
+            message: Place::empty(),
+        };
+        self.push(direction, event);
+    }
+
+    /// Puts an event of this kind, with these numbers and with the last of some messages, if there is one, behind the others. That message is
+    /// taken out.
+    pub fn push_last(
+        &mut self,
+        direction: Dir,
+        kind: Kind,
+        peer: u32,
+        a: u32,
+        b: u32,
+        messages: &mut Messages,
+    )
+        requires { length self.old.items < self.old.capacity }
+        ensures pushed { self.new ≡ buffer (self.old.items ++ (direction, record { kind = kind; peer = peer; a = a; b = b; message = last_item messages.old.items }) ∷ []) self.old.capacity }
+        ensures rest { messages.new ≡ buffer (without_last messages.old.items) messages.old.capacity }
+    {
+        let message = match messages.pop() {
+            Some(message) => Place::of(message),
+            None => Place::empty(),
+        };
+        let event = PoolEvent {
+            kind,
+            peer,
+            a,
+            b,
+            message,
+        };
+        self.push(direction, event);
+    }
+
+    /// The first one goes, and its message to an empty place.
+    pub fn take_first(&mut self, message: &mut Place)
+        requires some { 0 < length self.old.items }
+        requires empty { message.old ≡ None }
+        ensures message { message.new ≡ (first_sent self.old.items).1.message }
+        ensures rest { self.new ≡ buffer (drop 1 self.old.items) self.old.capacity }
+    {
+        let Some(sent) = self.ring.get_mut(0) else {
+            unreachable!();
+        };
+        message.take_over(&mut sent.1.message);
+        self.end_first();
+    }
+
+    /// The first one becomes the last of others.
+    pub fn move_first(&mut self, to: &mut Events)
+        requires some { 0 < length self.old.items }
+        requires room { length to.old.items < to.old.capacity }
+        ensures rest { self.new ≡ buffer (drop 1 self.old.items) self.old.capacity }
+        ensures moved { to.new ≡ buffer (to.old.items ++ first_sent self.old.items ∷ []) to.old.capacity }
+    {
+        let Some((direction, event)) = self.ring.pop_front() else {
+            unreachable!();
+        };
+        to.push(direction, event);
+    }
+
+    /// The first one goes, and the reference of its message back.
+    pub fn drop_first(&mut self, pool: &mut Pool)
+        requires some { 0 < length self.old.items }
+        requires there { Covers pool.old (event_refs (first_sent self.old.items).1) }
+        ensures rest { self.new ≡ buffer (drop 1 self.old.items) self.old.capacity }
+        ensures returned { Returned pool.old pool.new (event_refs (first_sent self.old.items).1) }
+    {
+        let Some((_direction, event)) = self.ring.pop_front() else {
+            unreachable!();
+        };
+        event.give_back(pool);
+    }
+
+    /// The first one goes, which has no message.
+    fn end_first(&mut self)
+        requires some { 0 < length self.old.items }
+        requires bare { (first_sent self.old.items).1.message ≡ None }
+        ensures { self.new ≡ buffer (drop 1 self.old.items) self.old.capacity }
+    {
+        let Some((_direction, event)) = self.ring.pop_front() else {
+            unreachable!();
+        };
+        let PoolEvent {
+            kind: _,
+            peer: _,
+            a: _,
+            b: _,
+            message,
+        } = event;
+        message.close();
+    }
+
     /// The direction of event number `k`, which is one of those that there are.
     pub fn direction(&self, k: usize) -> Dir
         requires { k < length self.now.items }
@@ -139,7 +263,7 @@ impl Events {
         ensures empty { self.new ≡ buffer [] self.old.capacity }
         ensures returned { Returned pool.old pool.new (sent_refs self.old.items) }
     {
-        while let Some((_direction, event)) = self.pop_front() {
+        while let Some((_direction, event)) = self.ring.pop_front() {
             event.give_back(pool);
         }
     }
@@ -162,16 +286,14 @@ fn pass_event(sent: &mut (Dir, PoolEvent), header: Header)
 }
 
 /// A message passes a layer, if there is one.
-fn pass_message(direction: Dir, header: Header, message: &mut Option<PoolMessage>)
+fn pass_message(direction: Dir, header: Header, message: &mut Place)
     requires { CanPass direction message.old }
     ensures { message.new ≡ option_map (message_passed direction header) message.old }
 {
-    if let Some(message) = message {
-        match direction {
-            Dir::Up => {
-                let _popped = message.pop_header();
-            }
-            Dir::Down => message.push_header(header),
+    match direction {
+        Dir::Up => {
+            let _popped = message.pop_header();
         }
+        Dir::Down => message.push_header(header),
     }
 }
