@@ -1,5 +1,5 @@
 -- Messages one behind the other, the newest last.
-use Rattle.std.specs.Prelude.{ℕ, ◌-◌, List, [], ◌∷◌, ◌++◌, take, length}
+use Rattle.std.specs.Prelude.{ℕ, ◌-◌, List, [], ◌∷◌, take, length}
 use Rattle.std.specs.List.{flat_map}
 use Rattle.msg_core.specs.declared.message.Header.{Header}
 use Rattle.pool_message.specs.Seen.{refs}

@@ -32,10 +32,13 @@ abbrev pub first_sent : List (Dir × PoolEvent) → Dir × PoolEvent
 first_sent [] = (Up, record { kind = kind.Timer; peer = 0; a = 0; b = 0; message = None })
 first_sent (x ∷ xs) = x
 
--- The first header of a message, if there is one, and the message without it.
+-- The first header of a message, if there is one; the message behind one header more, and without its first.
 abbrev pub first_header : Option PoolMessage → Option Header
 first_header None = None
 first_header (Some m) = first_of m.headers
+
+abbrev pub with_header : Header → PoolMessage → PoolMessage
+with_header header m = record m { headers = header ∷ m.headers }
 
 abbrev pub without_first : PoolMessage → PoolMessage
 without_first m = record m { headers = rest_of m.headers }
@@ -43,11 +46,15 @@ without_first m = record m { headers = rest_of m.headers }
 -- A message that passes a layer: going down it gets a header in front, and going up it loses its first one.
 abbrev pub message_passed : Dir → Header → PoolMessage → PoolMessage
 message_passed Up header m = without_first m
-message_passed Down header m = record m { headers = header ∷ m.headers }
+message_passed Down header m = with_header header m
 
 -- An event that passes a layer, with its message, if it has one.
 abbrev pub event_passed : Header → Dir × PoolEvent → Dir × PoolEvent
 event_passed header x = (x.0, record x.1 { message = option_map (message_passed x.0 header) x.1.message })
+
+-- An event without its message.
+abbrev pub bared : Dir × PoolEvent → Dir × PoolEvent
+bared x = (x.0, record x.1 { message = None })
 
 -- A message that goes down has room for one header more.
 abbrev pub CanPass : Dir → Option PoolMessage → Type 0

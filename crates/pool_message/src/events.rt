@@ -6,7 +6,7 @@ ghost use Rattle.slot_pool.specs.References.{Covers};
 ghost use Rattle.pool_message.specs.Moves.{Returned};
 ghost use Rattle.pool_message.specs.Piled.{without_last};
 ghost use Rattle.pool_message.specs.Seen.{event_refs};
-ghost use Rattle.pool_message.specs.Sent.{sent_refs, most_events, first_sent, message_passed, event_passed, CanPass};
+ghost use Rattle.pool_message.specs.Sent.{sent_refs, most_events, first_sent, message_passed, event_passed, bared, CanPass};
 
 use crate::event::PoolEvent;
 use crate::messages::Messages;
@@ -197,7 +197,7 @@ impl Events {
         let Some(sent) = self.ring.get_mut(0) else {
             unreachable!();
         };
-        message.take_over(&mut sent.1.message);
+        give_message(sent, message);
         self.end_first();
     }
 
@@ -263,8 +263,8 @@ impl Events {
         ensures empty { self.new ≡ buffer [] self.old.capacity }
         ensures returned { Returned pool.old pool.new (sent_refs self.old.items) }
     {
-        while let Some((_direction, event)) = self.ring.pop_front() {
-            event.give_back(pool);
+        while self.len() > 0 {
+            self.drop_first(pool);
         }
     }
 
@@ -283,6 +283,15 @@ fn pass_event(sent: &mut (Dir, PoolEvent), header: Header)
     ensures { sent.new ≡ event_passed header sent.old }
 {
     pass_message(sent.0, header, &mut sent.1.message);
+}
+
+/// An event gives its message to an empty place.
+fn give_message(sent: &mut (Dir, PoolEvent), message: &mut Place)
+    requires { message.old ≡ None }
+    ensures message { message.new ≡ sent.old.1.message }
+    ensures left { sent.new ≡ bared sent.old }
+{
+    message.take_over(&mut sent.1.message);
 }
 
 /// A message passes a layer, if there is one.

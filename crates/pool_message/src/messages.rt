@@ -34,7 +34,7 @@ impl Messages {
     ghost use Rattle.circular_buffer.specs.Buffer.{buffer, last_item};
     ghost use Rattle.slot_pool.specs.References.{Covers};
     ghost use Rattle.msg_core.specs.Headers.{most_headers};
-    ghost use Rattle.pool_message.specs.Seen.{refs, bodiless};
+    ghost use Rattle.pool_message.specs.Seen.{refs, refs_if, bodiless};
     ghost use Rattle.pool_message.specs.Moves.{CanKeep, Kept, Returned};
     ghost use Rattle.pool_message.specs.Piled.{pile_refs, without_last, with_header_last};
 
@@ -176,17 +176,30 @@ impl Messages {
         ensures empty { self.new ≡ buffer [] self.old.capacity }
         ensures returned { Returned pool.old pool.new (pile_refs self.old.items) }
     {
-        while self.count > 0 {
-            self.count -= 1;
-            self.places[self.count].let_go(pool);
+        while self.len() > 0 {
+            self.drop_last(pool);
         }
+    }
+
+    /// Lets the last one go, and gives its reference back.
+    fn drop_last(&mut self, pool: &mut Pool)
+        requires some { 0 < length self.old.items }
+        requires there { Covers pool.old (refs_if (last_item self.old.items)) }
+        ensures rest { self.new ≡ buffer (without_last self.old.items) self.old.capacity }
+        ensures returned { Returned pool.old pool.new (refs_if (last_item self.old.items)) }
+    {
+        self.count -= 1;
+        self.places[self.count].let_go(pool);
     }
 
     /// Ends a pile without messages.
     pub fn close(self)
         requires { self.items ≡ [] }
     {
-        let Messages { mut places, count: _ } = self;
+        let Messages {
+            mut places,
+            count: _,
+        } = self;
         while let Some(message) = places.pop() {
             message.close();
         }

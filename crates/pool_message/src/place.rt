@@ -26,11 +26,11 @@ impl Model for Place {
 }
 
 impl Place {
-    ghost use Rattle.std.specs.Prelude.{◌≡◌, ◌<◌, ◌∷◌, length, Some, None, option_copied, option_map, is_some, true, [], IfSome};
+    ghost use Rattle.std.specs.Prelude.{◌≡◌, ◌<◌, length, Some, None, option_copied, option_map, is_some, true, [], IfSome};
     ghost use Rattle.slot_pool.specs.References.{Covers};
     ghost use Rattle.msg_core.specs.Headers.{most_headers};
     ghost use Rattle.pool_message.specs.Seen.{refs_if, bodiless};
-    ghost use Rattle.pool_message.specs.Sent.{first_header, without_first};
+    ghost use Rattle.pool_message.specs.Sent.{first_header, with_header, without_first};
     ghost use Rattle.pool_message.specs.Moves.{Returned};
 
     /// A place without a message.
@@ -91,7 +91,7 @@ impl Place {
     /// Puts a header in front of those of the message, if there is one.
     pub fn push_header(&mut self, header: Header)
         requires { IfSome self.old (λ m. length m.headers < most_headers) }
-        ensures { self.new ≡ option_map (λ m. record m { headers = header ∷ m.headers }) self.old }
+        ensures { self.new ≡ option_map (with_header header) self.old }
     {
         if self.is_full {
             self.message.push_header(header);
@@ -126,7 +126,10 @@ impl Place {
     pub fn close(self)
         requires { self ≡ None }
     {
-        let Place { message, is_full: _ } = self;
+        let Place {
+            message,
+            is_full: _,
+        } = self;
         message.close();
     }
 }
