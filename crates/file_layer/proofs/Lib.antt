@@ -9,6 +9,7 @@ pub mod Lists
 pub mod OwnCells
 pub mod OwnUndone
 pub mod Parts
+pub mod Passed
 pub mod Queues
 pub mod Found
 pub mod Read

@@ -18,3 +18,4 @@ pub mod Keeps
 pub mod Layer
 pub mod Making
 pub mod OwnCells
+pub mod Passes

@@ -3,11 +3,11 @@
 use crate::desk::FileDesk;
 use crate::maker::Maker;
 use crate::makes::{close, make, restart};
+use crate::passes::{lets_pass, none_header};
 use crate::visits::visit;
-use layer_ast::Dir;
 use layer_eval::Predicted;
 use layer_stage::Stage;
-use pool_message::{Events, PoolEvent, PoolRow};
+use pool_message::{Events, PoolRow};
 use slot_pool::{Memory, Pool};
 use std::alloc::Global;
 use std::rc::Rc;
@@ -158,14 +158,15 @@ impl Stage for FileLayer {
     ghost taken = { taken_by };
 
     #[tactic(auto, unfolding(crate::specs::Layer::place_of, crate::specs::Layer::tree_of, crate::specs::Layer::refs_of, crate::specs::Layer::state_in, crate::specs::Layer::taken_by, crate::specs::Layer::IsInOrder))]
-    fn take(
-        &mut self,
-        pool: &mut Pool,
-        direction: Dir,
-        event: PoolEvent,
-        out: &mut Events,
-    ) -> Predicted {
+    fn take(&mut self, pool: &mut Pool, events: &mut Events) -> Predicted {
         self.taken = self.taken.saturating_add(1);
+        if lets_pass(&self.layer, events) {
+            events.pass(none_header(self.place));
+            return Predicted::usual();
+        }
+        let Some((direction, event)) = events.pop_front() else {
+            unreachable!();
+        };
         visit(
             self.place,
             &self.layer,
@@ -173,7 +174,7 @@ impl Stage for FileLayer {
             pool,
             direction,
             event,
-            out,
+            events,
         )
     }
 

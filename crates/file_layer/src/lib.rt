@@ -10,6 +10,7 @@ mod lifts;
 mod maker;
 mod makes;
 mod own_cells;
+mod passes;
 mod puts;
 mod reads;
 mod sends;

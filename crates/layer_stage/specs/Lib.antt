@@ -1,3 +1,4 @@
+pub mod Front
 pub mod Kept
 pub mod Room
 pub mod Taken

@@ -1,6 +1,6 @@
 //! Stages of a run.
 
-ghost use Rattle.std.specs.Prelude.{◌≡◌, ℕ, ◌+◌, ◌≤◌, List, ◌++◌, length};
+ghost use Rattle.std.specs.Prelude.{◌≡◌, ℕ, ◌+◌, ◌<◌, ◌≤◌, List, ◌++◌, length};
 ghost use Rattle.slot_pool.specs.Held.{Held, spare};
 ghost use Rattle.slot_pool.specs.References.{Moved, Covers};
 ghost use Rattle.layer_mean.specs.State.{State};
@@ -8,15 +8,14 @@ ghost use Rattle.layer_mean.specs.Tree.{LayerTree};
 ghost use Rattle.layer_mean.specs.Visit.{step};
 ghost use Rattle.layer_desk.specs.Need.{most_above};
 ghost use Rattle.layer_eval.specs.Did.{as_predicted};
-ghost use Rattle.pool_message.specs.Seen.{event_refs, event_seen, EventLies};
+ghost use Rattle.layer_stage.specs.Front.{first_way, first_seen, behind_first};
 ghost use Rattle.layer_stage.specs.Kept.{messages_kept};
 ghost use Rattle.layer_stage.specs.Room.{slots_needed, places_needed, headers_met, most_counted, most_kept, CountsWithin};
 ghost use Rattle.layer_stage.specs.Taken.{one_more};
 ghost use Rattle.pool_message.specs.Sent.{sent_refs, sent_seen, SentLie};
 
-use layer_ast::Dir;
 use layer_eval::Predicted;
-use pool_message::{Events, PoolEvent};
+use pool_message::Events;
 use slot_pool::Pool;
 
 /// A layer at its place, with its state. Bodies of messages stand in the pool beside it, and a visit takes no memory.
@@ -38,37 +37,32 @@ pub trait Stage {
     /// How many events it took, held at 2^64 - 1.
     ghost taken: { Self → ℕ };
 
-    /// The layer takes an event: its state, what it sends, behind what `out` has, and whether it decided as predicted are those of a visit.
-    /// It then took one event more.
-    fn take(
-        &mut self,
-        pool: &mut Pool,
-        direction: Dir,
-        event: PoolEvent,
-        out: &mut Events,
-    ) -> Predicted
+    /// The layer takes the first of the events: that one goes, and what the layer sends comes behind the others. Its state, what it sends and
+    /// whether it decided as predicted are those of a visit. It then took one event more.
+    fn take(&mut self, pool: &mut Pool, events: &mut Events) -> Predicted
+        requires some { 0 < length events.old.items }
         requires ready { ready pool.old self.old }
-        requires event { EventLies pool.old event }
-        requires out { SentLie pool.old out.old.items }
-        requires covers { Covers pool.old (refs self.old ++ (event_refs event ++ sent_refs out.old.items)) }
+        requires lie { SentLie pool.old events.old.items }
+        requires covers { Covers pool.old (refs self.old ++ sent_refs events.old.items) }
         requires counts { CountsWithin most_counted pool.old }
-        requires headers { headers_met direction (event_seen pool.old event) ≤ most_above }
-        requires slots { slots_needed (layer self.old) direction (event_seen pool.old event) ≤ spare pool.old }
-        requires places { length out.old.items + places_needed (layer self.old) direction (event_seen pool.old event) ≤ out.old.capacity }
+        requires headers { headers_met (first_way events.old.items) (first_seen pool.old events.old.items) ≤ most_above }
+        requires slots { slots_needed (layer self.old) (first_way events.old.items) (first_seen pool.old events.old.items) ≤ spare pool.old }
+        requires places { length (behind_first events.old.items)
+            + places_needed (layer self.old) (first_way events.old.items) (first_seen pool.old events.old.items) ≤ events.old.capacity }
         ensures state { state pool.new self.new ≡
-            (step (place self.old) (layer self.old) (state pool.old self.old) direction (event_seen pool.old event)).state }
-        ensures sent { sent_seen pool.new out.new.items ≡ sent_seen pool.old out.old.items
-            ++ (step (place self.old) (layer self.old) (state pool.old self.old) direction (event_seen pool.old event)).sent }
+            (step (place self.old) (layer self.old) (state pool.old self.old) (first_way events.old.items) (first_seen pool.old events.old.items)).state }
+        ensures sent { sent_seen pool.new events.new.items ≡ sent_seen pool.old (behind_first events.old.items)
+            ++ (step (place self.old) (layer self.old) (state pool.old self.old) (first_way events.old.items) (first_seen pool.old events.old.items)).sent }
         ensures predicted { result ≡ as_predicted
-            (step (place self.old) (layer self.old) (state pool.old self.old) direction (event_seen pool.old event)).decided }
+            (step (place self.old) (layer self.old) (state pool.old self.old) (first_way events.old.items) (first_seen pool.old events.old.items)).decided }
 
-        // Its references, and those of the event and of what was sent, have moved in the pool, and no others.
-        ensures moved { Moved pool.old pool.new
-            (refs self.old ++ (event_refs event ++ sent_refs out.old.items)) (refs self.new ++ sent_refs out.new.items) }
-        ensures spent { spare pool.old ≤ spare pool.new + slots_needed (layer self.old) direction (event_seen pool.old event) }
-        ensures capacity { out.new.capacity ≡ out.old.capacity }
+        // Its references, and those of the events, have moved in the pool, and no others.
+        ensures moved { Moved pool.old pool.new (refs self.old ++ sent_refs events.old.items) (refs self.new ++ sent_refs events.new.items) }
+        ensures spent { spare pool.old ≤ spare pool.new
+            + slots_needed (layer self.old) (first_way events.old.items) (first_seen pool.old events.old.items) }
+        ensures capacity { events.new.capacity ≡ events.old.capacity }
         ensures ready { ready pool.new self.new }
-        ensures out { SentLie pool.new out.new.items }
+        ensures lie { SentLie pool.new events.new.items }
         ensures place { place self.new ≡ place self.old }
         ensures layer { layer self.new ≡ layer self.old }
         ensures taken { taken self.new ≡ one_more (taken self.old) };

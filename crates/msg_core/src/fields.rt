@@ -7,19 +7,30 @@ use std::marker::Model;
 /// The most numbers that a header carries.
 pub const MOST_FIELDS: usize = 4;
 
-/// Up to four numbers, kept in place; contracts see their list.
-#[derive(Drop)]
+/// Up to four numbers, kept in place, with zeros behind them, so that a copy takes no memory; contracts see their list.
+#[derive(Clone, Copy)]
 pub struct Fields {
     numbers: [u32; 4],
     len: u8,
 }
 
 impl Model for Fields {
+    ghost use Rattle.std.specs.Prelude.{◌≡◌, ℕ, ◌-◌, ◌≤◌, List, length, take, drop, replicate};
+    ghost use Rattle.std.proofs.Common.{arith, length-take-le};
+    ghost use Rattle.msg_core.specs.Kept.{kept, kept-take};
+
     ghost Value = { List ℕ };
 
     ghost view = { λ f. take f.len f.numbers };
 
-    ghost invariant = { λ f. f.len ≤ 4 };
+    ghost invariant = { λ f. (f.len ≤ 4) × (length f.numbers ≡ 4) × (drop f.len f.numbers ≡ replicate (4 - f.len) 0) };
+
+    ghost inverse = { λ fields. record { numbers = kept fields; len = length fields } };
+
+    ghost inverse_ok = { λ f h i. record {
+      numbers = kept-take f.len f.numbers (omega (arith, h.0, h.1)) h.2 i;
+      len = length-take-le f.len f.numbers (omega (arith, h.0, h.1)) i;
+    } };
 }
 
 impl Fields {

@@ -65,6 +65,34 @@ impl Headers {
         }
     }
 
+    /// The same headers once more.
+    pub fn copy(&self) -> Headers
+        ensures { result ≡ self.now }
+    {
+        let mut copy = Headers::none();
+        copy.copy_from(self);
+        copy
+    }
+
+    /// Becomes what other headers are; those that aren't there aren't touched.
+    pub fn copy_from(&mut self, other: &Headers)
+        ensures { self.new ≡ other.now }
+    {
+        let first = usize::from(other.first);
+        let places = &mut self.places[..];
+        let places = &mut places[first..];
+        let theirs = &other.places[..];
+        places.copy_from_slice(&theirs[first..]);
+        self.first = other.first;
+    }
+
+    /// Lets all go.
+    pub fn clear(&mut self)
+        ensures { self.new ≡ [] }
+    {
+        self.first = MOST_HEADERS as u8;
+    }
+
     /// Puts `header` in front of the others.
     pub fn push_front(&mut self, header: Header)
         requires { length self.old < most_headers }

@@ -27,7 +27,7 @@ impl<T: Drop> From<AllocFailed<T>> for Memory {
 
 /// What one layer says to the same layer of the receiver: the layer's place in the stack, lowest
 /// first, the tag of one of its headers (0 for the header `none`), and the header's numbers.
-#[derive(Drop)]
+#[derive(Clone, Copy)]
 pub struct Header {
     pub layer: u8,
     pub tag: u8,

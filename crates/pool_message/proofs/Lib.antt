@@ -2,4 +2,5 @@ pub mod Ranges
 pub mod Moves
 pub mod Lists
 pub mod Stays
+pub mod Piles
 mod Chains

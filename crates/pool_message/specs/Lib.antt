@@ -1,3 +1,4 @@
 pub mod Moves
+pub mod Piled
 pub mod Seen
 pub mod Sent

@@ -1,7 +1,6 @@
 //! Events between layers.
 
-use crate::message::PoolMessage;
-use crate::optional::{give_back_if_any, keep_if_any};
+use crate::place::Place;
 use layer_ast::Kind;
 use slot_pool::Pool;
 
@@ -12,32 +11,16 @@ pub struct PoolEvent {
     pub peer: u32,
     pub a: u32,
     pub b: u32,
-    pub message: Option<PoolMessage>,
+    pub message: Place,
 }
 
 impl PoolEvent {
-    ghost use Rattle.std.specs.Prelude.{◌≡◌};
+    ghost use Rattle.std.specs.Prelude.{◌≡◌, None};
     ghost use Rattle.slot_pool.specs.References.{Covers};
     ghost use Rattle.pool_message.specs.Seen.{event_refs};
-    ghost use Rattle.pool_message.specs.Moves.{CanKeep, Kept, Returned};
+    ghost use Rattle.pool_message.specs.Moves.{Returned};
 
-    /// The same event once more.
-    pub fn keep(&self, pool: &mut Pool) -> PoolEvent
-        requires there { Covers pool.old (event_refs self.now) }
-        requires room { CanKeep pool.old (event_refs self.now) }
-        ensures same { result ≡ self.now }
-        ensures kept { Kept pool.old pool.new (event_refs self.now) }
-    {
-        PoolEvent {
-            kind: self.kind,
-            peer: self.peer,
-            a: self.a,
-            b: self.b,
-            message: keep_if_any(&self.message, pool),
-        }
-    }
-
-    /// Gives the reference of its message back.
+    /// Gives the reference of its message back, if it has one.
     pub fn give_back(self, pool: &mut Pool)
         requires { Covers pool.old (event_refs self) }
         ensures { Returned pool.old pool.new (event_refs self) }
@@ -47,8 +30,9 @@ impl PoolEvent {
             peer: _,
             a: _,
             b: _,
-            message,
+            mut message,
         } = self;
-        give_back_if_any(message, pool);
+        message.let_go(pool);
+        message.close();
     }
 }

@@ -1,14 +1,19 @@
 //! Events that were sent.
 
-ghost use Rattle.std.specs.Prelude.{◌≡◌, ◌<◌, ◌≤◌, [], ◌∷◌, ◌++◌, length, drop, slice_get, Some, option_map, IfOk};
-ghost use Rattle.circular_buffer.specs.Buffer.{buffer};
+ghost use Rattle.std.specs.Prelude.{◌≡◌, ◌<◌, ◌≤◌, [], ◌∷◌, ◌++◌, length, drop, slice_get, Some, None, option_map, IfOk};
+ghost use Rattle.circular_buffer.specs.Buffer.{buffer, last_item};
 ghost use Rattle.slot_pool.specs.References.{Covers};
 ghost use Rattle.pool_message.specs.Moves.{Returned};
-ghost use Rattle.pool_message.specs.Sent.{sent_refs, most_events};
+ghost use Rattle.pool_message.specs.Piled.{without_last};
+ghost use Rattle.pool_message.specs.Seen.{event_refs};
+ghost use Rattle.pool_message.specs.Sent.{sent_refs, most_events, first_sent, message_passed, event_passed, bared, CanPass};
 
 use crate::event::PoolEvent;
+use crate::messages::Messages;
+use crate::place::Place;
 use circular_buffer::HeapCircularBuffer;
-use layer_ast::Dir;
+use layer_ast::{Dir, Kind};
+use msg_core::Header;
 use slot_pool::{Memory, Pool};
 use std::alloc::Global;
 use std::marker::Model;
@@ -74,12 +79,171 @@ impl Events {
         }
     }
 
-    /// Takes the first one out; its place is spare again.
-    pub fn pop_front(&mut self) -> Option<(Dir, PoolEvent)>
-        ensures first { result ≡ slice_get self.old.items 0 }
+    /// The first one, if there is one.
+    pub fn first(&self) -> Option<(Dir, &PoolEvent)>
+        ensures { option_map (λ e. (e.0, e.1.now)) result ≡ slice_get self.now.items 0 }
+    {
+        match self.ring.front() {
+            Some((direction, event)) => Some((*direction, event)),
+            None => None,
+        }
+    }
+
+    /// The first one passes a layer and becomes the last: its message, if it has one, gets this header in front where it goes down, and loses
+    /// its first one where it goes up. Where it is the only one, nothing is moved.
+    pub fn pass(&mut self, header: Header)
+        requires some { 0 < length self.old.items }
+        requires room { CanPass (first_sent self.old.items).0 (first_sent self.old.items).1.message }
+        ensures { self.new ≡ buffer (drop 1 self.old.items ++ event_passed header (first_sent self.old.items) ∷ []) self.old.capacity }
+    {
+        let Some(sent) = self.ring.get_mut(0) else {
+            unreachable!();
+        };
+        pass_event(sent, header);
+        self.go_round();
+    }
+
+    /// The first one becomes the last.
+    fn go_round(&mut self)
+        requires { 0 < length self.old.items }
+        ensures { self.new ≡ buffer (drop 1 self.old.items ++ first_sent self.old.items ∷ []) self.old.capacity }
+    {
+        if self.ring.len() == 1 {
+            return;
+        }
+        let Some((direction, event)) = self.ring.pop_front() else {
+            unreachable!();
+        };
+        self.push(direction, event);
+    }
+
+    /// Puts an event of this kind, with these numbers and with what lies in a place, behind the others. The place is empty then.
+    pub fn push_from(
+        &mut self,
+        direction: Dir,
+        kind: Kind,
+        peer: u32,
+        a: u32,
+        b: u32,
+        message: &mut Place,
+    )
+        requires { length self.old.items < self.old.capacity }
+        ensures pushed { self.new ≡ buffer (self.old.items ++ (direction, record { kind = kind; peer = peer; a = a; b = b; message = message.old }) ∷ []) self.old.capacity }
+        ensures left { message.new ≡ None }
+    {
+        let mut own = Place::empty();
+        own.take_over(message);
+        let event = PoolEvent {
+            kind,
+            peer,
+            a,
+            b,
+            message: own,
+        };
+        self.push(direction, event);
+    }
+
+    /// Puts an event of this kind, with these numbers and without a message, behind the others.
+    pub fn push_bare(&mut self, direction: Dir, kind: Kind, peer: u32, a: u32, b: u32)
+        requires { length self.old.items < self.old.capacity }
+        ensures { self.new ≡ buffer (self.old.items ++ (direction, record { kind = kind; peer = peer; a = a; b = b; message = None }) ∷ []) self.old.capacity }
+    {
+        let event = PoolEvent {
+            kind,
+            peer,
+            a,
+            b,
+            message: Place::empty(),
+        };
+        self.push(direction, event);
+    }
+
+    /// Puts an event of this kind, with these numbers and with the last of some messages, if there is one, behind the others. That message is
+    /// taken out.
+    pub fn push_last(
+        &mut self,
+        direction: Dir,
+        kind: Kind,
+        peer: u32,
+        a: u32,
+        b: u32,
+        messages: &mut Messages,
+    )
+        requires { length self.old.items < self.old.capacity }
+        ensures pushed { self.new ≡ buffer (self.old.items ++ (direction, record { kind = kind; peer = peer; a = a; b = b; message = last_item messages.old.items }) ∷ []) self.old.capacity }
+        ensures rest { messages.new ≡ buffer (without_last messages.old.items) messages.old.capacity }
+    {
+        let message = match messages.pop() {
+            Some(message) => Place::of(message),
+            None => Place::empty(),
+        };
+        let event = PoolEvent {
+            kind,
+            peer,
+            a,
+            b,
+            message,
+        };
+        self.push(direction, event);
+    }
+
+    /// The first one goes, and its message to an empty place.
+    pub fn take_first(&mut self, message: &mut Place)
+        requires some { 0 < length self.old.items }
+        requires empty { message.old ≡ None }
+        ensures message { message.new ≡ (first_sent self.old.items).1.message }
         ensures rest { self.new ≡ buffer (drop 1 self.old.items) self.old.capacity }
     {
-        self.ring.pop_front()
+        let Some(sent) = self.ring.get_mut(0) else {
+            unreachable!();
+        };
+        give_message(sent, message);
+        self.end_first();
+    }
+
+    /// The first one becomes the last of others.
+    pub fn move_first(&mut self, to: &mut Events)
+        requires some { 0 < length self.old.items }
+        requires room { length to.old.items < to.old.capacity }
+        ensures rest { self.new ≡ buffer (drop 1 self.old.items) self.old.capacity }
+        ensures moved { to.new ≡ buffer (to.old.items ++ first_sent self.old.items ∷ []) to.old.capacity }
+    {
+        let Some((direction, event)) = self.ring.pop_front() else {
+            unreachable!();
+        };
+        to.push(direction, event);
+    }
+
+    /// The first one goes, and the reference of its message back.
+    pub fn drop_first(&mut self, pool: &mut Pool)
+        requires some { 0 < length self.old.items }
+        requires there { Covers pool.old (event_refs (first_sent self.old.items).1) }
+        ensures rest { self.new ≡ buffer (drop 1 self.old.items) self.old.capacity }
+        ensures returned { Returned pool.old pool.new (event_refs (first_sent self.old.items).1) }
+    {
+        let Some((_direction, event)) = self.ring.pop_front() else {
+            unreachable!();
+        };
+        event.give_back(pool);
+    }
+
+    /// The first one goes, which has no message.
+    fn end_first(&mut self)
+        requires some { 0 < length self.old.items }
+        requires bare { (first_sent self.old.items).1.message ≡ None }
+        ensures { self.new ≡ buffer (drop 1 self.old.items) self.old.capacity }
+    {
+        let Some((_direction, event)) = self.ring.pop_front() else {
+            unreachable!();
+        };
+        let PoolEvent {
+            kind: _,
+            peer: _,
+            a: _,
+            b: _,
+            message,
+        } = event;
+        message.close();
     }
 
     /// The direction of event number `k`, which is one of those that there are.
@@ -99,8 +263,8 @@ impl Events {
         ensures empty { self.new ≡ buffer [] self.old.capacity }
         ensures returned { Returned pool.old pool.new (sent_refs self.old.items) }
     {
-        while let Some((_direction, event)) = self.pop_front() {
-            event.give_back(pool);
+        while self.len() > 0 {
+            self.drop_first(pool);
         }
     }
 
@@ -110,5 +274,35 @@ impl Events {
     {
         let Events { ring } = self;
         ring.destroy_empty();
+    }
+}
+
+/// An event passes a layer, with its message.
+fn pass_event(sent: &mut (Dir, PoolEvent), header: Header)
+    requires { CanPass sent.old.0 sent.old.1.message }
+    ensures { sent.new ≡ event_passed header sent.old }
+{
+    pass_message(sent.0, header, &mut sent.1.message);
+}
+
+/// An event gives its message to an empty place.
+fn give_message(sent: &mut (Dir, PoolEvent), message: &mut Place)
+    requires { message.old ≡ None }
+    ensures message { message.new ≡ sent.old.1.message }
+    ensures left { sent.new ≡ bared sent.old }
+{
+    message.take_over(&mut sent.1.message);
+}
+
+/// A message passes a layer, if there is one.
+fn pass_message(direction: Dir, header: Header, message: &mut Place)
+    requires { CanPass direction message.old }
+    ensures { message.new ≡ option_map (message_passed direction header) message.old }
+{
+    match direction {
+        Dir::Up => {
+            let _popped = message.pop_header();
+        }
+        Dir::Down => message.push_header(header),
     }
 }

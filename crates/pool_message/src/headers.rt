@@ -1,4 +1,4 @@
-//! Headers in place: copies, and those of places whose layers have nothing to say.
+//! Headers in place, of places whose layers have nothing to say.
 
 ghost use Rattle.std.specs.Prelude.{◌≡◌, ℕ, ◌+◌, ◌≤◌, map};
 ghost use Rattle.std.specs.List.{range_with_len};
@@ -6,19 +6,6 @@ ghost use Rattle.msg_core.specs.Headers.{most_headers};
 ghost use Rattle.layer_mean.specs.Visit.{none_header};
 
 use msg_core::{Fields, Header, Headers};
-
-/// The same headers once more.
-pub(crate) fn copied(headers: &Headers) -> Headers
-    ensures { result ≡ headers.now }
-{
-    let mut copy = Headers::none();
-    for k in (0..headers.len()).rev() {
-        if let Some(header) = headers.at(k) {
-            copy.push_front(header);
-        }
-    }
-    copy
-}
 
 /// The header `none` of each of `count` places from `first` on.
 pub(crate) fn none_headers(first: u8, count: u8) -> Headers

@@ -1,10 +1,11 @@
 //! Messages whose bodies stand in a pool.
 
-use crate::headers::{copied, none_headers};
+use crate::headers::none_headers;
 use crate::join::join_bodies;
 use crate::part::Part;
 use msg_core::{Header, Headers};
 use slot_pool::Pool;
+use std::mem;
 
 /// At most 24 headers, in place, before a body that is nothing or a part of a slot. It can't be let go: its reference goes back
 /// to the pool.
@@ -14,7 +15,7 @@ pub struct PoolMessage {
 }
 
 impl PoolMessage {
-    ghost use Rattle.std.specs.Prelude.{◌≡◌, ℕ, ◌+◌, ◌<◌, ◌≤◌, ◌↔◌, List, [], ◌∷◌, ◌++◌, map, length, IfSome, IfNone, IsNone};
+    ghost use Rattle.std.specs.Prelude.{◌≡◌, ℕ, ◌+◌, ◌<◌, ◌≤◌, ◌↔◌, List, [], ◌∷◌, ◌++◌, map, length, None, IfSome, IfNone, IsNone};
     ghost use Rattle.std.specs.List.{range_with_len};
     ghost use Rattle.slot_pool.specs.Held.{IsFull};
     ghost use Rattle.slot_pool.specs.References.{Covers};
@@ -78,7 +79,7 @@ impl PoolMessage {
     pub fn copied_headers(&self) -> Headers
         ensures { result ≡ self.now.headers }
     {
-        copied(&self.headers)
+        self.headers.copy()
     }
 
     /// How many bytes it has.
@@ -109,7 +110,7 @@ impl PoolMessage {
         ensures same { result ≡ self.now }
         ensures kept { Kept pool.old pool.new (refs self.now) }
     {
-        let headers = copied(&self.headers);
+        let headers = self.headers.copy();
         match &self.body {
             Some(part) => PoolMessage {
                 headers,
@@ -182,6 +183,84 @@ impl PoolMessage {
         ensures rest { self.new ≡ record self.old { headers = rest_of self.old.headers } }
     {
         self.headers.pop_front()
+    }
+
+    /// Becomes what another message is, which is then without headers and bytes. It has no bytes itself.
+    pub fn take_over(&mut self, other: &mut PoolMessage)
+        requires { self.old.body ≡ None }
+        ensures taken { self.new ≡ other.old }
+        ensures left { other.new ≡ bodiless [] }
+    {
+        self.headers.copy_from(&other.headers);
+        other.headers.clear();
+        self.set_body(other.body.take());
+    }
+
+    /// Becomes the same message once more. It has no bytes itself; then the two share theirs, to which there is one more reference.
+    pub fn keep_from(&mut self, other: &PoolMessage, pool: &mut Pool)
+        requires bare { self.old.body ≡ None }
+        requires there { Covers pool.old (refs other.now) }
+        requires room { CanKeep pool.old (refs other.now) }
+        ensures same { self.new ≡ other.now }
+        ensures kept { Kept pool.old pool.new (refs other.now) }
+    {
+        self.headers.copy_from(&other.headers);
+        if let Some(part) = &other.body {
+            self.set_body(Some(part.keep(pool)));
+        }
+    }
+
+    /// Takes the message out, and leaves none of its bytes.
+    pub fn take_out(&mut self) -> PoolMessage
+        ensures taken { result ≡ self.old }
+        ensures left { self.new.body ≡ None }
+    {
+        PoolMessage {
+            headers: self.headers.copy(),
+            body: self.body.take(),
+        }
+    }
+
+    /// Becomes a message without headers and bytes. It has no bytes.
+    pub fn become_bare(&mut self)
+        requires { self.old.body ≡ None }
+        ensures { self.new ≡ bodiless [] }
+    {
+        self.headers.clear();
+    }
+
+    /// Gives its reference back, and is then without headers and bytes.
+    pub fn let_go(&mut self, pool: &mut Pool)
+        requires { Covers pool.old (refs self.old) }
+        ensures bare { self.new ≡ bodiless [] }
+        ensures returned { Returned pool.old pool.new (refs self.old) }
+    {
+        self.headers.clear();
+        if let Some(part) = self.body.take() {
+            part.give_back(pool);
+        }
+    }
+
+    /// Ends a message without bytes.
+    pub fn close(self)
+        requires { self.body ≡ None }
+    {
+        let PoolMessage { headers: _, body } = self;
+        match body {
+            None => {}
+            Some(_part) => unreachable!(),
+        }
+    }
+
+    /// Its body becomes this one. It had none.
+    fn set_body(&mut self, body: Option<Part>)
+        requires { self.old.body ≡ None }
+        ensures { self.new ≡ record self.old { body = body } }
+    {
+        match mem::replace(&mut self.body, body) {
+            None => {}
+            Some(_part) => unreachable!(),
+        }
     }
 
     /// The bytes of `first` in front of those of `second`, behind the headers of `second`; `second` alone where they would be more

@@ -1,14 +1,16 @@
 -- Tasks whose events stand in one list, and their places in another.
-use Rattle.std.proofs.Common.{◌≡◌, ℕ, suc, ◌≤◌, List, [], ◌∷◌, ◌++◌, drop, length, Some, get_or, slice_get, option_map, refl, ap, ◌∙◌, arith}
+use Rattle.std.proofs.Common.{◌≡◌, ℕ, suc, ◌≤◌, List, [], ◌∷◌, ◌++◌, drop, length, Option, Some, None, IfSome, IfNone, get_or, slice_get, option_map, refl, sym, ap, subst, ◌∙◌, arith}
 use Rattle.std.proofs.lemmas.List.{length-append, length-map}
+use Rattle.circular_buffer.specs.Buffer.{Buffer, buffer}
 use Rattle.slot_pool.specs.Held.{Held}
 use Rattle.layer_ast.specs.declared.tokens.Dir.{Dir}
 use Rattle.layer_mean.specs.declared.run.Event.{Event}
 use Rattle.layer_mean.specs.Queue.{beyond, tasks_of}
 use Rattle.pool_message.specs.Seen.{event_refs, event_seen}
-use Rattle.pool_message.specs.Sent.{sent_refs, sent_seen, SentLie}
+use Rattle.pool_message.specs.Sent.{sent_refs, sent_seen, SentLie, first_sent}
 use Rattle.pool_message.specs.declared.event.PoolEvent.{PoolEvent}
-use Rattle.stack_queue.specs.Pending.{tasks_seen, tasks_refs, TasksLie, tasks_at, places_on}
+use Rattle.stack_queue.specs.declared.tasks.PoolTask.{PoolTask}
+use Rattle.stack_queue.specs.Pending.{first_task, tasks_seen, tasks_refs, TasksLie, tasks_at, places_on}
 
 pub as_many : (places : List ℕ) (xs : List (Dir × PoolEvent)) → length places ≡ length xs → length (tasks_at places xs) ≡ length xs
 as_many [] [] same = refl
@@ -31,6 +33,59 @@ none_left [] [] same none = (refl, refl)
 none_left [] (x ∷ xs) same none = absurd (omega (arith, same))
 none_left (at ∷ places) [] same none = absurd (omega (arith, same))
 none_left (at ∷ places) (x ∷ xs) same none = absurd (cc none)
+
+-- the first one
+pub no_first : (places : List ℕ) (xs : List (Dir × PoolEvent)) (tasks : List PoolTask) (o : Option ℕ) → tasks_at places xs ≡ tasks →
+    o ≡ slice_get places 0 → IfNone o (tasks ≡ [])
+no_first [] xs tasks None view is = sym view
+no_first (at ∷ places) xs tasks None view is = absurd (cc is)
+no_first [] xs tasks (Some at) view is = tt
+no_first (at' ∷ places) xs tasks (Some at) view is = tt
+
+-- the first of some tasks, which stands there, has the others behind it
+abbrev pub IsFirst : List PoolTask → ℕ → Type 0
+IsFirst ts at = (ts ≡ first_task ts ∷ drop 1 ts) × ((first_task ts).at ≡ at)
+
+first_stands : (places : List ℕ) (xs : List (Dir × PoolEvent)) (o : Option ℕ) → length places ≡ length xs → o ≡ slice_get places 0 →
+    IfSome o (IsFirst (tasks_at places xs))
+first_stands [] xs None same is = tt
+first_stands (at ∷ places) xs None same is = tt
+first_stands [] xs (Some at) same is = absurd (cc is)
+first_stands (at' ∷ places) [] (Some at) same is = absurd (omega (arith, same))
+first_stands (at' ∷ places) (x ∷ xs) (Some at) same is = (refl, sym (cc is))
+
+pub first_place : (places : List ℕ) (xs : List (Dir × PoolEvent)) (tasks : List PoolTask) (o : Option ℕ) → length places ≡ length xs →
+    tasks_at places xs ≡ tasks → o ≡ slice_get places 0 → IfSome o (IsFirst tasks)
+first_place places xs tasks o same view is = subst (λ ts. IfSome o (IsFirst ts)) view (first_stands places xs o same is)
+
+first_goes : (places : List ℕ) (xs : List (Dir × PoolEvent)) → length places ≡ length xs →
+    ((first_task (tasks_at places xs)).direction, (first_task (tasks_at places xs)).event) ≡ first_sent xs
+first_goes [] [] same = refl
+first_goes [] (x ∷ xs) same = absurd (omega (arith, same))
+first_goes (at ∷ places) [] same = absurd (omega (arith, same))
+first_goes (at ∷ places) (x ∷ xs) same = refl
+
+pub first_event : (places : List ℕ) (xs : List (Dir × PoolEvent)) (tasks : List PoolTask) → length places ≡ length xs → tasks_at places xs ≡ tasks →
+    ((first_task tasks).direction, (first_task tasks).event) ≡ first_sent xs
+first_event places xs tasks same view =
+    subst (λ ts. ((first_task ts).direction, (first_task ts).event) ≡ first_sent xs) view (first_goes places xs same)
+
+-- and those behind it
+rest_goes : (places : List ℕ) (xs : List (Dir × PoolEvent)) → length places ≡ length xs →
+    tasks_at (drop 1 places) (drop 1 xs) ≡ drop 1 (tasks_at places xs)
+rest_goes [] xs same = refl
+rest_goes (at ∷ places) [] same = absurd (omega (arith, same))
+rest_goes (at ∷ places) (x ∷ xs) same = refl
+
+pub rest_at : (places : List ℕ) (xs : List (Dir × PoolEvent)) (tasks : List PoolTask) → length places ≡ length xs → tasks_at places xs ≡ tasks →
+    tasks_at (drop 1 places) (drop 1 xs) ≡ drop 1 tasks
+rest_at places xs tasks same view = rest_goes places xs same ∙ ap (drop 1) view
+
+pub same_behind : (places : List ℕ) (xs : List (Dir × PoolEvent)) → length places ≡ length xs → length (drop 1 places) ≡ length (drop 1 xs)
+same_behind [] [] same = refl
+same_behind [] (x ∷ xs) same = absurd (omega (arith, same))
+same_behind (at ∷ places) [] same = absurd (omega (arith, same))
+same_behind (at ∷ places) (x ∷ xs) same = omega (arith, same)
 
 -- what they refer to, and that they lie
 pub refs_at : (places : List ℕ) (xs : List (Dir × PoolEvent)) → length places ≡ length xs → tasks_refs (tasks_at places xs) ≡ sent_refs xs
@@ -100,3 +155,10 @@ pub goes_on : (at : ℕ) (places : List ℕ) (ys : List (Dir × PoolEvent)) (dir
 goes_on at places ys dir k to now is next there many =
     ap (λ ps. ps ++ places_on at (drop (length ps) ys)) (is ∙ ap (λ n. places ++ n ∷ []) next)
     ∙ place_given at places ys dir (ap (λ n. option_map (λ (x : Dir × PoolEvent). x.0) (slice_get ys n)) many ∙ there)
+
+-- the same behind the places that are left once the first is gone
+pub goes_behind : (at : ℕ) (places : List ℕ) (ys : List (Dir × PoolEvent)) (room : ℕ) (left now : Buffer ℕ) → left ≡ buffer (drop 1 places) room →
+    now ≡ buffer (left.items ++ places_on at (drop (length left.items) ys)) left.capacity →
+    now ≡ buffer (drop 1 places ++ places_on at (drop (length (drop 1 places)) ys)) room
+goes_behind at places ys room left now is on =
+    on ∙ ap (λ (b : Buffer ℕ). buffer (b.items ++ places_on at (drop (length b.items) ys)) b.capacity) is

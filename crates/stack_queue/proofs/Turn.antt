@@ -1,5 +1,5 @@
 -- One turn of a run over stages: what it asks is there, and the run goes on behind it.
-use Rattle.std.proofs.Common.{◌≡◌, ℕ, suc, ◌+◌, ◌-◌, ◌<◌, ◌≤◌, Bool, true, false, ◌&&◌, not, List, [], ◌∷◌, ◌++◌, map, set, get_or, flat_map, length, refl, sym, ap, ◌∙◌, subst, arith}
+use Rattle.std.proofs.Common.{◌≡◌, ℕ, suc, ◌+◌, ◌-◌, ◌<◌, ◌≤◌, Bool, true, false, ◌&&◌, not, List, [], ◌∷◌, ◌++◌, map, set, get_or, flat_map, drop, length, refl, sym, ap, ◌∙◌, subst, arith}
 use Rattle.std.specs.Prelude.{nat_le}
 use Rattle.std.proofs.lemmas.Bool.{leb-true}
 use Rattle.std.proofs.lemmas.List.{length-append}
@@ -19,9 +19,10 @@ use Rattle.pool_message.specs.Sent.{sent_refs}
 use Rattle.pool_message.specs.declared.event.PoolEvent.{PoolEvent}
 use Rattle.layer_stage.specs.Room.{slots_needed, places_needed, headers_met, most_counted, most_kept, CountsWithin}
 use Rattle.stack_queue.specs.declared.tasks.PoolTask.{PoolTask}
-use Rattle.stack_queue.specs.Pending.{tasks_seen, tasks_refs, TasksLie}
+use Rattle.stack_queue.specs.Pending.{first_task, tasks_seen, tasks_refs, TasksLie}
 use Rattle.stack_queue.specs.Stages.{Stand}
 use Rattle.stack_queue.specs.Going.{Begun, Now, BeginsWell, Going, weight_of}
+use Rattle.stack_queue.proofs.Lists.{IsFirst}
 use Rattle.stack_queue.proofs.Asked.{few_tasks, counts_within, headers_within, slots_within, places_within}
 use Rattle.stack_queue.proofs.Stages.{few_refs, visit_is, layer_at_place, covers_at, moved_all, stands, states_are}
 use Rattle.stack_queue.proofs.Steps.{visit_of, visit_goes, visit_falls, output_goes, output_falls}
@@ -61,12 +62,19 @@ module _ {S : Type 0} (place : S → ℕ) (layer : S → LayerTree) (refs : S �
     (b : Begun) (well : BeginsWell b) (p : List Held) (stages : List S) (stand : Stand place layer Ready b.stack p stages)
     (tasks : List PoolTask) (out : List (Dir × PoolEvent)) (says : Predicted) (visits : ℕ)
     (going : Going b p (record { states = map (state p) stages; refs = flat_map refs stages; tasks = tasks; out = out; predicted = says; visits = visits }))
-    (t : PoolTask) (rest : List PoolTask) (is : tasks ≡ t ∷ rest) where
+    (at : ℕ) (is : IsFirst tasks at) where
+  -- the first task, and those behind it
+  abbrev t : PoolTask
+  t = first_task tasks
+
+  abbrev rest : List PoolTask
+  rest = drop 1 tasks
+
   abbrev now : Now
   now = record { states = map (state p) stages; refs = flat_map refs stages; tasks = t ∷ rest; out = out; predicted = says; visits = visits }
 
   front : Going b p (record { states = map (state p) stages; refs = flat_map refs stages; tasks = t ∷ rest; out = out; predicted = says; visits = visits })
-  front = subst (λ ts. Going b p (record { states = map (state p) stages; refs = flat_map refs stages; tasks = ts; out = out; predicted = says; visits = visits })) is going
+  front = subst (λ ts. Going b p (record { states = map (state p) stages; refs = flat_map refs stages; tasks = ts; out = out; predicted = says; visits = visits })) is.0 going
 
   -- an output has a place
   pub output_fits : length out < length b.out + task_weight b.stack b.first
@@ -78,17 +86,28 @@ module _ {S : Type 0} (place : S → ℕ) (layer : S → LayerTree) (refs : S �
     length-append b.out front.news,
   )
 
-  pub puts_out : is_place (length b.stack) t.at ≡ false →
+  pub puts_out : is_place (length b.stack) at ≡ false →
       Going b p (record { states = map (state p) stages; refs = flat_map refs stages; tasks = rest; out = out ++ (t.direction, t.event) ∷ []; predicted = says; visits = visits })
-  puts_out edge = output_goes b well p (map (state p) stages) (flat_map refs stages) t rest now front edge
+  puts_out edge = output_goes b well p (map (state p) stages) (flat_map refs stages) t rest now front
+      (ap (is_place (length b.stack)) is.1 ∙ edge)
 
-  pub falls_out : is_place (length b.stack) t.at ≡ false → suc (weight_of b p rest) ≤ weight_of b p tasks
-  falls_out edge = omega (arith, output_falls b well p (map (state p) stages) (flat_map refs stages) t rest now front edge, ap (weight_of b p) is)
+  pub falls_out : is_place (length b.stack) at ≡ false → suc (weight_of b p rest) ≤ weight_of b p tasks
+  falls_out edge = omega (
+    arith,
+    output_falls b well p (map (state p) stages) (flat_map refs stages) t rest now front (ap (is_place (length b.stack)) is.1 ∙ edge),
+    ap (weight_of b p) is.0,
+  )
 
   -- a visit has what it asks
-  module _ (placed : is_place (length b.stack) t.at ≡ true) (k : ℕ) (k_is : k ≡ t.at - 1) (d : S) where
+  module _ (at_place : is_place (length b.stack) at ≡ true) (k : ℕ) (k_at : k ≡ at - 1) (d : S) where
+    placed : is_place (length b.stack) t.at ≡ true
+    placed = ap (is_place (length b.stack)) is.1 ∙ at_place
+
+    k_is : k ≡ t.at - 1
+    k_is = k_at ∙ ap (λ n. n - 1) (sym is.1)
+
     lt : k < length b.stack
-    lt = let at = bounds (length b.stack) t.at placed in omega (arith, k_is, at.0, at.1)
+    lt = let within = bounds (length b.stack) t.at placed in omega (arith, k_is, within.0, within.1)
 
     pub counts_are : CountsWithin most_counted p
     counts_are = counts_within b well p (map (state p) stages) (flat_map refs stages) t rest now front
@@ -121,28 +140,35 @@ module _ {S : Type 0} (place : S → ℕ) (layer : S → LayerTree) (refs : S �
     all_covered : Covers p (flat_map refs stages ++ (taken ++ sent_refs out))
     all_covered = front.covers
 
-    pub covers_it : Covers p (refs (get_or stages k d) ++ taken)
-    covers_it = covers_at place layer refs Ready state frame few b.stack p stages stand k lt d taken (sent_refs out) all_covered
+    pub covers_it : Covers p (refs (get_or stages k d) ++ tasks_refs tasks)
+    covers_it = subst (λ ts. Covers p (refs (get_or stages k d) ++ tasks_refs ts)) (sym is.0)
+        (covers_at place layer refs Ready state frame few b.stack p stages stand k lt d taken (sent_refs out) all_covered)
 
     -- and behind it the run goes on
     module _ (q : List Held) (s' : S) (after : List PoolTask) (decided : Predicted)
-        (moved : Moved p q (refs (get_or stages k d) ++ taken) (refs s' ++ tasks_refs after))
+        (moved : Moved p q (refs (get_or stages k d) ++ tasks_refs tasks) (refs s' ++ tasks_refs after))
         (spent : spare p ≤ spare q + slots_needed (layer (get_or stages k d)) t.direction (event_seen p t.event))
         (lie : TasksLie q after) (ready : Ready q s')
         (state_is : state q s' ≡ (step (place (get_or stages k d)) (layer (get_or stages k d)) (state p (get_or stages k d)) t.direction (event_seen p t.event)).state)
-        (tasks_are : tasks_seen q after ≡ tasks_seen p rest ++ tasks_of t.at (step (place (get_or stages k d)) (layer (get_or stages k d)) (state p (get_or stages k d)) t.direction (event_seen p t.event)).sent)
+        (tasks_are : tasks_seen q after ≡ tasks_seen p rest ++ tasks_of at (step (place (get_or stages k d)) (layer (get_or stages k d)) (state p (get_or stages k d)) t.direction (event_seen p t.event)).sent)
         (decided_is : decided ≡ as_predicted (step (place (get_or stages k d)) (layer (get_or stages k d)) (state p (get_or stages k d)) t.direction (event_seen p t.event)).decided) where
+      first_moved : Moved p q (refs (get_or stages k d) ++ taken) (refs s' ++ tasks_refs after)
+      first_moved = subst (λ ts. Moved p q (refs (get_or stages k d) ++ tasks_refs ts) (refs s' ++ tasks_refs after)) is.0 moved
+
       same_visit : step (place (get_or stages k d)) (layer (get_or stages k d)) (state p (get_or stages k d)) t.direction (event_seen p t.event)
           ≡ visit_of b p (map (state p) stages) t
       same_visit = visit_is place layer refs Ready state frame few b.stack p stages stand k lt d t.direction (event_seen p t.event)
           ∙ ap (λ i. step i (get_or b.stack i no_layer) (get_or (map (state p) stages) i no_state) t.direction (event_seen p t.event)) k_is
 
       shown : map (state q) (set stages k s') ≡ set (map (state p) stages) (t.at - 1) (visit_of b p (map (state p) stages) t).state
-      shown = states_are place layer refs Ready state frame few b.stack p stages stand k lt d taken (sent_refs out) all_covered q s' (tasks_refs after) moved ready
+      shown = states_are place layer refs Ready state frame few b.stack p stages stand k lt d taken (sent_refs out) all_covered q s' (tasks_refs after) first_moved ready
           ∙ (λ j. set (map (state p) stages) (k_is j) ((state_is ∙ ap (λ (v : Visited). v.state) same_visit) j))
 
+      shown_tasks : tasks_seen q after ≡ tasks_seen p rest ++ tasks_of t.at (visit_of b p (map (state p) stages) t).sent
+      shown_tasks = tasks_are ∙ (λ j. tasks_seen p rest ++ tasks_of (sym is.1 j) (same_visit j).sent)
+
       moved_on : Moved p q (flat_map refs stages ++ taken) (flat_map refs (set stages k s') ++ tasks_refs after)
-      moved_on = moved_all place layer refs Ready state frame few b.stack p stages stand k lt d taken (sent_refs out) all_covered q s' (tasks_refs after) moved
+      moved_on = moved_all place layer refs Ready state frame few b.stack p stages stand k lt d taken (sent_refs out) all_covered q s' (tasks_refs after) first_moved
 
       spent_on : spare p ≤ spare q + slots_needed (layer_at b.stack t.at) t.direction (event_seen p t.event)
       spent_on = omega (arith, spent, ap (λ l. slots_needed l t.direction (event_seen p t.event)) same_layer)
@@ -157,19 +183,19 @@ module _ {S : Type 0} (place : S → ℕ) (layer : S → LayerTree) (refs : S �
       })
       visit_goes_on = visit_goes b well p (map (state p) stages) (flat_map refs stages) t rest now front placed q (map (state q) (set stages k s'))
           (flat_map refs (set stages k s')) after decided moved_on spent_on lie shown
-          (tasks_are ∙ ap (λ (v : Visited). tasks_seen p rest ++ tasks_of t.at v.sent) same_visit)
+          shown_tasks
           (decided_is ∙ ap (λ (v : Visited). as_predicted v.decided) same_visit)
 
       pub visit_stands : place s' ≡ place (get_or stages k d) → layer s' ≡ layer (get_or stages k d) → Stand place layer Ready b.stack q (set stages k s')
       visit_stands same_place same_layer = stands place layer refs Ready state frame few b.stack p stages stand k lt d taken (sent_refs out) all_covered q s'
-          (tasks_refs after) moved ready same_place same_layer
+          (tasks_refs after) first_moved ready same_place same_layer
 
       pub falls : suc (weight_of b q after) ≤ weight_of b p tasks
       falls = omega (
         arith,
         visit_falls b well p (map (state p) stages) (flat_map refs stages) t rest now front placed q (map (state q) (set stages k s'))
             (flat_map refs (set stages k s')) after decided moved_on spent_on lie shown
-            (tasks_are ∙ ap (λ (v : Visited). tasks_seen p rest ++ tasks_of t.at v.sent) same_visit)
+            shown_tasks
             (decided_is ∙ ap (λ (v : Visited). as_predicted v.decided) same_visit),
-        ap (weight_of b p) is,
+        ap (weight_of b p) is.0,
       )

@@ -6,6 +6,7 @@ use Rattle.layer_ast.specs.declared.tokens.Dir.{Dir}
 use Rattle.layer_mean.specs.declared.run.Event.{Event}
 use Rattle.layer_mean.specs.Queue.{Task, beyond}
 use Rattle.pool_message.specs.Seen.{event_refs, event_seen, EventLies}
+use Rattle.pool_message.specs.Sent.{first_sent}
 use Rattle.pool_message.specs.declared.event.PoolEvent.{PoolEvent}
 use Rattle.stack_queue.specs.declared.tasks.PoolTask.{PoolTask}
 
@@ -21,6 +22,11 @@ tasks_refs ts = flat_map (λ t. event_refs t.event) ts
 -- Each lies in the pool.
 abbrev pub TasksLie : List Held → List PoolTask → Type 0
 TasksLie p ts = AllByRecursion (λ t. EventLies p t.event) ts
+
+-- The first of the tasks; where there is none, one that stands at the lower edge.
+abbrev pub first_task : List PoolTask → PoolTask
+first_task [] = record { at = 0; direction = (first_sent []).0; event = (first_sent []).1 }
+first_task (t ∷ ts) = t
 
 -- The tasks of events, the first of which stands at the first of some places, and so on.
 abbrev pub tasks_at : List ℕ → List (Dir × PoolEvent) → List PoolTask

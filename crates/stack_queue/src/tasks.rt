@@ -1,6 +1,6 @@
 //! Tasks that are pending.
 
-ghost use Rattle.std.specs.Prelude.{◌≡◌, ◌+◌, ◌<◌, ◌≤◌, [], ◌∷◌, ◌++◌, length, IfOk, IfSome, IfNone};
+ghost use Rattle.std.specs.Prelude.{◌≡◌, ◌+◌, ◌<◌, ◌≤◌, [], ◌∷◌, ◌++◌, drop, length, IfOk, IfSome, IfNone};
 ghost use Rattle.circular_buffer.specs.Buffer.{buffer};
 ghost use Rattle.stack_mean.specs.Acceptance.{largest_weight};
 
@@ -53,8 +53,8 @@ impl Tasks {
     ghost use Rattle.layer_desk.specs.Need.{most_above};
     ghost use Rattle.layer_eval.specs.Did.{as_predicted};
     ghost use Rattle.layer_stage.specs.Room.{slots_needed, places_needed, headers_met, most_counted, CountsWithin};
-    ghost use Rattle.pool_message.specs.Seen.{event_refs, event_seen, EventLies};
-    ghost use Rattle.stack_queue.specs.Pending.{tasks_seen, tasks_refs, TasksLie};
+    ghost use Rattle.pool_message.specs.Seen.{event_seen};
+    ghost use Rattle.stack_queue.specs.Pending.{first_task, tasks_seen, tasks_refs, TasksLie};
 
     /// No task, with places for the weight of a stack.
     pub fn fresh(alloc: Global, stack: &Stack) -> Result<Tasks, AllocError>
@@ -84,6 +84,15 @@ impl Tasks {
         put_place(&mut self.places, at);
     }
 
+    /// Where the first task stands, if there is one.
+    pub fn first(&self) -> Option<u16>
+        ensures none { IfNone result (self.now.items ≡ []) }
+        ensures some { IfSome result (λ at. (self.now.items ≡ first_task self.now.items ∷ drop 1 self.now.items)
+            × ((first_task self.now.items).at ≡ at)) }
+    {
+        self.places.front().copied()
+    }
+
     /// Takes the first task, if there is one.
     pub fn pop(&mut self) -> Option<PoolTask>
         ensures none { IfNone result (self.old.items ≡ []) }
@@ -106,42 +115,40 @@ impl Tasks {
         }
     }
 
-    /// A layer takes an event that stands at a place, and what it sends becomes tasks behind the others.
-    pub(crate) fn visit<S: Stage>(
-        &mut self,
-        at: u16,
-        stage: &mut S,
-        pool: &mut Pool,
-        direction: Dir,
-        event: PoolEvent,
-    ) -> Predicted
+    /// A layer takes the event of the first task, which stands at a place, and what it sends becomes tasks behind the others.
+    pub(crate) fn visit<S: Stage>(&mut self, at: u16, stage: &mut S, pool: &mut Pool) -> Predicted
+        requires some { 0 < length self.old.items }
+        requires at { (first_task self.old.items).at ≡ at }
         requires place { (1 ≤ at) × (at ≤ 255) }
         requires ready { S.ready pool.old stage.old }
-        requires event { EventLies pool.old event }
         requires lie { TasksLie pool.old self.old.items }
-        requires covers { Covers pool.old (S.refs stage.old ++ (event_refs event ++ tasks_refs self.old.items)) }
+        requires covers { Covers pool.old (S.refs stage.old ++ tasks_refs self.old.items) }
         requires counts { CountsWithin most_counted pool.old }
-        requires headers { headers_met direction (event_seen pool.old event) ≤ most_above }
-        requires slots { slots_needed (S.layer stage.old) direction (event_seen pool.old event) ≤ spare pool.old }
-        requires places { length self.old.items + places_needed (S.layer stage.old) direction (event_seen pool.old event) ≤ self.old.capacity }
+        requires headers { headers_met (first_task self.old.items).direction (event_seen pool.old (first_task self.old.items).event) ≤ most_above }
+        requires slots { slots_needed (S.layer stage.old) (first_task self.old.items).direction (event_seen pool.old (first_task self.old.items).event) ≤ spare pool.old }
+        requires places { length (drop 1 self.old.items)
+            + places_needed (S.layer stage.old) (first_task self.old.items).direction (event_seen pool.old (first_task self.old.items).event) ≤ self.old.capacity }
         ensures state { S.state pool.new stage.new ≡
-            (step (S.place stage.old) (S.layer stage.old) (S.state pool.old stage.old) direction (event_seen pool.old event)).state }
-        ensures tasks { tasks_seen pool.new self.new.items ≡ tasks_seen pool.old self.old.items ++ tasks_of at
-            (step (S.place stage.old) (S.layer stage.old) (S.state pool.old stage.old) direction (event_seen pool.old event)).sent }
+            (step (S.place stage.old) (S.layer stage.old) (S.state pool.old stage.old) (first_task self.old.items).direction (event_seen pool.old (first_task self.old.items).event)).state }
+        ensures tasks { tasks_seen pool.new self.new.items ≡ tasks_seen pool.old (drop 1 self.old.items) ++ tasks_of at
+            (step (S.place stage.old) (S.layer stage.old) (S.state pool.old stage.old) (first_task self.old.items).direction (event_seen pool.old (first_task self.old.items).event)).sent }
         ensures predicted { result ≡ as_predicted
-            (step (S.place stage.old) (S.layer stage.old) (S.state pool.old stage.old) direction (event_seen pool.old event)).decided }
+            (step (S.place stage.old) (S.layer stage.old) (S.state pool.old stage.old) (first_task self.old.items).direction (event_seen pool.old (first_task self.old.items).event)).decided }
 
-        // Its references, and those of the event and of the tasks, have moved in the pool, and no others.
-        ensures moved { Moved pool.old pool.new
-            (S.refs stage.old ++ (event_refs event ++ tasks_refs self.old.items)) (S.refs stage.new ++ tasks_refs self.new.items) }
-        ensures spent { spare pool.old ≤ spare pool.new + slots_needed (S.layer stage.old) direction (event_seen pool.old event) }
+        // Its references, and those of the tasks, have moved in the pool, and no others.
+        ensures moved { Moved pool.old pool.new (S.refs stage.old ++ tasks_refs self.old.items) (S.refs stage.new ++ tasks_refs self.new.items) }
+        ensures spent { spare pool.old ≤ spare pool.new
+            + slots_needed (S.layer stage.old) (first_task self.old.items).direction (event_seen pool.old (first_task self.old.items).event) }
         ensures capacity { self.new.capacity ≡ self.old.capacity }
         ensures ready { S.ready pool.new stage.new }
         ensures lie { TasksLie pool.new self.new.items }
         ensures place { S.place stage.new ≡ S.place stage.old }
         ensures layer { S.layer stage.new ≡ S.layer stage.old }
     {
-        let decided = stage.take(pool, direction, event, &mut self.events);
+        let Some(_at) = self.places.pop_front() else {
+            unreachable!();
+        };
+        let decided = stage.take(pool, &mut self.events);
         go_on(&mut self.places, &self.events, at);
         decided
     }

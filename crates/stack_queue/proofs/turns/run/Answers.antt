@@ -2,17 +2,19 @@ use Rattle.std.proofs.Common.{◌+◌, ◌≤◌, ◌++◌, ◌-◌, map, flat_m
 use Rattle.std.proofs.lemmas.List.{length-map}
 use Rattle.layer_mean.specs.Queue.{is_place}
 use Rattle.typed_layer.specs.Places.{rc_tree}
+use Rattle.weight_laws.specs.Runs.{pending_weight}
 use Rattle.event_graph.specs.Answer.{stack_tree}
 use Rattle.event_graph.proofs.Judged.{accepted_is}
 use Rattle.layer_desk.specs.Need.{most_places}
 use Rattle.layer_eval.specs.Did.{as_predicted}
 use Rattle.pool_message.specs.Sent.{sent_seen}
+use Rattle.stack_queue.specs.Pending.{tasks_seen}
 use Rattle.stack_queue.proofs.Ends.{begins_well, begins, ended_at}
 use Rattle.stack_queue.proofs.Turn.{goes_with, placed_at, edge_at, output_fits, puts_out, falls_out, counts_are, headers_are, slots_suffice, places_suffice, covers_it, visit_goes_on, visit_stands, falls}
 use Rattle.stack_queue.proofs.turns.run.Goals as goal
 
-pub loop-task-init : goal.loop-task-init
-loop-task-init g c =
+pub loop-at-init : goal.loop-at-init
+loop-at-init g c =
     let states = map (g.S.Stage.state c.args.pool.now) c.args.stages.now in
     let refs = flat_map g.S.Stage.refs c.args.stages.now in
     let accepts = accepted_is (stack_tree c.args.stack.now) c.args.stack.now.accepted in
@@ -28,139 +30,141 @@ loop-task-init g c =
       refl,
     )
 
-pub push-requires-then-is_edge : goal.push-requires-then-is_edge
-push-requires-then-is_edge g c = omega (
+pub leave-requires-clause-room : goal.leave-requires-clause-room
+leave-requires-clause-room g c = omega (
   arith,
   output_fits g.S.Stage.place g.S.Stage.layer g.S.Stage.refs g.S.Stage.ready g.S.Stage.state g.met.S.Stage.frame g.met.S.Stage.few
-      _ c.loop-task.invariant.0 c.loop-task.pool c.loop-task.stages c.loop-task.invariant.2 c.loop-task.tasks.items
-      c.loop-task.out.items c.loop-task.predicted c.loop-task.visits c.loop-task.invariant.1 c.in-Some.task c.pop.new.self.items c.in-Some.ensures.some,
+      _ c.loop-at.invariant.0 c.loop-at.pool c.loop-at.stages c.loop-at.invariant.2 c.loop-at.tasks.items
+      c.loop-at.out.items c.loop-at.predicted c.loop-at.visits c.loop-at.invariant.1 c.in-Some.at c.in-Some.ensures.some,
   c.requires.out,
-  c.loop-task.invariant.4,
+  c.loop-at.invariant.4,
 )
 
-pub loop-task-smaller-then-is_edge : goal.loop-task-smaller-then-is_edge
-loop-task-smaller-then-is_edge g c =
-    falls_out g.S.Stage.place g.S.Stage.layer g.S.Stage.refs g.S.Stage.ready g.S.Stage.state g.met.S.Stage.frame g.met.S.Stage.few
-    _ c.loop-task.invariant.0 c.loop-task.pool c.loop-task.stages c.loop-task.invariant.2 c.loop-task.tasks.items
-    c.loop-task.out.items c.loop-task.predicted c.loop-task.visits c.loop-task.invariant.1 c.in-Some.task c.pop.new.self.items c.in-Some.ensures.some
-    (ap (λ n. is_place n c.in-Some.task.at) (sym c.places.ensures) ∙ edge_at c.places.result c.in-Some.task.at c.is_edge.result c.is_edge.ensures c.if-is_edge.true)
+pub loop-at-smaller-then-is_edge : goal.loop-at-smaller-then-is_edge
+loop-at-smaller-then-is_edge g c = omega (
+  arith,
+  falls_out g.S.Stage.place g.S.Stage.layer g.S.Stage.refs g.S.Stage.ready g.S.Stage.state g.met.S.Stage.frame g.met.S.Stage.few
+      _ c.loop-at.invariant.0 c.loop-at.pool c.loop-at.stages c.loop-at.invariant.2 c.loop-at.tasks.items
+      c.loop-at.out.items c.loop-at.predicted c.loop-at.visits c.loop-at.invariant.1 c.in-Some.at c.in-Some.ensures.some
+      (ap (λ n. is_place n c.in-Some.at) (sym c.places.ensures) ∙ edge_at c.places.result c.in-Some.at c.is_edge.result c.is_edge.ensures c.if-is_edge.true),
+  ap (λ x. pending_weight (stack_tree c.args.stack.now) (tasks_seen c.loop-at.pool x.items)) c.leave.ensures.rest,
+)
 
-pub loop-task-preserved-then-is_edge : goal.loop-task-preserved-then-is_edge
-loop-task-preserved-then-is_edge g c = (
-  c.loop-task.invariant.0,
-  goes_with _ c.loop-task.pool _
+pub loop-at-preserved-then-is_edge : goal.loop-at-preserved-then-is_edge
+loop-at-preserved-then-is_edge g c = (
+  c.loop-at.invariant.0,
+  goes_with _ c.loop-at.pool _
       (puts_out g.S.Stage.place g.S.Stage.layer g.S.Stage.refs g.S.Stage.ready g.S.Stage.state g.met.S.Stage.frame g.met.S.Stage.few
-      _ c.loop-task.invariant.0 c.loop-task.pool c.loop-task.stages c.loop-task.invariant.2 c.loop-task.tasks.items
-      c.loop-task.out.items c.loop-task.predicted c.loop-task.visits c.loop-task.invariant.1 c.in-Some.task c.pop.new.self.items c.in-Some.ensures.some
-      (ap (λ n. is_place n c.in-Some.task.at) (sym c.places.ensures) ∙ edge_at c.places.result c.in-Some.task.at c.is_edge.result c.is_edge.ensures c.if-is_edge.true))
+      _ c.loop-at.invariant.0 c.loop-at.pool c.loop-at.stages c.loop-at.invariant.2 c.loop-at.tasks.items
+      c.loop-at.out.items c.loop-at.predicted c.loop-at.visits c.loop-at.invariant.1 c.in-Some.at c.in-Some.ensures.some
+      (ap (λ n. is_place n c.in-Some.at) (sym c.places.ensures) ∙ edge_at c.places.result c.in-Some.at c.is_edge.result c.is_edge.ensures c.if-is_edge.true))
       _ _ _ _ (search rules) (search rules) (search rules) (search rules),
-  c.loop-task.invariant.2,
-  c.pop.ensures.capacity ∙ c.loop-task.invariant.3,
-  ap (λ x. x.capacity) c.push-then-is_edge.ensures ∙ c.loop-task.invariant.4,
+  c.loop-at.invariant.2,
+  ap (λ x. x.capacity) c.leave.ensures.rest ∙ c.loop-at.invariant.3,
+  ap (λ x. x.capacity) c.leave.ensures.out ∙ c.loop-at.invariant.4,
 )
 
 pub visit-decided-requires-clause-covers : goal.visit-decided-requires-clause-covers
 visit-decided-requires-clause-covers g c =
     covers_it g.S.Stage.place g.S.Stage.layer g.S.Stage.refs g.S.Stage.ready g.S.Stage.state g.met.S.Stage.frame g.met.S.Stage.few
-    _ c.loop-task.invariant.0 c.loop-task.pool c.loop-task.stages c.loop-task.invariant.2 c.loop-task.tasks.items
-    c.loop-task.out.items c.loop-task.predicted c.loop-task.visits c.loop-task.invariant.1 c.in-Some.task c.pop.new.self.items c.in-Some.ensures.some
-    (ap (λ n. is_place n c.in-Some.task.at) (sym c.places.ensures) ∙ placed_at c.places.result c.in-Some.task.at c.is_edge.result c.is_edge.ensures c.if-is_edge.false)
+    _ c.loop-at.invariant.0 c.loop-at.pool c.loop-at.stages c.loop-at.invariant.2 c.loop-at.tasks.items
+    c.loop-at.out.items c.loop-at.predicted c.loop-at.visits c.loop-at.invariant.1 c.in-Some.at c.in-Some.ensures.some
+    (ap (λ n. is_place n c.in-Some.at) (sym c.places.ensures) ∙ placed_at c.places.result c.in-Some.at c.is_edge.result c.is_edge.ensures c.if-is_edge.false)
     (c.from.result - 1) (ap (λ n. n - 1) c.from.ensures) c.index-stages-from.result
 
 pub visit-decided-requires-clause-counts : goal.visit-decided-requires-clause-counts
 visit-decided-requires-clause-counts g c =
     counts_are g.S.Stage.place g.S.Stage.layer g.S.Stage.refs g.S.Stage.ready g.S.Stage.state g.met.S.Stage.frame g.met.S.Stage.few
-    _ c.loop-task.invariant.0 c.loop-task.pool c.loop-task.stages c.loop-task.invariant.2 c.loop-task.tasks.items
-    c.loop-task.out.items c.loop-task.predicted c.loop-task.visits c.loop-task.invariant.1 c.in-Some.task c.pop.new.self.items c.in-Some.ensures.some
-    (ap (λ n. is_place n c.in-Some.task.at) (sym c.places.ensures) ∙ placed_at c.places.result c.in-Some.task.at c.is_edge.result c.is_edge.ensures c.if-is_edge.false)
+    _ c.loop-at.invariant.0 c.loop-at.pool c.loop-at.stages c.loop-at.invariant.2 c.loop-at.tasks.items
+    c.loop-at.out.items c.loop-at.predicted c.loop-at.visits c.loop-at.invariant.1 c.in-Some.at c.in-Some.ensures.some
+    (ap (λ n. is_place n c.in-Some.at) (sym c.places.ensures) ∙ placed_at c.places.result c.in-Some.at c.is_edge.result c.is_edge.ensures c.if-is_edge.false)
     (c.from.result - 1) (ap (λ n. n - 1) c.from.ensures) c.index-stages-from.result
 
 pub visit-decided-requires-clause-headers : goal.visit-decided-requires-clause-headers
 visit-decided-requires-clause-headers g c =
     headers_are g.S.Stage.place g.S.Stage.layer g.S.Stage.refs g.S.Stage.ready g.S.Stage.state g.met.S.Stage.frame g.met.S.Stage.few
-    _ c.loop-task.invariant.0 c.loop-task.pool c.loop-task.stages c.loop-task.invariant.2 c.loop-task.tasks.items
-    c.loop-task.out.items c.loop-task.predicted c.loop-task.visits c.loop-task.invariant.1 c.in-Some.task c.pop.new.self.items c.in-Some.ensures.some
-    (ap (λ n. is_place n c.in-Some.task.at) (sym c.places.ensures) ∙ placed_at c.places.result c.in-Some.task.at c.is_edge.result c.is_edge.ensures c.if-is_edge.false)
+    _ c.loop-at.invariant.0 c.loop-at.pool c.loop-at.stages c.loop-at.invariant.2 c.loop-at.tasks.items
+    c.loop-at.out.items c.loop-at.predicted c.loop-at.visits c.loop-at.invariant.1 c.in-Some.at c.in-Some.ensures.some
+    (ap (λ n. is_place n c.in-Some.at) (sym c.places.ensures) ∙ placed_at c.places.result c.in-Some.at c.is_edge.result c.is_edge.ensures c.if-is_edge.false)
     (c.from.result - 1) (ap (λ n. n - 1) c.from.ensures) c.index-stages-from.result
 
 pub visit-decided-requires-clause-slots : goal.visit-decided-requires-clause-slots
 visit-decided-requires-clause-slots g c =
     slots_suffice g.S.Stage.place g.S.Stage.layer g.S.Stage.refs g.S.Stage.ready g.S.Stage.state g.met.S.Stage.frame g.met.S.Stage.few
-    _ c.loop-task.invariant.0 c.loop-task.pool c.loop-task.stages c.loop-task.invariant.2 c.loop-task.tasks.items
-    c.loop-task.out.items c.loop-task.predicted c.loop-task.visits c.loop-task.invariant.1 c.in-Some.task c.pop.new.self.items c.in-Some.ensures.some
-    (ap (λ n. is_place n c.in-Some.task.at) (sym c.places.ensures) ∙ placed_at c.places.result c.in-Some.task.at c.is_edge.result c.is_edge.ensures c.if-is_edge.false)
+    _ c.loop-at.invariant.0 c.loop-at.pool c.loop-at.stages c.loop-at.invariant.2 c.loop-at.tasks.items
+    c.loop-at.out.items c.loop-at.predicted c.loop-at.visits c.loop-at.invariant.1 c.in-Some.at c.in-Some.ensures.some
+    (ap (λ n. is_place n c.in-Some.at) (sym c.places.ensures) ∙ placed_at c.places.result c.in-Some.at c.is_edge.result c.is_edge.ensures c.if-is_edge.false)
     (c.from.result - 1) (ap (λ n. n - 1) c.from.ensures) c.index-stages-from.result
 
 pub visit-decided-requires-clause-places : goal.visit-decided-requires-clause-places
 visit-decided-requires-clause-places g c = omega (
   arith,
   places_suffice g.S.Stage.place g.S.Stage.layer g.S.Stage.refs g.S.Stage.ready g.S.Stage.state g.met.S.Stage.frame g.met.S.Stage.few
-      _ c.loop-task.invariant.0 c.loop-task.pool c.loop-task.stages c.loop-task.invariant.2 c.loop-task.tasks.items
-      c.loop-task.out.items c.loop-task.predicted c.loop-task.visits c.loop-task.invariant.1 c.in-Some.task c.pop.new.self.items c.in-Some.ensures.some
-      (ap (λ n. is_place n c.in-Some.task.at) (sym c.places.ensures) ∙ placed_at c.places.result c.in-Some.task.at c.is_edge.result c.is_edge.ensures c.if-is_edge.false)
+      _ c.loop-at.invariant.0 c.loop-at.pool c.loop-at.stages c.loop-at.invariant.2 c.loop-at.tasks.items
+      c.loop-at.out.items c.loop-at.predicted c.loop-at.visits c.loop-at.invariant.1 c.in-Some.at c.in-Some.ensures.some
+      (ap (λ n. is_place n c.in-Some.at) (sym c.places.ensures) ∙ placed_at c.places.result c.in-Some.at c.is_edge.result c.is_edge.ensures c.if-is_edge.false)
       (c.from.result - 1) (ap (λ n. n - 1) c.from.ensures) c.index-stages-from.result,
-  c.pop.ensures.capacity,
-  c.loop-task.invariant.3,
+  c.loop-at.invariant.3,
   c.requires.tasks.1,
 )
 
-pub loop-task-smaller : goal.loop-task-smaller
-loop-task-smaller g c =
+pub loop-at-smaller : goal.loop-at-smaller
+loop-at-smaller g c =
     falls g.S.Stage.place g.S.Stage.layer g.S.Stage.refs g.S.Stage.ready g.S.Stage.state g.met.S.Stage.frame g.met.S.Stage.few
-    _ c.loop-task.invariant.0 c.loop-task.pool c.loop-task.stages c.loop-task.invariant.2 c.loop-task.tasks.items
-    c.loop-task.out.items c.loop-task.predicted c.loop-task.visits c.loop-task.invariant.1 c.in-Some.task c.pop.new.self.items c.in-Some.ensures.some
-    (ap (λ n. is_place n c.in-Some.task.at) (sym c.places.ensures) ∙ placed_at c.places.result c.in-Some.task.at c.is_edge.result c.is_edge.ensures c.if-is_edge.false)
+    _ c.loop-at.invariant.0 c.loop-at.pool c.loop-at.stages c.loop-at.invariant.2 c.loop-at.tasks.items
+    c.loop-at.out.items c.loop-at.predicted c.loop-at.visits c.loop-at.invariant.1 c.in-Some.at c.in-Some.ensures.some
+    (ap (λ n. is_place n c.in-Some.at) (sym c.places.ensures) ∙ placed_at c.places.result c.in-Some.at c.is_edge.result c.is_edge.ensures c.if-is_edge.false)
     (c.from.result - 1) (ap (λ n. n - 1) c.from.ensures) c.index-stages-from.result
     c.visit-decided.new.pool c.visit-decided.new.stage c.visit-decided.new.self.items
     c.visit-decided.result c.visit-decided.ensures.moved c.visit-decided.ensures.spent c.visit-decided.ensures.lie c.visit-decided.ensures.ready
     c.visit-decided.ensures.state c.visit-decided.ensures.tasks c.visit-decided.ensures.predicted
 
-pub loop-task-preserved : goal.loop-task-preserved
-loop-task-preserved g c = (
-  c.loop-task.invariant.0,
+pub loop-at-preserved : goal.loop-at-preserved
+loop-at-preserved g c = (
+  c.loop-at.invariant.0,
   goes_with _ c.visit-decided.new.pool _
       (visit_goes_on g.S.Stage.place g.S.Stage.layer g.S.Stage.refs g.S.Stage.ready g.S.Stage.state g.met.S.Stage.frame g.met.S.Stage.few
-      _ c.loop-task.invariant.0 c.loop-task.pool c.loop-task.stages c.loop-task.invariant.2 c.loop-task.tasks.items
-      c.loop-task.out.items c.loop-task.predicted c.loop-task.visits c.loop-task.invariant.1 c.in-Some.task c.pop.new.self.items c.in-Some.ensures.some
-      (ap (λ n. is_place n c.in-Some.task.at) (sym c.places.ensures) ∙ placed_at c.places.result c.in-Some.task.at c.is_edge.result c.is_edge.ensures c.if-is_edge.false)
+      _ c.loop-at.invariant.0 c.loop-at.pool c.loop-at.stages c.loop-at.invariant.2 c.loop-at.tasks.items
+      c.loop-at.out.items c.loop-at.predicted c.loop-at.visits c.loop-at.invariant.1 c.in-Some.at c.in-Some.ensures.some
+      (ap (λ n. is_place n c.in-Some.at) (sym c.places.ensures) ∙ placed_at c.places.result c.in-Some.at c.is_edge.result c.is_edge.ensures c.if-is_edge.false)
       (c.from.result - 1) (ap (λ n. n - 1) c.from.ensures) c.index-stages-from.result
       c.visit-decided.new.pool c.visit-decided.new.stage c.visit-decided.new.self.items
       c.visit-decided.result c.visit-decided.ensures.moved c.visit-decided.ensures.spent c.visit-decided.ensures.lie c.visit-decided.ensures.ready
       c.visit-decided.ensures.state c.visit-decided.ensures.tasks c.visit-decided.ensures.predicted)
       _ _ _ _ (search rules) (search rules) (search rules) (search rules),
   visit_stands g.S.Stage.place g.S.Stage.layer g.S.Stage.refs g.S.Stage.ready g.S.Stage.state g.met.S.Stage.frame g.met.S.Stage.few
-      _ c.loop-task.invariant.0 c.loop-task.pool c.loop-task.stages c.loop-task.invariant.2 c.loop-task.tasks.items
-      c.loop-task.out.items c.loop-task.predicted c.loop-task.visits c.loop-task.invariant.1 c.in-Some.task c.pop.new.self.items c.in-Some.ensures.some
-      (ap (λ n. is_place n c.in-Some.task.at) (sym c.places.ensures) ∙ placed_at c.places.result c.in-Some.task.at c.is_edge.result c.is_edge.ensures c.if-is_edge.false)
+      _ c.loop-at.invariant.0 c.loop-at.pool c.loop-at.stages c.loop-at.invariant.2 c.loop-at.tasks.items
+      c.loop-at.out.items c.loop-at.predicted c.loop-at.visits c.loop-at.invariant.1 c.in-Some.at c.in-Some.ensures.some
+      (ap (λ n. is_place n c.in-Some.at) (sym c.places.ensures) ∙ placed_at c.places.result c.in-Some.at c.is_edge.result c.is_edge.ensures c.if-is_edge.false)
       (c.from.result - 1) (ap (λ n. n - 1) c.from.ensures) c.index-stages-from.result
       c.visit-decided.new.pool c.visit-decided.new.stage c.visit-decided.new.self.items
       c.visit-decided.result c.visit-decided.ensures.moved c.visit-decided.ensures.spent c.visit-decided.ensures.lie c.visit-decided.ensures.ready
       c.visit-decided.ensures.state c.visit-decided.ensures.tasks c.visit-decided.ensures.predicted
       c.visit-decided.ensures.place c.visit-decided.ensures.layer,
-  c.visit-decided.ensures.capacity ∙ c.pop.ensures.capacity ∙ c.loop-task.invariant.3,
-  c.loop-task.invariant.4,
+  c.visit-decided.ensures.capacity ∙ c.loop-at.invariant.3,
+  c.loop-at.invariant.4,
 )
 
 pub returns-clause-states : goal.returns-clause-states
 returns-clause-states g c =
-    let e = ended_at _ c.loop-task.pool _ c.in_default.ensures.none c.loop-task.invariant.1 in
+    let e = ended_at _ c.loop-at.pool _ c.in_default.ensures.none c.loop-at.invariant.1 in
     e.states ∙ ap (λ r. r.world.states) (sym e.is)
 
 pub returns-clause-outs : goal.returns-clause-outs
 returns-clause-outs g c =
-    let e = ended_at _ c.loop-task.pool _ c.in_default.ensures.none c.loop-task.invariant.1 in
+    let e = ended_at _ c.loop-at.pool _ c.in_default.ensures.none c.loop-at.invariant.1 in
     e.outs ∙ ap (λ r. sent_seen c.args.pool.now c.args.out.now.items ++ r.world.outs) (sym e.is)
 
 pub returns-clause-predicted : goal.returns-clause-predicted
 returns-clause-predicted g c =
-    let e = ended_at _ c.loop-task.pool _ c.in_default.ensures.none c.loop-task.invariant.1 in
+    let e = ended_at _ c.loop-at.pool _ c.in_default.ensures.none c.loop-at.invariant.1 in
     e.predicted ∙ ap (λ r. as_predicted r.world.decided) (sym e.is)
 
 pub returns-clause-visits : goal.returns-clause-visits
 returns-clause-visits g c =
-    let e = ended_at _ c.loop-task.pool _ c.in_default.ensures.none c.loop-task.invariant.1 in
+    let e = ended_at _ c.loop-at.pool _ c.in_default.ensures.none c.loop-at.invariant.1 in
     e.visits ∙ ap (λ r. c.args.visits.now + r.world.visits) (sym e.is)
 
 pub returns-clause-done : goal.returns-clause-done
 returns-clause-done g c =
-    let e = ended_at _ c.loop-task.pool _ c.in_default.ensures.none c.loop-task.invariant.1 in ap (λ r. r.tasks) e.is ∙ e.done
+    let e = ended_at _ c.loop-at.pool _ c.in_default.ensures.none c.loop-at.invariant.1 in ap (λ r. r.tasks) e.is ∙ e.done

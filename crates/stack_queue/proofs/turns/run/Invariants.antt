@@ -7,8 +7,8 @@ use Rattle.stack_queue.specs.Stages.{Stand}
 use Rattle.stack_queue.specs.Going.{Begun, BeginsWell, Going}
 use Rattle.stack_queue.proofs.turns.run.Given as goal
 
-abbrev pub invariant-loop-task : goal.invariant-loop-task
-invariant-loop-task g l =
+abbrev pub invariant-loop-at : goal.invariant-loop-at
+invariant-loop-at g l =
     let stack = stack_tree l.stack in
     let b : Begun = record {
       stack = stack;
@@ -32,5 +32,5 @@ invariant-loop-task g l =
     × (l.tasks.capacity ≡ l.fn.tasks.capacity)
     × (l.out.capacity ≡ l.fn.out.capacity)
 
-abbrev pub decreases-loop-task : goal.decreases-loop-task
-decreases-loop-task g l = pending_weight (stack_tree l.stack) (tasks_seen l.pool l.tasks.items)
+abbrev pub decreases-loop-at : goal.decreases-loop-at
+decreases-loop-at g l = pending_weight (stack_tree l.stack) (tasks_seen l.pool l.tasks.items)

@@ -1,0 +1,64 @@
+//! Events that a layer lets pass.
+
+ghost use Rattle.std.specs.Prelude.{◌≡◌, ◌<◌, List, length};
+ghost use Rattle.slot_pool.specs.Held.{Held};
+ghost use Rattle.layer_ast.specs.declared.tokens.Dir.TheVariants.{Up};
+ghost use Rattle.layer_mean.specs.Visit as spec;
+ghost use Rattle.layer_stage.specs.Front.{first_way, first_seen};
+ghost use Rattle.pool_message.specs.Seen.{seen_if};
+ghost use Rattle.typed_layer.specs.View.{layer_tree};
+ghost use Rattle.file_layer.specs.Passes.{is_passed};
+
+use layer_ast::Dir;
+use msg_core::{Fields, Header};
+use pool_message::{Events, PoolMessage};
+use typed_layer::TypedLayer;
+
+/// Whether the first of the events passes a layer as it is but for its header: the layer has no handler for it, and it goes down, or up behind
+/// the header `none` or behind nothing.
+pub(crate) fn lets_pass(layer: &TypedLayer, events: &Events) -> bool
+    requires { 0 < length events.now.items }
+    ensures { (p : List Held) → result ≡ is_passed (layer_tree layer.now) (first_way events.now.items) (first_seen p events.now.items) }
+{
+    match events.first() {
+        Some((direction, event)) => {
+            tag_met(direction, &event.message) == 0
+                && layer.handlers.find(direction, event.kind, 0).is_none()
+        }
+        None => unreachable!(),
+    }
+}
+
+/// The tag of the header that a layer pops off a message; 0 where it pops none.
+fn tag_met(direction: Dir, message: &Option<PoolMessage>) -> u8
+    ensures { (p : List Held) → result ≡ (spec.met direction (seen_if p message.now)).tag }
+{
+    match direction {
+        Dir::Up => first_tag(message),
+        Dir::Down => 0,
+    }
+}
+
+/// The tag of a message's first header; 0 where it has none.
+fn first_tag(message: &Option<PoolMessage>) -> u8
+    ensures { (p : List Held) → result ≡ (spec.met Up (seen_if p message.now)).tag }
+{
+    match message {
+        Some(message) => match message.headers().at(0) {
+            Some(header) => header.tag,
+            None => 0,
+        },
+        None => 0,
+    }
+}
+
+/// The header of a layer that has nothing to say.
+pub(crate) fn none_header(place: u8) -> Header
+    ensures { result ≡ spec.none_header place }
+{
+    Header {
+        layer: place,
+        tag: 0,
+        fields: Fields::none(),
+    }
+}

@@ -1,0 +1,78 @@
+-- Messages one behind the other: the last one is changed, or goes, and another takes the place of one.
+use Rattle.std.proofs.Common.{◌≡◌, ℕ, zero, suc, ◌+◌, ◌-◌, ◌<◌, ◌≤◌, List, [], ◌∷◌, ◌++◌, set, get_or, take, length, refl, sym, ap, ◌∙◌, arith}
+use Rattle.std.specs.Prelude.{slice_set, slice_get, None}
+use Rattle.std.proofs.Math.Seq.{take-set-lt}
+use Rattle.circular_buffer.specs.Buffer.{last_item}
+use Rattle.slot_pool.specs.Held.{Held}
+use Rattle.slot_pool.specs.References.{Moved, Covers}
+use Rattle.slot_pool.specs.Times.{times}
+use Rattle.slot_pool.proofs.Times.{times-append}
+use Rattle.slot_pool.proofs.References.{moved-chain, moved-beside, moved-reordered}
+use Rattle.layer_ast.specs.declared.tokens.Dir.{Dir}
+use Rattle.msg_core.specs.declared.message.Header.{Header}
+use Rattle.pool_message.specs.Moves.{Returned}
+use Rattle.pool_message.specs.Piled.{pile_refs, without_last, with_header_last}
+use Rattle.pool_message.specs.Seen.{refs, refs_if}
+use Rattle.pool_message.specs.Sent.{first_sent, bared, with_header}
+use Rattle.pool_message.specs.declared.event.PoolEvent.{PoolEvent}
+use Rattle.pool_message.specs.declared.message.PoolMessage.{PoolMessage}
+
+-- an event that gave its message away has none
+pub first_bared : (xs : List (Dir × PoolEvent)) (x y : Dir × PoolEvent) → y ≡ bared x → 0 < length xs → (first_sent (slice_set xs 0 y)).1.message ≡ None
+first_bared [] x y is some = absurd (omega (arith, some))
+first_bared (z ∷ xs) x y is some = ap (λ (e : Dir × PoolEvent). e.1.message) is
+
+-- references are those of the last, and of the others
+parted_at : (ms : List PoolMessage) (n i : ℕ) → n + 1 ≡ length ms →
+    times i (pile_refs ms) ≡ times i (pile_refs (take n ms)) + times i (refs_if (slice_get ms n))
+parted_at [] n i is = absurd (omega (arith, is))
+parted_at (m ∷ []) zero i is = omega (arith, times-append i (refs m) [])
+parted_at (m ∷ m' ∷ ms) zero i is = absurd (omega (arith, is))
+parted_at (m ∷ ms) (suc n) i is =
+    let rest = parted_at ms n i (omega (arith, is)) in
+    omega (arith, rest, times-append i (refs m) (pile_refs ms), times-append i (refs m) (pile_refs (take n ms)))
+
+pub parted : (ms : List PoolMessage) (i : ℕ) → 0 < length ms →
+    times i (pile_refs ms) ≡ times i (pile_refs (without_last ms)) + times i (refs_if (last_item ms))
+parted ms i some = parted_at ms (length ms - 1) i (omega (arith, some))
+
+pub covers_last : (p : List Held) (ms : List PoolMessage) → 0 < length ms → Covers p (pile_refs ms) → Covers p (refs_if (last_item ms))
+covers_last p ms some covers = record { covers = λ i. omega (arith, covers.covers i, parted ms i some) }
+
+-- the last one's reference is given back
+module _ (p q : List Held) (ms : List PoolMessage) (some : 0 < length ms) (gone : Returned p q (refs_if (last_item ms))) where
+  last_gone : Moved p q (pile_refs ms) (pile_refs (without_last ms))
+  last_gone = moved-reordered p q (refs_if (last_item ms) ++ pile_refs (without_last ms)) ([] ++ pile_refs (without_last ms))
+      (pile_refs ms) (pile_refs (without_last ms))
+      (λ i. omega (arith, parted ms i some, times-append i (refs_if (last_item ms)) (pile_refs (without_last ms)))) (λ i. refl)
+      (moved-beside p q (refs_if (last_item ms)) [] (pile_refs (without_last ms)) gone.moved)
+
+  pub covers_others : Covers p (pile_refs ms) → Covers q (pile_refs (without_last ms))
+  covers_others covers = record { covers = λ i. omega (arith, covers.covers i, last_gone.counts i) }
+
+  pub moved_others : (s : List Held) (from : List ℕ) → Moved s p from (pile_refs ms) → Moved s q from (pile_refs (without_last ms))
+  moved_others s from moved = moved-chain s p q from (pile_refs ms) (pile_refs (without_last ms)) moved last_gone
+
+-- the last one gets a header
+headed_at : (header : Header) (ms : List PoolMessage) (k : ℕ) (d m : PoolMessage) → k < length ms → m ≡ with_header header (get_or ms k d) →
+    take (suc k) (set ms k m) ≡ with_header_last header (take (suc k) ms)
+headed_at header [] k d m few is = absurd (omega (arith, few))
+headed_at header (x ∷ ms) zero d m few is = ap (λ (z : PoolMessage). z ∷ []) is
+headed_at header (x ∷ []) (suc k) d m few is = absurd (omega (arith, few))
+headed_at header (x ∷ x' ∷ ms) (suc k) d m few is = ap (λ zs. x ∷ zs) (headed_at header (x' ∷ ms) k d m (omega (arith, few)) is)
+
+pub headed_last : (header : Header) (ms : List PoolMessage) (n : ℕ) (d m : PoolMessage) → 0 < n → n ≤ length ms → m ≡ with_header header (get_or ms (n - 1) d) →
+    take n (set ms (n - 1) m) ≡ with_header_last header (take n ms)
+headed_last header ms n d m some few is =
+    let one : n ≡ suc (n - 1) = omega (arith, some) in
+    ap (λ j. take j (set ms (n - 1) m)) one ∙ headed_at header ms (n - 1) d m (omega (arith, some, few)) is
+    ∙ sym (ap (λ j. with_header_last header (take j ms)) one)
+
+-- one is taken away, and another put there
+set_again : {A : Type 0} (xs : List A) (k : ℕ) (a b : A) → set (set xs k a) k b ≡ set xs k b
+set_again [] k a b = refl
+set_again (x ∷ xs) zero a b = refl
+set_again (x ∷ xs) (suc k) a b = ap (λ zs. x ∷ zs) (set_again xs k a b)
+
+pub replaced : {A : Type 0} (xs : List A) (n k : ℕ) (a b : A) → k < n → take n (set (set xs k a) k b) ≡ set (take n xs) k b
+replaced xs n k a b lt = ap (take n) (set_again xs k a b) ∙ take-set-lt n xs k b lt

@@ -1,0 +1,135 @@
+//! Places for messages.
+
+ghost use Rattle.std.specs.Prelude.{◌≡◌};
+
+use crate::message::PoolMessage;
+use msg_core::Header;
+use slot_pool::Pool;
+use std::marker::Model;
+
+/// A place in which there is a message or none. A message has room for 24 headers, of which most have few: so it isn't moved by value from
+/// place to place, but taken over with the headers that there are.
+pub struct Place {
+    message: PoolMessage,
+    is_full: bool,
+}
+
+impl Model for Place {
+    ghost use Rattle.std.specs.Prelude.{◌≡◌, false, if◌then◌else◌, Option, Some, None};
+    ghost use Rattle.pool_message.specs.declared.message.PoolMessage.{PoolMessage};
+
+    ghost Value = { Option PoolMessage };
+
+    ghost view = { λ p. if p.is_full then Some p.message else None };
+
+    ghost invariant = { λ p. p.is_full ≡ false → p.message.body ≡ None };
+}
+
+impl Place {
+    ghost use Rattle.std.specs.Prelude.{◌≡◌, ◌<◌, length, Some, None, option_copied, option_map, is_some, true, [], IfSome};
+    ghost use Rattle.slot_pool.specs.References.{Covers};
+    ghost use Rattle.msg_core.specs.Headers.{most_headers};
+    ghost use Rattle.pool_message.specs.Seen.{refs_if, bodiless};
+    ghost use Rattle.pool_message.specs.Sent.{first_header, with_header, without_first};
+    ghost use Rattle.pool_message.specs.Moves.{Returned};
+
+    /// A place without a message.
+    pub fn empty() -> Place
+        ensures { result ≡ None }
+    {
+        Place {
+            message: PoolMessage::nothing(),
+            is_full: false,
+        }
+    }
+
+    /// A place with this message.
+    pub fn of(message: PoolMessage) -> Place
+        ensures { result ≡ Some message }
+    {
+        Place {
+            message,
+            is_full: true,
+        }
+    }
+
+    /// The message, if there is one.
+    pub fn get(&self) -> Option<&PoolMessage>
+        ensures { option_copied result ≡ self.now }
+    {
+        if self.is_full {
+            Some(&self.message)
+        } else {
+            None
+        }
+    }
+
+    /// Takes what lies in another place, which is then empty. This one was empty.
+    pub fn take_over(&mut self, other: &mut Place)
+        requires { self.old ≡ None }
+        ensures taken { self.new ≡ other.old }
+        ensures left { other.new ≡ None }
+    {
+        if other.is_full {
+            self.message.take_over(&mut other.message);
+            self.is_full = true;
+            other.is_full = false;
+        }
+    }
+
+    /// Gives its message to another, which has no bytes, and is then empty. The place was full.
+    pub fn hand_over(&mut self, message: &mut PoolMessage)
+        requires full { is_some self.old ≡ true }
+        requires bare { message.old.body ≡ None }
+        ensures handed { Some message.new ≡ self.old }
+        ensures left { self.new ≡ None }
+    {
+        message.take_over(&mut self.message);
+        self.is_full = false;
+    }
+
+    /// Puts a header in front of those of the message, if there is one.
+    pub fn push_header(&mut self, header: Header)
+        requires { IfSome self.old (λ m. length m.headers < most_headers) }
+        ensures { self.new ≡ option_map (with_header header) self.old }
+    {
+        if self.is_full {
+            self.message.push_header(header);
+        }
+    }
+
+    /// Takes the first header off the message, if there is one.
+    pub fn pop_header(&mut self) -> Option<Header>
+        ensures first { result ≡ first_header self.old }
+        ensures rest { self.new ≡ option_map without_first self.old }
+    {
+        if self.is_full {
+            self.message.pop_header()
+        } else {
+            None
+        }
+    }
+
+    /// Gives the reference of the message back, if there is one, and is empty then.
+    pub fn let_go(&mut self, pool: &mut Pool)
+        requires { Covers pool.old (refs_if self.old) }
+        ensures empty { self.new ≡ None }
+        ensures returned { Returned pool.old pool.new (refs_if self.old) }
+    {
+        if self.is_full {
+            self.message.let_go(pool);
+            self.is_full = false;
+        }
+    }
+
+    /// Ends a place without a message.
+    pub fn close(self)
+        requires { self ≡ None }
+    {
+        let Place {
+            message,
+            is_full: _,
+        } = self;
+        message.close();
+    }
+}
