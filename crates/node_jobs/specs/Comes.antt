@@ -68,10 +68,10 @@ abbrev pub task_of : (w : Node) (told : Option Shelved) → Good w told → Task
 task_of w told good = record { stack = good.node.stack; plan = good.node.plan; words = node_words w.turns w.me w.patience layered }
 
 abbrev pub before : Around → Beyond → Whereabouts
-before a n = whereabouts (outside.around a.output n.faults n.sends n.told) n.clock
+before a n = whereabouts (outside.surrounding a.output n.faults n.sends n.told) n.clock
 
 abbrev pub behind : Around → Beyond → Whereabouts
-behind a n = whereabouts (outside.around a.output_after n.faults_after n.sends_after n.told_after) n.clock_after
+behind a n = whereabouts (outside.surrounding a.output_after n.faults_after n.sends_after n.told_after) n.clock_after
 
 -- It ran, and something holds of its run.
 pub record Ran (w : Node) (a : Around) (n : Beyond) (Holds : Task → Whereabouts → Whereabouts → Type 0) : Type 0 where
