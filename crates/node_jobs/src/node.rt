@@ -2,7 +2,6 @@
 
 ghost use Rattle.chain_laws.specs.Runs.{TypedStack};
 ghost use Rattle.event_graph.specs.Answer.{stack_tree};
-ghost use Rattle.sink_lines.specs.Tells.{tells};
 ghost use Rattle.job_ends.specs.Comes.{around};
 ghost use Rattle.job_ends.specs.Shown.{shown};
 ghost use Rattle.node_loop.specs.Around as outside;
@@ -33,11 +32,7 @@ pub fn run_node<S: Shelf, O: Sink, N: Links, C: Clock>(
     clock: &mut C,
 ) -> Ending
     ensures { NodeComes (words_of node.now)
-        (around (S.told shelf.old) (S.faults shelf.old) (S.faults shelf.new)
-        (tells (O.contents out.old) (O.failures out.old) (O.faults out.old))
-        (tells (O.contents out.new) (O.failures out.new) (O.faults out.new)))
-        (beyond (N.faults links.old) (N.faults links.new) (N.send_faults links.old) (N.send_faults links.new) (N.told links.old) (N.told links.new)
-        (C.told clock.old) (C.told clock.new)) (shown result) }
+        (around S.Shelf O.Sink shelf.old shelf.new out.old out.new) (beyond N.Links C.Clock links.old links.new clock.old clock.new) (shown result) }
 {
     match fetch_stack(alloc, node.file, shelf) {
         Ok(stack) => match fetch_plan(alloc, node.plan, shelf) {
