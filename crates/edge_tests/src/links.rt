@@ -26,7 +26,7 @@ const PEERS: [Peer; 3] = [
 ];
 
 fn room(alloc: Global) -> Result<Vec<u8>, AllocError>
-    ensures { IfOk result (λ room. length room.items ≡ 65507) }
+    ensures { IfOk result (λ room. length room.items ≡ MOST_BYTES) }
 {
     vec![in alloc; 0; MOST_BYTES]
 }

@@ -5,6 +5,7 @@ use Rattle.std.proofs.Common.{ap}
 use Rattle.std.proofs.lemmas.Bool.{lt-ltb}
 use Rattle.clap.specs.Walk.{Text}
 use Rattle.outside.specs.Shelf.{Shelved, found_in}
+use Rattle.layer_ast.specs.Spells.{longest_file}
 use Rattle.audit_mean.specs.Finding as finding
 use Rattle.audit_mean.specs.Report.{running, report_from}
 use Rattle.audit_mean.specs.Text.{lines_of}
@@ -14,6 +15,7 @@ use Rattle.job_mean.specs.Status.{Ended, file_refused, report_refused, read_fail
 use Rattle.program_mean.specs.Headline.{ReadsStack}
 use Rattle.job_ends.specs.Comes.{Around, file_name, Comes}
 use Rattle.job_ends.proofs.Comes.{longer}
+use Rattle.file_jobs.specs.declared.report.TheConstants.{MOST_REPORT}
 use Rattle.file_jobs.specs.Stack.{StopsAt, IsRefused}
 use Rattle.file_jobs.specs.Report as report
 
@@ -31,10 +33,10 @@ stops job a _ reads s same = absurd s
 
 -- A file of too many bytes.
 pub large_file : (name : Text) (told : Option Shelved) (reads reads_after : ℕ) →
-    IfSome told (λ shelf. IsSomeAnd (found_in shelf name) (λ file. 1048576 < length file)) → reads_after ≡ reads →
+    IfSome told (λ shelf. IsSomeAnd (found_in shelf name) (λ file. longest_file < length file)) → reads_after ≡ reads →
     IsRefused name told reads reads_after too_large
 large_file name told reads reads_after h sound =
-    let l = longer told name 1048576 h in record { file = l.0; found = l.1; refused = l.2; sound = sound }
+    let l = longer told name longest_file h in record { file = l.0; found = l.1; refused = l.2; sound = sound }
 
 -- An audit that stopped at its file came to that.
 pub audit_stops : (name : Text) (law : Law) (a : Around) (end : Ended) → report.StopsAt name law a.told a.reads a.reads_after end →
@@ -47,11 +49,11 @@ audit_stops name law a _ s same = absurd s
 
 -- A report of too many bytes.
 pub large_report : (name : Text) (law : Law) (told : Option Shelved) (reads reads_after : ℕ) →
-    IfSome told (λ shelf. IsSomeAnd (found_in shelf name) (λ file. 67108864 < length file)) → reads_after ≡ reads →
+    IfSome told (λ shelf. IsSomeAnd (found_in shelf name) (λ file. MOST_REPORT < length file)) → reads_after ≡ reads →
     report.IsNone name law told reads reads_after finding.too_large
-large_report name law told reads reads_after h sound = let l = longer told name 67108864 h in record {
+large_report name law told reads reads_after h sound = let l = longer told name MOST_REPORT h in record {
   file = l.0;
   found = l.1;
-  refused = ap (λ b. if b then Err finding.too_large else finding.judged law (report_from running 1 (lines_of l.0))) (lt-ltb 67108864 (length l.0) l.2);
+  refused = ap (λ b. if b then Err finding.too_large else finding.judged law (report_from running 1 (lines_of l.0))) (lt-ltb MOST_REPORT (length l.0) l.2);
   sound = sound;
 }

@@ -1,7 +1,6 @@
 //! The job `audit`.
 
 ghost use Rattle.job_mean.specs.Job as job;
-ghost use Rattle.sink_lines.specs.Tells.{tells};
 ghost use Rattle.job_ends.specs.Comes.{Comes, around};
 ghost use Rattle.job_ends.specs.Shown.{shown};
 
@@ -21,9 +20,7 @@ pub fn audit_report<S: Shelf, O: Sink>(
     out: &mut O,
 ) -> Ending
     ensures { Comes (job.audit file.now law)
-        (around (S.told shelf.old) (S.faults shelf.old) (S.faults shelf.new)
-        (tells (O.contents out.old) (O.failures out.old) (O.faults out.old))
-        (tells (O.contents out.new) (O.failures out.new) (O.faults out.new))) (shown result) }
+        (around S.Shelf O.Sink shelf.old shelf.new out.old out.new) (shown result) }
 {
     match fetch_report(alloc, file, law, shelf) {
         Ok(output) => write(&output, out),

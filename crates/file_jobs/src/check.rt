@@ -27,9 +27,7 @@ pub fn check_stack<S: Shelf, O: Sink>(
     out: &mut O,
 ) -> Ending
     ensures { Comes (job.check file.now)
-        (around (S.told shelf.old) (S.faults shelf.old) (S.faults shelf.new)
-        (tells (O.contents out.old) (O.failures out.old) (O.faults out.old))
-        (tells (O.contents out.new) (O.failures out.new) (O.faults out.new))) (shown result) }
+        (around S.Shelf O.Sink shelf.old shelf.new out.old out.new) (shown result) }
 {
     match fetch_stack(alloc, file, shelf) {
         Ok(stack) => accept(alloc, places_of(stack), out),

@@ -5,6 +5,8 @@ use Rattle.std.specs.Option.{option_map}
 use Rattle.clap.specs.Walk.{Text}
 use Rattle.outside.specs.Count.{Rose}
 use Rattle.outside.specs.Shelf.{Shelved, found_in, after_read}
+use Rattle.outside.specs.declared.shelf.Shelf as shelves
+use Rattle.outside.specs.declared.sink.Sink as outputs
 use Rattle.audit_mean.specs.Finding.{AuditFault, audit_of}
 use Rattle.audit_mean.specs.declared.law.Law.{Law}
 use Rattle.audit_mean.specs.declared.law.Finding.{Finding}
@@ -21,7 +23,7 @@ use Rattle.program_mean.specs.Judged.{Means, Refuses}
 use Rattle.program_mean.specs.Output.{HasRoom, finding_line}
 use Rattle.program_mean.specs.Second.{second_fault}
 use Rattle.program_mean.specs.Headline.{ReadsStack, IsNoReport, whole_end}
-use Rattle.sink_lines.specs.Tells.{Tells}
+use Rattle.sink_lines.specs.Tells.{Tells, tells}
 use Rattle.sink_lines.specs.Lines.{Begins, Gains, Fails}
 
 -- What a job began with and what it left: what the shelf told, its count of faults before and after, and
@@ -33,14 +35,19 @@ pub record Around : Type 0 where
   pub output : Tells
   pub output_after : Tells
 
-abbrev pub around : Option Shelved → ℕ → ℕ → Tells → Tells → Around
-around told reads reads_after output output_after = record {
+abbrev pub surrounding : Option Shelved → ℕ → ℕ → Tells → Tells → Around
+surrounding told reads reads_after output output_after = record {
   told = told;
   reads = reads;
   reads_after = reads_after;
   output = output;
   output_after = output_after;
 }
+
+-- The same, by what a shelf and an output were before and after.
+abbrev pub around : {S O : Type 0} → shelves.Ghosts S → outputs.Ghosts O → S → S → O → O → Around
+around s o shelf shelf_after out out_after = surrounding (s.told shelf) (s.faults shelf) (s.faults shelf_after)
+    (tells (o.contents out) (o.failures out) (o.faults out)) (tells (o.contents out_after) (o.failures out_after) (o.faults out_after))
 
 -- Nothing was read and nothing was written.
 pub record Nothing (a : Around) : Type 0 where

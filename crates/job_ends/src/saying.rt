@@ -22,7 +22,7 @@ const FILE_REFUSED: u8 = 1;
 const SECOND_REFUSED: u8 = 3;
 
 /// The status where memory ran out.
-const NO_MEMORY: u8 = 7;
+pub const NO_MEMORY: u8 = 7;
 
 /// Says how a job ended, and answers the program's status.
 pub fn say<E: Sink>(alloc: Global, ending: Ending, err: &mut E) -> u8

@@ -13,6 +13,7 @@ use Rattle.script_text.specs.Plan.{IsRunnable}
 use Rattle.node_laws.proofs.Stages.{plans_are_ordered, plans_ask}
 use Rattle.node_loop.specs.Feeding.{IsOwn}
 use Rattle.play_jobs.proofs.Stops.{too_large}
+use Rattle.play_jobs.specs.Second.{longest_second}
 use Rattle.node_jobs.specs.Plan.{IsServable}
 
 -- what an application asks for is a member's own
@@ -34,5 +35,5 @@ servable text plan is runs =
     record { runs = runs; ordered = plans_are_ordered text plan is; own = each_own plan.turns (plans_ask text plan is) }
 
 -- A text of too many bytes is refused.
-pub large_plan : (text : List ℕ) → 4194304 < length text → node_plan text ≡ Err too_long
+pub large_plan : (text : List ℕ) → longest_second < length text → node_plan text ≡ Err too_long
 large_plan text more = ap (λ b. if b then Err too_long else plan_of_lines (line_count text + 1) (said_lines text)) (too_large text more)

@@ -225,8 +225,11 @@ module _ (words : List Text) (w : Node) (a : Around) (n : Beyond) (is : job_of_w
       heard_all = r.told.faults;
     }
 
-  broken_write : Ran w a n (Broken sink.Failed) → Reached words w a n write_failed
-  broken_write r = let f = fails_part a.output a.output_after _ r.served.written in record {
+  -- so it ended, behind that part
+  broken : (end : Ended) (e : SinkError) (r : Ran w a n (Broken e)) (part : List ℕ) → Appends a.output.contents a.output_after.contents part →
+      ((print : List LayerTree → List ℕ) (errors : Errors) (said : List ℕ) →
+      Ends print (the_run (Some r.good.file) (Some r.good.second) r.served.s r.served.sent part errors said) end) → Reached words w a n end
+  broken end e r part put ends = record {
     file = Some r.good.file;
     second = Some r.good.second;
     met = r.good.found;
@@ -236,26 +239,19 @@ module _ (words : List Text) (w : Node) (a : Around) (n : Beyond) (is : job_of_w
     clock = r.served.told.clock;
     network = r.served.told.network;
     lost = r.served.told.sends;
-    written = f.0;
-    put = f.2;
-    ends = λ print e said. (r.served.written.rose, began r.good r.sound sink.Failed r.served f.0 f.1 f.3 print e said);
+    written = part;
+    put = put;
+    ends = ends;
   }
 
+  broken_write : Ran w a n (Broken sink.Failed) → Reached words w a n write_failed
+  broken_write r = let f = fails_part a.output a.output_after _ r.served.written in
+      broken write_failed sink.Failed r f.0 f.2
+      (λ print e said. (r.served.written.rose, began r.good r.sound sink.Failed r.served f.0 f.1 f.3 print e said))
+
   broken_memory : Ran w a n (Broken sink.Memory) → Reached words w a n no_memory
-  broken_memory r = let f = begins_part a.output a.output_after _ r.served.written in record {
-    file = Some r.good.file;
-    second = Some r.good.second;
-    met = r.good.found;
-    beside = r.good.beside;
-    surroundings = r.served.s;
-    sent = r.served.sent;
-    clock = r.served.told.clock;
-    network = r.served.told.network;
-    lost = r.served.told.sends;
-    written = f.0;
-    put = f.2;
-    ends = λ print e said. inr (began r.good r.sound sink.Memory r.served f.0 f.1 f.3 print e said);
-  }
+  broken_memory r = let f = begins_part a.output a.output_after _ r.served.written in
+      broken no_memory sink.Memory r f.0 f.2 (λ print e said. inr (began r.good r.sound sink.Memory r.served f.0 f.1 f.3 print e said))
 
   -- it ended before it ran
   module _ (untouched : Untouched n) where

@@ -2,6 +2,8 @@
 use Rattle.std.specs.Prelude.{◌≡◌, ◌⊎◌, ℕ, List, Option, Some}
 use Rattle.clap.specs.Walk.{Text}
 use Rattle.outside.specs.Links.{Network}
+use Rattle.outside.specs.declared.clock.Clock as clocks
+use Rattle.outside.specs.declared.links.Links as networks
 use Rattle.outside.specs.Shelf.{Shelved}
 use Rattle.outside.specs.declared.sink.SinkError.{SinkError}
 use Rattle.outside.specs.declared.sink.SinkError.TheVariants.{Failed, Memory}
@@ -25,8 +27,8 @@ pub record Beyond : Type 0 where
   pub clock : Option (List ℕ)
   pub clock_after : Option (List ℕ)
 
-abbrev pub beyond : (faults faults_after sends sends_after : ℕ) → (told told_after : Option Network) → (clock clock_after : Option (List ℕ)) → Beyond
-beyond faults faults_after sends sends_after told told_after clock clock_after = record {
+abbrev pub lying_beyond : (faults faults_after sends sends_after : ℕ) → (told told_after : Option Network) → (clock clock_after : Option (List ℕ)) → Beyond
+lying_beyond faults faults_after sends sends_after told told_after clock clock_after = record {
   faults = faults;
   faults_after = faults_after;
   sends = sends;
@@ -36,6 +38,12 @@ beyond faults faults_after sends sends_after told told_after clock clock_after =
   clock = clock;
   clock_after = clock_after;
 }
+
+-- The same, by what links and a clock were before and after.
+abbrev pub beyond : {N C : Type 0} → networks.Ghosts N → clocks.Ghosts C → N → N → C → C → Beyond
+beyond n c links links_after clock clock_after =
+    lying_beyond (n.faults links) (n.faults links_after) (n.send_faults links) (n.send_faults links_after) (n.told links) (n.told links_after)
+    (c.told clock) (c.told clock_after)
 
 -- A job had nothing to do with them.
 pub record Untouched (n : Beyond) : Type 0 where
@@ -68,10 +76,10 @@ abbrev pub task_of : (w : Node) (told : Option Shelved) → Good w told → Task
 task_of w told good = record { stack = good.node.stack; plan = good.node.plan; words = node_words w.turns w.me w.patience layered }
 
 abbrev pub before : Around → Beyond → Whereabouts
-before a n = whereabouts (outside.around a.output n.faults n.sends n.told) n.clock
+before a n = whereabouts (outside.surrounding a.output n.faults n.sends n.told) n.clock
 
 abbrev pub behind : Around → Beyond → Whereabouts
-behind a n = whereabouts (outside.around a.output_after n.faults_after n.sends_after n.told_after) n.clock_after
+behind a n = whereabouts (outside.surrounding a.output_after n.faults_after n.sends_after n.told_after) n.clock_after
 
 -- It ran, and something holds of its run.
 pub record Ran (w : Node) (a : Around) (n : Beyond) (Holds : Task → Whereabouts → Whereabouts → Type 0) : Type 0 where

@@ -2,7 +2,6 @@
 
 ghost use Rattle.chain_laws.specs.Runs.{TypedStack};
 ghost use Rattle.event_graph.specs.Answer.{stack_tree};
-ghost use Rattle.sink_lines.specs.Tells.{tells};
 ghost use Rattle.job_ends.specs.Comes.{around};
 ghost use Rattle.job_ends.specs.Shown.{shown};
 ghost use Rattle.node_loop.specs.Around as outside;
@@ -33,11 +32,7 @@ pub fn run_node<S: Shelf, O: Sink, N: Links, C: Clock>(
     clock: &mut C,
 ) -> Ending
     ensures { NodeComes (words_of node.now)
-        (around (S.told shelf.old) (S.faults shelf.old) (S.faults shelf.new)
-        (tells (O.contents out.old) (O.failures out.old) (O.faults out.old))
-        (tells (O.contents out.new) (O.failures out.new) (O.faults out.new)))
-        (beyond (N.faults links.old) (N.faults links.new) (N.send_faults links.old) (N.send_faults links.new) (N.told links.old) (N.told links.new)
-        (C.told clock.old) (C.told clock.new)) (shown result) }
+        (around S.Shelf O.Sink shelf.old shelf.new out.old out.new) (beyond N.Links C.Clock links.old links.new clock.old clock.new) (shown result) }
 {
     match fetch_stack(alloc, node.file, shelf) {
         Ok(stack) => match fetch_plan(alloc, node.plan, shelf) {
@@ -61,12 +56,8 @@ fn serve_plan<O: Sink, N: Links, C: Clock>(
     requires typed { TypedStack (stack_tree stack) }
     requires servable { IsServable plan.now }
     ensures { RunsPlan (stack_tree stack) plan.now (words_of node.now)
-        (whereabouts
-        (outside.around (tells (O.contents out.old) (O.failures out.old) (O.faults out.old)) (N.faults links.old) (N.send_faults links.old)
-        (N.told links.old)) (C.told clock.old))
-        (whereabouts
-        (outside.around (tells (O.contents out.new) (O.failures out.new) (O.faults out.new)) (N.faults links.new) (N.send_faults links.new)
-        (N.told links.new)) (C.told clock.new)) (shown result) }
+        (whereabouts (outside.around O.Sink N.Links out.old links.old) (C.told clock.old))
+        (whereabouts (outside.around O.Sink N.Links out.new links.new) (C.told clock.new)) (shown result) }
 {
     let count = plan.peers.slice().len() as u8;
     if !are_below(&node.members, count) {
@@ -78,27 +69,20 @@ fn serve_plan<O: Sink, N: Links, C: Clock>(
     };
     match open(alloc, stack, plan.group, plan.stamp, count) {
         Ok(opened) => {
-            let course = Course {
-                plan,
-                me: &me,
-                turns: node.turns,
-            };
             let Opened {
                 stack,
                 plans,
                 mut run,
             } = opened;
-            let served = serve(
-                alloc,
-                &mut run.world,
-                &stack,
-                &plans,
-                course,
-                node.patience,
-                out,
-                links,
-                clock,
-            );
+            let course = Course {
+                stack: &stack,
+                plans: &plans,
+                plan,
+                me: &me,
+                turns: node.turns,
+            };
+            let group = &mut run.world;
+            let served = serve(alloc, group, course, node.patience, out, links, clock);
             run.close();
             ending(served)
         }

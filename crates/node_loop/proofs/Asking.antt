@@ -21,13 +21,13 @@ use Rattle.node_laws.specs.Network.{Tells}
 use Rattle.node_laws.specs.Stages.{Course, from_asking}
 use Rattle.node_loop.specs.Around.{Around}
 use Rattle.node_loop.specs.Bearing.{Bears, cut_short}
-use Rattle.node_loop.specs.Course.{Advances, Asked, Begun, CutOff, DeafAt, Hears, Now, SoFar, Within, nothing_left, now}
+use Rattle.node_loop.specs.Course.{Advances, Asked, Begun, CutOff, DeafAt, FedOn, Hears, Now, SoFar, Within, nothing_left, now}
 use Rattle.node_loop.specs.Feeding.{IsUp, RestsAgain}
 use Rattle.node_loop.specs.declared.desk.Desk.{Desk}
 use Rattle.node_loop.specs.declared.error.NodeError.{NodeError}
 use Rattle.node_loop.specs.declared.error.NodeError.TheVariants.{Link, Write, Memory}
 use Rattle.node_loop.proofs.Steps.{asked_heard, asked_so, borne_so, cut_line, cut_none}
-use Rattle.node_loop.proofs.Turning.{FedOn, again_then, up_at, up_on}
+use Rattle.node_loop.proofs.Turning.{again_then, up_at, up_on}
 
 -- A network that tells met what a member heard.
 tells_met : (id : ℕ) (met : Met) (before after : Option Network) → IfSome before (λ n. next_met id n ≡ met) → after ≡ option_map (after_recv id) before →

@@ -10,6 +10,7 @@ use Rattle.outside.specs.declared.sink.SinkError.TheVariants as sink
 use Rattle.layer_mean.specs.Tree.{LayerTree}
 use Rattle.packet_mean.specs.ChainedState.{IsNumber}
 use Rattle.chain_laws.specs.Runs.{TypedStack}
+use Rattle.packet_laws.specs.Strays.{AreNumbered}
 use Rattle.member_laws.proofs.Members.{first_world_is_chained}
 use Rattle.script_mean.specs.declared.plan.NodePlan.{NodePlan}
 use Rattle.stack_mean.specs.Acceptance.{largest_weight}
@@ -27,7 +28,7 @@ use Rattle.node_laws.specs.Network.{Goes, Tells}
 use Rattle.node_laws.specs.Stages.{Course, StoppedGoesOn, from_turn}
 use Rattle.node_laws.proofs.Groups.{first_views_are_within}
 use Rattle.node_laws.proofs.Sendings.{tells_same}
-use Rattle.node_loop.specs.Around.{Around, around}
+use Rattle.node_loop.specs.Around.{Around, surrounding}
 use Rattle.node_loop.specs.Bearing.{cut_short}
 use Rattle.node_loop.specs.Course.{Begun, Made, MadeAll, Now, SoFar, now}
 use Rattle.node_loop.specs.Feeding.{IsUp, Rests}
@@ -47,7 +48,7 @@ all_listen listening n (id ∷ ids) few listen = ((few.0, listen.0), all_listen 
 -- All members listened.
 pub reached : (out : output.Tells) (count faults after sends sends_after : ℕ) (told told_after : Option Network) →
     (after ≡ faults) × Tells (Listened count) told told_after → sends_after ≡ sends →
-    Reaches (Listened count) (around out faults sends told) (around out after sends_after told_after)
+    Reaches (Listened count) (surrounding out faults sends told) (surrounding out after sends_after told_after)
 reached out count faults after sends sends_after told told_after listened sent =
     record { output = refl; faults = listened.0; sends = sent; told = listened.1 }
 
@@ -75,10 +76,12 @@ module _ (stack : List LayerTree) (plan : NodePlan) (me : List ℕ) (turns patie
     places = places;
   }
 
-  pub up_first : (plans : List Plan) (c : Peopled) (d : Desk) (listening : ℕ → Option ℕ) →
+  pub up_first : (plans : List Plan) (c : Peopled) (d : Desk) (listening : ℕ → Option ℕ) → TypedStack stack → AreNumbered plans →
       Rests stack plans (length plan.peers) c d (first_of_plan stack plan) →
       AllByRecursion (λ id. id < length plan.peers) me → AllByRecursion (λ id. listening id ≡ Some (length plan.peers)) me → IsUp stack plans c d listening me
-  up_first plans c d listening rests few listen = record {
+  up_first plans c d listening typed numbered rests few listen = record {
+    typed = typed;
+    numbered = numbered;
     members = length plan.peers;
     world = first_of_plan stack plan;
     rests = rests;
@@ -128,15 +131,15 @@ module _ (stack : List LayerTree) (plan : NodePlan) (me : List ℕ) (turns patie
     -- They didn't all listen.
     pub not_all_listen : (out : output.Tells) (clock : Option (List ℕ)) (faults after sends sends_after : ℕ) (told told_after : Option Network)
         (e : NodeError) → ListensAll (length me) faults after told told_after (Err e) → sends_after ≡ sends →
-        Serves task (whereabouts (around out faults sends told) clock) (whereabouts (around out after sends_after told_after) clock) (Err e)
+        Serves task (whereabouts (surrounding out faults sends told) clock) (whereabouts (surrounding out after sends_after told_after) clock) (Err e)
     not_all_listen out clock faults after sends sends_after told told_after Link listened sent =
-        inl (not_listened stack plan me turns patience (whereabouts (around out faults sends told) clock)
-        (whereabouts (around out after sends_after told_after) clock) refl listened.0 sent refl listened.1)
+        inl (not_listened stack plan me turns patience (whereabouts (surrounding out faults sends told) clock)
+        (whereabouts (surrounding out after sends_after told_after) clock) refl listened.0 sent refl listened.1)
     not_all_listen out clock faults after sends sends_after told told_after Write listened sent = absurd listened
     not_all_listen out clock faults after sends sends_after told told_after Memory listened sent =
-        let b = around out after sends_after told_after in
-        broken stack plan me turns patience goes_on (whereabouts (around out faults sends told) clock) b
-        (listens_untouched (ListenedSome (length me)) (around out faults sends told) b
+        let b = surrounding out after sends_after told_after in
+        broken stack plan me turns patience goes_on (whereabouts (surrounding out faults sends told) clock) b
+        (listens_untouched (ListenedSome (length me)) (surrounding out faults sends told) b
         record { output = refl; faults = listened.0; sends = sent; told = listened.1 } (λ n n' l. (l.some, l.is)))
         sink.Memory b clock (nothing_done stack plan me turns patience b clock)
 
@@ -156,13 +159,13 @@ module _ (stack : List LayerTree) (plan : NodePlan) (me : List ℕ) (turns patie
       -- All were, and the last line was put, or that was cut short.
       pub all_served : (at : Now) → MadeAll stack (plans_of stack) course (begun stack plan me turns patience from a.clock) at →
           (out : output.Tells) (r : Result (Unit {0}) SinkError) → Wrote (end_line at.desk.events ∷ []) at.around.output out r →
-          Serves task a (whereabouts (around out at.around.faults at.around.sends at.around.told) at.clock) (cut_short r)
+          Serves task a (whereabouts (surrounding out at.around.faults at.around.sends at.around.told) at.clock) (cut_short r)
       all_served at made out (Ok done) wrote = made_all stack plan me turns patience a from listened at made out wrote
       all_served at made out (Err sink.Failed) wrote =
           broken stack plan me turns patience goes_on a from still sink.Failed
-          (around out at.around.faults at.around.sends at.around.told) at.clock
+          (surrounding out at.around.faults at.around.sends at.around.told) at.clock
           (last_cut stack plan me turns patience from a.clock at out sink.Failed made wrote)
       all_served at made out (Err sink.Memory) wrote =
           broken stack plan me turns patience goes_on a from still sink.Memory
-          (around out at.around.faults at.around.sends at.around.told) at.clock
+          (surrounding out at.around.faults at.around.sends at.around.told) at.clock
           (last_cut stack plan me turns patience from a.clock at out sink.Memory made wrote)

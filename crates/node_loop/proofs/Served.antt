@@ -30,7 +30,7 @@ use Rattle.node_laws.proofs.Doings.{notes_are_of_doings}
 use Rattle.node_laws.proofs.Losses.{sends_are_handed, written_is_of_notes}
 use Rattle.node_laws.proofs.Parts.{goes_handed, goes_met, lost_none}
 use Rattle.node_laws.proofs.Sendings.{tells_as, tells_same, tells_then}
-use Rattle.node_loop.specs.Around.{Around, RoseBy, Told, around, count_on}
+use Rattle.node_loop.specs.Around.{Around, RoseBy, Told, count_on, surrounding}
 use Rattle.node_loop.specs.Course.{Begun, CutOff, MadeAll, MadeSome, Now, SoFar, nothing_left}
 use Rattle.node_loop.specs.Listening.{Listened, ListenedNot}
 use Rattle.node_loop.specs.Passing.{HandedSome, Stops}
@@ -179,15 +179,15 @@ module _ (stack : List LayerTree) (plan : NodePlan) (me : List ℕ) (turns patie
     })
 
     run_told : (out : output.Tells) →
-        IsTold task s a (whereabouts (around out at.around.faults at.around.sends at.around.told) at.clock) (RanOver task s)
+        IsTold task s a (whereabouts (surrounding out at.around.faults at.around.sends at.around.told) at.clock) (RanOver task s)
     run_told out = told_so (RanOver task s) (Listened (length me)) a
-        (whereabouts (around out at.around.faults at.around.sends at.around.told) at.clock) from s listened
+        (whereabouts (surrounding out at.around.faults at.around.sends at.around.told) at.clock) from s listened
         (so.faults ∙ ap (count_on from.faults) (sym so.borne_are)) so.sends so.clock_told ran
 
   -- All turns were made, and the last line put.
   pub made_all : (a : Whereabouts) (from : Around) → Reaches (Listened (length me)) a.around from → (at : Now) →
       MadeAll stack plans course (begun from a.clock) at → (out : output.Tells) → Gains at.around.output out (end_line at.desk.events ∷ []) →
-      MadeAllTurns task a (whereabouts (around out at.around.faults at.around.sends at.around.told) at.clock)
+      MadeAllTurns task a (whereabouts (surrounding out at.around.faults at.around.sends at.around.told) at.clock)
   made_all a from listened at all out put =
       let so = all.so in
       let t = turns in
@@ -226,7 +226,7 @@ module _ (stack : List LayerTree) (plan : NodePlan) (me : List ℕ) (turns patie
   -- The put of the last line was cut short.
   pub last_cut : (from : Around) (clock : Option (List ℕ)) (at : Now) (out : output.Tells) (e : SinkError) →
       MadeAll stack plans course (begun from clock) at → Wrote (end_line at.desk.events ∷ []) at.around.output out (Err e) →
-      CutOff stack plans course (begun from clock) e (around out at.around.faults at.around.sends at.around.told) at.clock
+      CutOff stack plans course (begun from clock) e (surrounding out at.around.faults at.around.sends at.around.told) at.clock
   last_cut from clock at out e all wrote =
       let so = all.so in
       let front = acts_of stack plans first so.done so.failed in

@@ -15,7 +15,7 @@ use Rattle.world_core.specs.Standing.{Peopled}
 use Rattle.node_laws.specs.Doings.{Doing, does}
 use Rattle.node_laws.specs.Stages.{Course, from_ticks, own_doing}
 use Rattle.node_loop.specs.Around.{Around}
-use Rattle.node_loop.specs.Course.{Advances, Begun, SoFar, Within, now}
+use Rattle.node_loop.specs.Course.{Advances, Begun, FedOn, SoFar, Within, now}
 use Rattle.node_loop.specs.Feeding.{IsUp, RestsAgain}
 use Rattle.node_loop.specs.declared.desk.Desk.{Desk}
 
@@ -60,6 +60,8 @@ module _ (stack : List LayerTree) (plans : List Plan) where
       RestsAgain stack plans g d g' d' → ((m : ℕ) → heard' m ≡ heard m) → IsUp stack plans g' d' heard' ids
   up_on g g' d d' heard heard' ids up again same =
       let on = again up.members up.world up.rests in record {
+        typed = up.typed;
+        numbered = up.numbered;
         members = up.members;
         world = on.0;
         rests = on.1;
@@ -70,6 +72,8 @@ module _ (stack : List LayerTree) (plans : List Plan) where
   pub up_at : (g : Peopled) (d : Desk) (heard : ℕ → Option ℕ) (ids : List ℕ) (i : ℕ) → i < length ids →
       IsUp stack plans g d heard ids → IsUp stack plans g d heard (get_or ids i 0 ∷ [])
   up_at g d heard ids i lt up = record {
+    typed = up.typed;
+    numbered = up.numbered;
     members = up.members;
     world = up.world;
     rests = up.rests;
@@ -79,21 +83,17 @@ module _ (stack : List LayerTree) (plans : List Plan) where
   pub up_any : (g : Peopled) (d : Desk) (heard : ℕ → Option ℕ) (ids : List ℕ) (x : ℕ) → list_any (λ id. x == id) ids ≡ true →
       IsUp stack plans g d heard ids → IsUp stack plans g d heard (x ∷ [])
   up_any g d heard ids x any up = record {
+    typed = up.typed;
+    numbered = up.numbered;
     members = up.members;
     world = up.world;
     rests = up.rests;
     listen = (each_any (λ id. (id < up.members) × (heard id ≡ Some up.members)) ids x any up.listen, tt);
   }
 
-  -- What a stage comes to that begins at one place and ends at another: what is told of an event that is fed.
-  abbrev pub FedOn : ScriptEvent → Peopled → Peopled → Desk → Desk → Around → Around → Result (Unit {0}) SinkError → Type 0
-  FedOn event g g' d d' a a' r = (c : Course) (b : Begun) (moments answers borne : ℕ) (rest : List ℕ → List Heard → List Doing) (clock : Option (List ℕ)) →
-      Within c b moments answers borne → SoFar stack plans c b moments answers (λ later more. does event ∷ rest later more) borne (now g d a clock) →
-      Advances stack plans c b moments answers rest borne (now g' d' a' clock) r
-
   pub of_bytes : (id : ℕ) (bytes bytes' : List ℕ) (g g' : Peopled) (d d' : Desk) (a a' : Around) (r : Result (Unit {0}) SinkError) → bytes' ≡ bytes →
-      FedOn (Raw id bytes') g g' d d' a a' r → FedOn (Raw id bytes) g g' d d' a a' r
-  of_bytes id bytes bytes' g g' d d' a a' r same fed = subst (λ bytes. FedOn (Raw id bytes) g g' d d' a a' r) same fed
+      FedOn stack plans (Raw id bytes') g g' d d' a a' r → FedOn stack plans (Raw id bytes) g g' d d' a a' r
+  of_bytes id bytes bytes' g g' d d' a a' r same fed = subst (λ bytes. FedOn stack plans (Raw id bytes) g g' d d' a a' r) same fed
 
   -- So many members took a tick.
   pub record Ticked (moment : ℕ) (me : List ℕ) (i : ℕ) (g g' : Peopled) (d d' : Desk) (a a' : Around) (heard heard' : ℕ → Option ℕ) : Type 0 where
@@ -119,7 +119,7 @@ module _ (stack : List LayerTree) (plans : List Plan) where
       ticked_up up = up_at g' d' heard' me i lt (up_on g g' d d' heard heard' me up ticked.rests ticked.listening)
 
       module _ (g'' : Peopled) (d'' : Desk) (a'' : Around) where
-        pub ticked_then : (r : Result (Unit {0}) SinkError) → FedOn (Tick (get_or me i 0) moment) g' g'' d' d'' a' a'' r →
+        pub ticked_then : (r : Result (Unit {0}) SinkError) → FedOn stack plans (Tick (get_or me i 0) moment) g' g'' d' d'' a' a'' r →
             (c : Course) (b : Begun) (moments answers t left borne : ℕ) (clock : Option (List ℕ)) → Within c b moments answers borne →
             SoFar stack plans c b moments answers (from_ticks c t left moment me) borne (now g d a clock) →
             Advances stack plans c b moments answers (from_ticks c t left moment (drop (i + 1) me)) borne (now g'' d'' a'' clock) r
@@ -128,7 +128,7 @@ module _ (stack : List LayerTree) (plans : List Plan) where
             (subst (λ ids. SoFar stack plans c b moments answers (from_ticks c t left moment ids) borne (now g' d' a' clock))
             (at_drop_more (λ ids. ids) me i 0 lt) (ticked.told c b moments answers t left borne clock within so))
 
-        pub ticked_more : {heard'' : ℕ → Option ℕ} → FedOn (Tick (get_or me i 0) moment) g' g'' d' d'' a' a'' (Ok tt) →
+        pub ticked_more : {heard'' : ℕ → Option ℕ} → FedOn stack plans (Tick (get_or me i 0) moment) g' g'' d' d'' a' a'' (Ok tt) →
             RestsAgain stack plans g' d' g'' d'' → d''.events ≡ d'.events + 1 → ((m : ℕ) → heard'' m ≡ heard' m) →
             Ticked moment me (i + 1) g g'' d d'' a a'' heard heard''
         ticked_more fed again counted same = record {
@@ -149,7 +149,7 @@ module _ (stack : List LayerTree) (plans : List Plan) where
 
   -- An event of the plan, if it is of an own member.
   module _ (me : List ℕ) (event : ScriptEvent) (g : Peopled) (d : Desk) (a : Around) where
-    pub own_then : (g' : Peopled) (d' : Desk) (a' : Around) (r : Result (Unit {0}) SinkError) → list_any (λ id. member_of event == id) me ≡ true → FedOn event g g' d d' a a' r →
+    pub own_then : (g' : Peopled) (d' : Desk) (a' : Around) (r : Result (Unit {0}) SinkError) → list_any (λ id. member_of event == id) me ≡ true → FedOn stack plans event g g' d d' a a' r →
         (c : Course) (b : Begun) (moments answers borne : ℕ) (rest : List ℕ → List Heard → List Doing) (clock : Option (List ℕ)) →
         Within c b moments answers borne →
         SoFar stack plans c b moments answers (λ later more. own_doing me event ++ rest later more) borne (now g d a clock) →

@@ -4,6 +4,8 @@ use Rattle.std.specs.Option.{option_map}
 use Rattle.outside.specs.Clock.{next_moment}
 use Rattle.outside.specs.Count.{last_count, next_count}
 use Rattle.outside.specs.Links.{Network}
+use Rattle.outside.specs.declared.links.Links as links
+use Rattle.outside.specs.declared.sink.Sink as outputs
 use Rattle.sink_lines.specs.Tells as sink
 
 -- What the output tells; how many listens and receives failed, and how many sends; and what the network tells.
@@ -13,8 +15,15 @@ pub record Around : Type 0 where
   pub sends : ℕ
   pub told : Option Network
 
-abbrev pub around : sink.Tells → ℕ → ℕ → Option Network → Around
-around output faults sends told = record { output = output; faults = faults; sends = sends; told = told }
+abbrev pub surrounding : sink.Tells → ℕ → ℕ → Option Network → Around
+surrounding output faults sends told = record { output = output; faults = faults; sends = sends; told = told }
+
+-- What an output tells, and what it and links tell together.
+abbrev pub output_of : {O : Type 0} → outputs.Ghosts O → O → sink.Tells
+output_of o out = sink.tells (o.contents out) (o.failures out) (o.faults out)
+
+abbrev pub around : {O N : Type 0} → outputs.Ghosts O → links.Ghosts N → O → N → Around
+around o n out links = surrounding (output_of o out) (n.faults links) (n.send_faults links) (n.told links)
 
 -- A count behind so many more failed calls.
 abbrev pub count_on : ℕ → ℕ → ℕ

@@ -3,7 +3,10 @@ use Rattle.std.specs.Prelude.{◌≡◌, ℕ, ◌+◌, ◌*◌, ◌<◌, ◌≤�
 use Rattle.outside.specs.declared.sink.SinkError.{SinkError}
 use Rattle.outside.specs.declared.sink.SinkError.TheVariants as sink
 use Rattle.layer_mean.specs.Tree.{LayerTree}
+use Rattle.event_graph.specs.Answer.{stack_tree}
+use Rattle.packet_plans.specs.Trees.{plans_tree}
 use Rattle.stack_mean.specs.Plan.{Plan}
+use Rattle.script_mean.specs.declared.event.ScriptEvent.{ScriptEvent}
 use Rattle.run_mean.specs.Journal.{Heard, failure}
 use Rattle.run_mean.specs.Report.{end_line}
 use Rattle.run_mean.specs.World.{World}
@@ -11,7 +14,7 @@ use Rattle.program_mean.specs.Output.{failures}
 use Rattle.sink_lines.specs.Lines.{Gains}
 use Rattle.world_core.specs.Standing.{Peopled}
 use Rattle.node_laws.specs.Acts.{Act, puts, acts_of, sends_in}
-use Rattle.node_laws.specs.Doings.{Doing, doings_of, events_of, heard_in}
+use Rattle.node_laws.specs.Doings.{Doing, does, doings_of, events_of, heard_in}
 use Rattle.node_laws.specs.Losses.{behind, lost_of, written_of}
 use Rattle.node_laws.specs.Network.{Goes, Tells}
 use Rattle.node_laws.specs.Stages.{Course, clock_on, heard_on}
@@ -100,6 +103,13 @@ abbrev pub Advances : List LayerTree → List Plan → Course → Begun → (mom
 Advances stack plans c b moments answers rest borne at (Ok done) = SoFar stack plans c b moments answers rest borne at
 Advances stack plans c b moments answers rest borne at (Err e) = CutOff stack plans c b e at.around at.clock
 
+-- What it comes to that an event is fed which is the next thing to do.
+abbrev pub FedOn : List LayerTree → List Plan → ScriptEvent → Peopled → Peopled → Desk → Desk → Around → Around → Result (Unit {0}) SinkError → Type 0
+FedOn stack plans event g g' d d' a a' r =
+    (c : Course) (b : Begun) (moments answers borne : ℕ) (rest : List ℕ → List Heard → List Doing) (clock : Option (List ℕ)) →
+    Within c b moments answers borne → SoFar stack plans c b moments answers (λ later more. does event ∷ rest later more) borne (now g d a clock) →
+    Advances stack plans c b moments answers rest borne (now g' d' a' clock) r
+
 -- Nothing is left to do.
 abbrev pub nothing_left : List ℕ → List Heard → List Doing
 nothing_left clock heard = []
@@ -132,7 +142,13 @@ Hears stack plans c b moments least most rest left at (Err Link) = Deafened stac
 Hears stack plans c b moments least most rest left at (Err Write) = CutOff stack plans c b sink.Failed at.around at.clock
 Hears stack plans c b moments least most rest left at (Err Memory) = CutOff stack plans c b sink.Memory at.around at.clock
 
--- The course of a node, as the code has it.
+-- The stack of a course, its plans of packets, and the rest of it.
+abbrev pub stack_in : code.Course → List LayerTree
+stack_in c = stack_tree c.stack.now
+
+abbrev pub plans_in : code.Course → List Plan
+plans_in c = plans_tree c.plans.now
+
 abbrev pub course_of : code.Course → Course
 course_of c = record { plan = c.plan.now; me = c.me.now; turns = c.turns }
 

@@ -3,6 +3,8 @@ use Rattle.std.specs.Prelude.{◌≡◌, ℕ, ◌+◌, ◌<◌, List, length, Op
 use Rattle.std.specs.List.{AllByRecursion}
 use Rattle.outside.specs.declared.sink.SinkError.{SinkError}
 use Rattle.layer_mean.specs.Tree.{LayerTree}
+use Rattle.chain_laws.specs.Runs.{TypedStack}
+use Rattle.packet_laws.specs.Strays.{AreNumbered}
 use Rattle.member_laws.specs.Members.{IsChainedWorld}
 use Rattle.script_mean.specs.declared.event.ScriptEvent.{ScriptEvent}
 use Rattle.script_mean.specs.declared.event.ScriptEvent.TheVariants.{Give, Show}
@@ -47,8 +49,11 @@ IsOwn (Give number id) = ⊥
 IsOwn (Show id) = ⊥
 IsOwn _ = Unit {0}
 
--- A group rests at some world, and these members of it listen, each with a peer for each member of the group.
+-- Over a typed stack and numbered plans a group rests at some world, and these members of it listen, each with a peer for each member of
+-- the group.
 pub record IsUp (stack : List LayerTree) (plans : List Plan) (c : Peopled) (d : Desk) (listening : ℕ → Option ℕ) (ids : List ℕ) : Type 0 where
+  pub typed : TypedStack stack
+  pub numbered : AreNumbered plans
   pub members : ℕ
   pub world : World
   pub rests : Rests stack plans members c d world

@@ -1,10 +1,14 @@
 //! What a node is to do, and how far it is.
 
+use event_graph::Stack;
+use packet_plans::Plans;
 use script_mean::NodePlan;
 
-/// A node's plan, its own members by ascending id, and how many turns it makes.
+/// The stack that a node runs, with the plans of its packets; the plan of its group, its own members by ascending id, and how many turns it makes.
 #[derive(Clone, Copy)]
 pub struct Course<'a> {
+    pub stack: &'a Stack,
+    pub plans: &'a Plans,
     pub plan: &'a NodePlan,
     pub me: &'a [u8],
     pub turns: u32,

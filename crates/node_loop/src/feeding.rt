@@ -1,31 +1,22 @@
 //! One event of a node: its line, what it comes to, and its packets handed on.
 
-ghost use Rattle.std.specs.Prelude.{◌≡◌, ◌+◌, ◌^◌, ◌<◌, ◌∷◌, [], ℕ, List, Option, OnOk};
-ghost use Rattle.chain_laws.specs.Runs.{TypedStack};
-ghost use Rattle.event_graph.specs.Answer.{stack_tree};
-ghost use Rattle.packet_plans.specs.Trees.{plans_tree};
+ghost use Rattle.std.specs.Prelude.{◌≡◌, ◌+◌, ◌^◌, ◌<◌, ◌∷◌, [], ℕ, OnOk};
 ghost use Rattle.packet_mean.specs.ChainedState.{IsNumber};
 ghost use Rattle.packet_mean.specs.Spelling.{AreBytes};
 ghost use Rattle.member_laws.specs.Members.{IsGivenEvent};
-ghost use Rattle.packet_laws.specs.Strays.{AreNumbered};
 ghost use Rattle.script_mean.specs.Event.{member_of};
-ghost use Rattle.run_mean.specs.Journal.{Heard};
 ghost use Rattle.run_mean.specs.World.{World};
 ghost use Rattle.sink_lines.specs.Lines.{Wrote};
-ghost use Rattle.sink_lines.specs.Tells.{tells};
 ghost use Rattle.node_laws.specs.Losses as losses;
-ghost use Rattle.node_loop.specs.Around.{around};
-ghost use Rattle.node_laws.specs.Doings.{Doing, does};
-ghost use Rattle.node_laws.specs.Stages as stages;
-ghost use Rattle.node_loop.specs.Course.{Advances, Begun, SoFar, Within, now};
+ghost use Rattle.node_loop.specs.Around.{around, output_of};
+ghost use Rattle.node_loop.specs.Course.{FedOn, plans_in, stack_in};
 ghost use Rattle.node_loop.specs.Feeding.{Feeds, IsOwn, IsUp, Rests, RestsAgain};
 
+use crate::course::Course;
 use crate::desk::Desk;
 use crate::outputs::pass_stepped;
-use event_graph::Stack;
 use msg_core::Memory;
 use outside::{Links, Sink, SinkError};
-use packet_plans::Plans;
 use report_lines::{Line, journal_line};
 use report_text::member_of;
 use script_mean::ScriptEvent;
@@ -40,8 +31,7 @@ fn write_journal<O: Sink>(
     event: &ScriptEvent,
     out: &mut O,
 ) -> Result<(), SinkError>
-    ensures { Wrote (losses.journal_line event.now ∷ []) (tells (O.contents out.old) (O.failures out.old) (O.faults out.old))
-        (tells (O.contents out.new) (O.failures out.new) (O.faults out.new)) result }
+    ensures { Wrote (losses.journal_line event.now ∷ []) (output_of O.Sink out.old) (output_of O.Sink out.new) result }
 {
     line.clear();
     match journal_line(line, event) {
@@ -79,40 +69,35 @@ pub(crate) fn is_given(event: &ScriptEvent)
 /// Feeds an event to a member of this node's own: puts its line, and then the lines of what it came to, with its packets handed on.
 pub(crate) fn feed_event<F: Feed, O: Sink, N: Links>(
     feed: &mut F,
-    stack: &Stack,
-    plans: &Plans,
+    course: Course<'_>,
     desk: &mut Desk,
     event: &ScriptEvent,
     out: &mut O,
     links: &mut N,
 ) -> Result<(), SinkError>
-    requires typed { TypedStack (stack_tree stack.now) }
-    requires numbered { AreNumbered (plans_tree plans.now) }
-    requires up { IsUp (stack_tree stack.now) (plans_tree plans.now) (F.group feed.old) desk.old (N.listening links.old) (member_of event.now ∷ []) }
+    requires up { IsUp (stack_in course) (plans_in course) (F.group feed.old) desk.old (N.listening links.old) (member_of event.now ∷ []) }
     requires own { IsOwn event.now }
     requires few { desk.old.events + 1 < 2 ^ 64 }
-    ensures fed { (n : ℕ) (w : World) → Rests (stack_tree stack.now) (plans_tree plans.now) n (F.group feed.old) desk.old w →
-        Feeds (stack_tree stack.now) (plans_tree plans.now) n w event.now (F.group feed.new) desk.old desk.new
-        (around (tells (O.contents out.old) (O.failures out.old) (O.faults out.old)) (N.faults links.old) (N.send_faults links.old) (N.told links.old))
-        (around (tells (O.contents out.new) (O.failures out.new) (O.faults out.new)) (N.faults links.new) (N.send_faults links.new) (N.told links.new))
-        result }
+    ensures fed { (n : ℕ) (w : World) → Rests (stack_in course.entry) (plans_in course.entry) n (F.group feed.old) desk.old w →
+        Feeds (stack_in course.entry) (plans_in course.entry) n w event.now (F.group feed.new) desk.old desk.new
+        (around O.Sink N.Links out.old links.old) (around O.Sink N.Links out.new links.new) result }
     ensures counted { OnOk result (desk.new.events ≡ desk.old.events + 1) }
     ensures listening { (m : ℕ) → N.listening links.new m ≡ N.listening links.old m }
 {
     write_journal(&mut desk.tools.line, event, out)?;
-    stack.is_within_limits();
+    course.stack.is_within_limits();
     is_given(event);
     let mut number = feed.next_number();
     let mut visits = 0;
     match feed.feed(event, &mut desk.outputs, &mut visits) {
         Ok(Did::Stepped(stepped)) => {
-            an_accepted_stack_is_light(stack);
+            an_accepted_stack_is_light(course.stack);
             desk.outputs.has_places_for_all();
             let id = member_of(event);
             pass_stepped(
                 &mut desk.tools,
-                stack,
-                plans,
+                course.stack,
+                course.plans,
                 id,
                 &mut number,
                 &desk.outputs,
@@ -132,31 +117,20 @@ pub(crate) fn feed_event<F: Feed, O: Sink, N: Links>(
 /// Feeds an event that is the next thing to do.
 pub(crate) fn feed_on<F: Feed, O: Sink, N: Links>(
     feed: &mut F,
-    stack: &Stack,
-    plans: &Plans,
+    course: Course<'_>,
     desk: &mut Desk,
     event: &ScriptEvent,
     out: &mut O,
     links: &mut N,
 ) -> Result<(), SinkError>
-    requires typed { TypedStack (stack_tree stack.now) }
-    requires numbered { AreNumbered (plans_tree plans.now) }
-    requires up { IsUp (stack_tree stack.now) (plans_tree plans.now) (F.group feed.old) desk.old (N.listening links.old) (member_of event.now ∷ []) }
+    requires up { IsUp (stack_in course) (plans_in course) (F.group feed.old) desk.old (N.listening links.old) (member_of event.now ∷ []) }
     requires own { IsOwn event.now }
     requires few { desk.old.events + 1 < 2 ^ 64 }
-    ensures told { (c : stages.Course) (b : Begun) (moments answers borne : ℕ) (rest : List ℕ → List Heard → List Doing) (clock : Option (List ℕ)) →
-        Within c b moments answers borne →
-        SoFar (stack_tree stack.now) (plans_tree plans.now) c b moments answers (λ later more. does event.now ∷ rest later more) borne
-        (now (F.group feed.old) desk.old
-        (around (tells (O.contents out.old) (O.failures out.old) (O.faults out.old)) (N.faults links.old) (N.send_faults links.old) (N.told links.old))
-        clock) →
-        Advances (stack_tree stack.now) (plans_tree plans.now) c b moments answers rest borne
-        (now (F.group feed.new) desk.new
-        (around (tells (O.contents out.new) (O.failures out.new) (O.faults out.new)) (N.faults links.new) (N.send_faults links.new) (N.told links.new))
-        clock) result }
-    ensures rests { OnOk result (RestsAgain (stack_tree stack.now) (plans_tree plans.now) (F.group feed.old) desk.old (F.group feed.new) desk.new) }
+    ensures told { FedOn (stack_in course.entry) (plans_in course.entry) event.now (F.group feed.old) (F.group feed.new) desk.old desk.new
+        (around O.Sink N.Links out.old links.old) (around O.Sink N.Links out.new links.new) result }
+    ensures rests { OnOk result (RestsAgain (stack_in course.entry) (plans_in course.entry) (F.group feed.old) desk.old (F.group feed.new) desk.new) }
     ensures counted { OnOk result (desk.new.events ≡ desk.old.events + 1) }
     ensures listening { (m : ℕ) → N.listening links.new m ≡ N.listening links.old m }
 {
-    feed_event(feed, stack, plans, desk, event, out, links)
+    feed_event(feed, course, desk, event, out, links)
 }

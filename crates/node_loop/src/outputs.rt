@@ -5,7 +5,6 @@ ghost use Rattle.std.specs.List.{AllByRecursion};
 ghost use Rattle.event_graph.specs.Answer.{stack_tree};
 ghost use Rattle.packet_plans.specs.Trees.{plans_tree};
 ghost use Rattle.run_mean.specs.Journal.{handed_output};
-ghost use Rattle.sink_lines.specs.Tells.{tells};
 ghost use Rattle.step_outputs.specs.Views.{output_meant};
 ghost use Rattle.view_core.specs.declared.step.Stepped.TheVariants.{Taken};
 ghost use Rattle.report_text.specs.Numbered.{number_after};
@@ -42,9 +41,7 @@ fn pass_output<O: Sink, N: Links>(
     requires sendable { IsSomeAnd (N.listening links.old id) (λ peers.
         AllByRecursion (IsSendable peers id) (handed_output (plans_tree _plans.now) id (output_meant here.now output.now))) }
     ensures handed { Handles (output_acts (stack_tree stack.now) (plans_tree _plans.now) id number (output_meant here.now output.now))
-        (around (tells (O.contents out.old) (O.failures out.old) (O.faults out.old)) (N.faults links.old) (N.send_faults links.old) (N.told links.old))
-        (around (tells (O.contents out.new) (O.failures out.new) (O.faults out.new)) (N.faults links.new) (N.send_faults links.new) (N.told links.new))
-        result }
+        (around O.Sink N.Links out.old links.old) (around O.Sink N.Links out.new links.new) result }
     ensures listening { (m : ℕ) → N.listening links.new m ≡ N.listening links.old m }
 {
     put_output(&mut tools.pen, stack, here, id, number, output, out)?;
@@ -70,9 +67,7 @@ fn pass_outputs<O: Sink, N: Links>(
     requires sendable { IsSomeAnd (N.listening links.old id) (λ peers.
         AllByRecursion (IsSendable peers id) (sends_of_outputs (plans_tree plans.now) id outputs.now.outputs)) }
     ensures handed { Handles (outputs_acts (stack_tree stack.now) (plans_tree plans.now) id number.old outputs.now.outputs)
-        (around (tells (O.contents out.old) (O.failures out.old) (O.faults out.old)) (N.faults links.old) (N.send_faults links.old) (N.told links.old))
-        (around (tells (O.contents out.new) (O.failures out.new) (O.faults out.new)) (N.faults links.new) (N.send_faults links.new) (N.told links.new))
-        result }
+        (around O.Sink N.Links out.old links.old) (around O.Sink N.Links out.new links.new) result }
     ensures numbered { OnOk result (number.new ≡ number_after number.old outputs.now.outputs) }
     ensures listening { (m : ℕ) → N.listening links.new m ≡ N.listening links.old m }
 {
@@ -103,9 +98,7 @@ fn pass_taken<O: Sink, N: Links>(
         AllByRecursion (IsSendable peers id) (sends_of_outputs (plans_tree plans.now) id outputs.now.outputs)) }
     ensures handed { (common : Bool) →
         Handles (stepped_acts (stack_tree stack.now) (plans_tree plans.now) id number.old outputs.now.outputs (Taken common change))
-        (around (tells (O.contents out.old) (O.failures out.old) (O.faults out.old)) (N.faults links.old) (N.send_faults links.old) (N.told links.old))
-        (around (tells (O.contents out.new) (O.failures out.new) (O.faults out.new)) (N.faults links.new) (N.send_faults links.new) (N.told links.new))
-        result }
+        (around O.Sink N.Links out.old links.old) (around O.Sink N.Links out.new links.new) result }
     ensures numbered { OnOk result (number.new ≡ number_after number.old outputs.now.outputs) }
     ensures listening { (m : ℕ) → N.listening links.new m ≡ N.listening links.old m }
 {
@@ -130,9 +123,7 @@ pub(crate) fn pass_stepped<O: Sink, N: Links>(
     requires sendable { IsSomeAnd (N.listening links.old id) (λ peers.
         AllByRecursion (IsSendable peers id) (sends_of_outputs (plans_tree plans.now) id outputs.now.outputs)) }
     ensures handed { Handles (stepped_acts (stack_tree stack.now) (plans_tree plans.now) id number.old outputs.now.outputs stepped)
-        (around (tells (O.contents out.old) (O.failures out.old) (O.faults out.old)) (N.faults links.old) (N.send_faults links.old) (N.told links.old))
-        (around (tells (O.contents out.new) (O.failures out.new) (O.faults out.new)) (N.faults links.new) (N.send_faults links.new) (N.told links.new))
-        result }
+        (around O.Sink N.Links out.old links.old) (around O.Sink N.Links out.new links.new) result }
     ensures numbered { OnOk result (number.new ≡ stepped_number number.old outputs.now.outputs stepped) }
     ensures listening { (m : ℕ) → N.listening links.new m ≡ N.listening links.old m }
 {

@@ -7,9 +7,8 @@ ghost use Rattle.packet_full.specs.Sent.{sent_packet};
 ghost use Rattle.packet_mean.specs.Spelling.{full_bytes};
 ghost use Rattle.run_mean.specs.Journal.{receivers};
 ghost use Rattle.sink_lines.specs.Lines.{Wrote};
-ghost use Rattle.sink_lines.specs.Tells.{tells};
 ghost use Rattle.node_laws.specs.Losses as losses;
-ghost use Rattle.node_loop.specs.Around.{around};
+ghost use Rattle.node_loop.specs.Around.{around, output_of};
 ghost use Rattle.node_loop.specs.Passing.{Handles};
 ghost use Rattle.node_laws.specs.Acts.{sending_acts};
 ghost use Rattle.node_loop.specs.Sending.{MayTake, sent_to};
@@ -17,7 +16,7 @@ ghost use Rattle.node_loop.specs.Sending.{MayTake, sent_to};
 use crate::receivers::{has, member_at};
 use crate::tools::Tools;
 use msg_core::{Dest, Memory, View};
-use outside::{LinkError, Links, Sink, SinkError};
+use outside::{LinkError, Links, MOST_BYTES, Sink, SinkError};
 use packet_full::{put_full_of, room_of};
 use packet_mean::Here;
 use report_lines::{Line, lost_line};
@@ -27,8 +26,7 @@ use view_core::MOST_MEMBERS;
 
 /// Puts the line of a sending that failed.
 fn write_lost<O: Sink>(line: &mut Line, number: u64, out: &mut O) -> Result<(), SinkError>
-    ensures { Wrote (losses.lost_line number ∷ []) (tells (O.contents out.old) (O.failures out.old) (O.faults out.old))
-        (tells (O.contents out.new) (O.failures out.new) (O.faults out.new)) result }
+    ensures { Wrote (losses.lost_line number ∷ []) (output_of O.Sink out.old) (output_of O.Sink out.new) result }
 {
     line.clear();
     match lost_line(line, number) {
@@ -48,11 +46,9 @@ fn send_to<O: Sink, N: Links>(
     links: &mut N,
 ) -> Result<(), SinkError>
     requires peer { IsSomeAnd (N.listening links.old from) (λ peers. to < peers) }
-    requires size { length bytes.now ≤ 65507 }
+    requires size { length bytes.now ≤ MOST_BYTES }
     ensures handed { Handles (sending_acts number (sent_to from bytes.now to ∷ []))
-        (around (tells (O.contents out.old) (O.failures out.old) (O.faults out.old)) (N.faults links.old) (N.send_faults links.old) (N.told links.old))
-        (around (tells (O.contents out.new) (O.failures out.new) (O.faults out.new)) (N.faults links.new) (N.send_faults links.new) (N.told links.new))
-        result }
+        (around O.Sink N.Links out.old links.old) (around O.Sink N.Links out.new links.new) result }
     ensures listening { (m : ℕ) → N.listening links.new m ≡ N.listening links.old m }
 {
     match links.send(from, to, bytes) {
@@ -74,9 +70,7 @@ fn send_to_others<O: Sink, N: Links>(
 ) -> Result<(), SinkError>
     requires peers { IsSomeAnd (N.listening links.old from) (λ peers. AllByRecursion (MayTake bytes.now peers) (receivers from view All)) }
     ensures handed { Handles (sending_acts number (map (sent_to from bytes.now) (receivers from view All)))
-        (around (tells (O.contents out.old) (O.failures out.old) (O.faults out.old)) (N.faults links.old) (N.send_faults links.old) (N.told links.old))
-        (around (tells (O.contents out.new) (O.failures out.new) (O.faults out.new)) (N.faults links.new) (N.send_faults links.new) (N.told links.new))
-        result }
+        (around O.Sink N.Links out.old links.old) (around O.Sink N.Links out.new links.new) result }
     ensures listening { (m : ℕ) → N.listening links.new m ≡ N.listening links.old m }
 {
     for to in 0..MOST_MEMBERS {
@@ -110,9 +104,7 @@ fn send_to_all_of<O: Sink, N: Links>(
 ) -> Result<(), SinkError>
     requires peers { IsSomeAnd (N.listening links.old from) (λ peers. AllByRecursion (MayTake bytes.now peers) (receivers from view dest)) }
     ensures handed { Handles (sending_acts number (map (sent_to from bytes.now) (receivers from view dest)))
-        (around (tells (O.contents out.old) (O.failures out.old) (O.faults out.old)) (N.faults links.old) (N.send_faults links.old) (N.told links.old))
-        (around (tells (O.contents out.new) (O.failures out.new) (O.faults out.new)) (N.faults links.new) (N.send_faults links.new) (N.told links.new))
-        result }
+        (around O.Sink N.Links out.old links.old) (around O.Sink N.Links out.new links.new) result }
     ensures listening { (m : ℕ) → N.listening links.new m ≡ N.listening links.old m }
 {
     match dest {
@@ -140,9 +132,7 @@ pub(crate) fn hand_on<O: Sink, N: Links>(
     ensures handed { Handles (sending_acts number
         (map (sent_to id (full_bytes (sent_packet here.now packet.now.dest packet.now.headers.now packet.now.body.now)))
         (receivers id here.now.view packet.now.dest)))
-        (around (tells (O.contents out.old) (O.failures out.old) (O.faults out.old)) (N.faults links.old) (N.send_faults links.old) (N.told links.old))
-        (around (tells (O.contents out.new) (O.failures out.new) (O.faults out.new)) (N.faults links.new) (N.send_faults links.new) (N.told links.new))
-        result }
+        (around O.Sink N.Links out.old links.old) (around O.Sink N.Links out.new links.new) result }
     ensures listening { (m : ℕ) → N.listening links.new m ≡ N.listening links.old m }
 {
     match spell(&mut tools.bytes, here, packet) {

@@ -7,12 +7,9 @@ ghost use Rattle.stack_mean.specs.Plans.{plans_of};
 ghost use Rattle.chain_laws.specs.Runs.{TypedStack};
 ghost use Rattle.event_graph.specs.Answer.{stack_tree};
 ghost use Rattle.packet_mean.specs.ChainedState.{IsNumber};
-ghost use Rattle.packet_plans.specs.Trees.{plans_tree};
-ghost use Rattle.packet_laws.specs.Strays.{AreNumbered};
-ghost use Rattle.sink_lines.specs.Tells.{tells};
 ghost use Rattle.node_laws.specs.Stages.{AreOrdered, from_turn};
 ghost use Rattle.node_loop.specs.Around.{around};
-ghost use Rattle.node_loop.specs.Course.{Begun, Made, SoFar, course_of, now};
+ghost use Rattle.node_loop.specs.Course.{Begun, Made, SoFar, course_of, now, plans_in, stack_in};
 ghost use Rattle.node_loop.specs.Feeding.{IsOwn, IsUp};
 ghost use Rattle.node_loop.specs.Listening.{ListensAll};
 ghost use Rattle.node_loop.specs.Serve.{Serves, first_of_plan, layered_words, whereabouts};
@@ -27,7 +24,6 @@ use event_graph::Stack;
 use msg_core::Memory;
 use node_laws::stopped_goes_on;
 use outside::{Clock, LinkError, Links, MOST_BYTES, Peer, Sink};
-use packet_plans::Plans;
 use report_lines::Line;
 use report_text::{Pen, write_end};
 use std::alloc::{AllocError, Global};
@@ -36,7 +32,7 @@ use world_core::Feed;
 
 /// Where a datagram is received.
 fn room(alloc: Global) -> Result<Vec<u8>, AllocError>
-    ensures { IfOk result (λ room. length room.items ≡ 65507) }
+    ensures { IfOk result (λ room. length room.items ≡ MOST_BYTES) }
 {
     vec![in alloc; 0; MOST_BYTES]
 }
@@ -49,6 +45,7 @@ fn desk(alloc: Global, stack: &Stack) -> Result<Desk, Memory>
     let outputs = Outputs::fresh(alloc, stack)?;
     let room = room(alloc)?;
     Ok(Desk {
+        alloc,
         outputs,
         tools: Tools {
             pen: Pen::new(alloc),
@@ -85,50 +82,29 @@ fn number_fits(number: u32)
 
 /// Makes all turns.
 fn make_turns<F: Feed, O: Sink, N: Links, C: Clock>(
-    alloc: Global,
     feed: &mut F,
-    stack: &Stack,
-    plans: &Plans,
-    desk: &mut Desk,
     course: Course<'_>,
+    desk: &mut Desk,
     patience: u32,
     out: &mut O,
     links: &mut N,
     clock: &mut C,
 ) -> Result<(), NodeError>
-    requires typed { TypedStack (stack_tree stack.now) }
-    requires numbered { AreNumbered (plans_tree plans.now) }
-    requires up { IsUp (stack_tree stack.now) (plans_tree plans.now) (F.group feed.old) desk.old (N.listening links.old) course.me.now }
+    requires up { IsUp (stack_in course) (plans_in course) (F.group feed.old) desk.old (N.listening links.old) course.me.now }
     requires own { AllByRecursion (λ entry. IsOwn entry.1) course.plan.now.turns }
     requires ordered { AreOrdered 0 course.plan.now.turns }
     requires members { length course.me.now ≤ 32 }
     requires none { desk.old.events ≡ 0 }
     ensures told { (b : Begun) → b.patience ≡ patience →
-        SoFar (stack_tree stack.now) (plans_tree plans.now) (course_of course.entry) b 0 0 (from_turn (course_of course.entry) 0 patience) 0
-        (now (F.group feed.old) desk.old
-        (around (tells (O.contents out.old) (O.failures out.old) (O.faults out.old)) (N.faults links.old) (N.send_faults links.old) (N.told links.old))
-        (C.told clock.old)) →
-        Made (stack_tree stack.now) (plans_tree plans.now) (course_of course.entry) b
-        (now (F.group feed.new) desk.new
-        (around (tells (O.contents out.new) (O.failures out.new) (O.faults out.new)) (N.faults links.new) (N.send_faults links.new) (N.told links.new))
-        (C.told clock.new)) result }
+        SoFar (stack_in course.entry) (plans_in course.entry) (course_of course.entry) b 0 0 (from_turn (course_of course.entry) 0 patience) 0
+        (now (F.group feed.old) desk.old (around O.Sink N.Links out.old links.old) (C.told clock.old)) →
+        Made (stack_in course.entry) (plans_in course.entry) (course_of course.entry) b
+        (now (F.group feed.new) desk.new (around O.Sink N.Links out.new links.new) (C.told clock.new)) result }
     ensures listening { (m : ℕ) → N.listening links.new m ≡ N.listening links.old m }
 {
     let mut progress = Progress { patience, next: 0 };
     for t in 0..course.turns {
-        turn(
-            alloc,
-            feed,
-            stack,
-            plans,
-            desk,
-            course,
-            t,
-            &mut progress,
-            out,
-            links,
-            clock,
-        )?;
+        turn(feed, course, desk, t, &mut progress, out, links, clock)?;
     }
     Ok(())
 }
@@ -143,47 +119,39 @@ fn make_turns<F: Feed, O: Sink, N: Links, C: Clock>(
 pub fn serve<F: Feed, O: Sink, N: Links, C: Clock>(
     alloc: Global,
     feed: &mut F,
-    stack: &Stack,
-    plans: &Plans,
     course: Course<'_>,
     patience: u32,
     out: &mut O,
     links: &mut N,
     clock: &mut C,
 ) -> Result<(), NodeError>
-    requires typed { TypedStack (stack_tree stack.now) }
-    requires plans { plans_tree plans.now ≡ plans_of (stack_tree stack.now) }
-    requires stack { (F.group feed.old).stack ≡ stack_tree stack.now }
-    requires group_plans { (F.group feed.old).plans ≡ plans_tree plans.now }
-    requires group { Stands (F.group feed.old) (first_of_plan (stack_tree stack.now) course.plan.now) }
+    requires typed { TypedStack (stack_in course) }
+    requires plans { plans_in course ≡ plans_of (stack_in course) }
+    requires stack { (F.group feed.old).stack ≡ stack_in course }
+    requires group_plans { (F.group feed.old).plans ≡ plans_in course }
+    requires group { Stands (F.group feed.old) (first_of_plan (stack_in course) course.plan.now) }
     requires members { AllByRecursion (λ id. id < length course.plan.now.peers) course.me.now }
     requires few_members { length course.me.now ≤ 32 }
     requires few_peers { length course.plan.now.peers ≤ 32 }
     requires ordered { AreOrdered 0 course.plan.now.turns }
     requires own { AllByRecursion (λ entry. IsOwn entry.1) course.plan.now.turns }
     ensures { Serves (record {
-      stack = stack_tree stack.now;
+      stack = stack_in course.entry;
       plan = course.entry.plan.now;
       words = layered_words course.entry.turns course.entry.me.now patience;
     })
-        (whereabouts
-        (around (tells (O.contents out.old) (O.failures out.old) (O.faults out.old)) (N.faults links.old) (N.send_faults links.old) (N.told links.old))
-        (C.told clock.old))
-        (whereabouts
-        (around (tells (O.contents out.new) (O.failures out.new) (O.faults out.new)) (N.faults links.new) (N.send_faults links.new) (N.told links.new))
-        (C.told clock.new)) result }
+        (whereabouts (around O.Sink N.Links out.old links.old) (C.told clock.old))
+        (whereabouts (around O.Sink N.Links out.new links.new) (C.told clock.new)) result }
 {
     stopped_goes_on();
     number_fits(course.plan.group);
     number_fits(course.plan.stamp);
-    let mut desk = match desk(alloc, stack) {
+    let mut desk = match desk(alloc, course.stack) {
         Ok(desk) => desk,
         Err(Memory) => return Err(NodeError::Memory),
     };
     listen_all(course.plan.peers.slice(), course.me, links)?;
-    make_turns(
-        alloc, feed, stack, plans, &mut desk, course, patience, out, links, clock,
-    )?;
+    make_turns(feed, course, &mut desk, patience, out, links, clock)?;
     let events = desk.events;
     cut(write_end(&mut desk.tools.pen, events, out))
 }

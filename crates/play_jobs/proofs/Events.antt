@@ -14,6 +14,7 @@ use Rattle.script_mean.specs.declared.event.ScriptEvent.{ScriptEvent}
 use Rattle.script_mean.specs.declared.script.GroupLine.{GroupLine}
 use Rattle.script_mean.specs.declared.script.Script.{Script}
 use Rattle.std.specs.Prelude.{not}
+use Rattle.play_jobs.specs.Second.{longest_second}
 
 -- as many events as lines
 events_length : (members : ℕ) (lines : List (ℕ × List ℕ)) (events : List ScriptEvent) → events_of members lines ≡ Ok events → length events ≡ length lines
@@ -60,7 +61,7 @@ pub few_read : (text : List ℕ) (s : Script) → script_of text ≡ Ok s → le
 few_read text s is = judged (is_too_long text) refl is where
   judged : (b : Bool) → is_too_long text ≡ b → (if b then Err too_long else script_of_lines (said_lines text)) ≡ Ok s → length s.events ≤ 100000
   judged true long is = absurd (cc is)
-  judged false short is = counted (nat_lt 4194304 (length text)) (nat_lt 100000 (line_count text)) refl short where
+  judged false short is = counted (nat_lt longest_second (length text)) (nat_lt 100000 (line_count text)) refl short where
     counted : (a b : Bool) → nat_lt 100000 (line_count text) ≡ b → (a || b) ≡ false → length s.events ≤ 100000
     counted true b few short = absurd (cc short)
     counted false true few short = absurd (cc short)

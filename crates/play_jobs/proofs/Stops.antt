@@ -21,24 +21,24 @@ use Rattle.job_ends.proofs.Comes.{longer}
 use Rattle.file_jobs.specs.Stack.{IsStack}
 use Rattle.job_ends.specs.Shown.{shown}
 use Rattle.job_ends.specs.declared.ending.Ending.{Ending}
-use Rattle.play_jobs.specs.Second.{IsText, IsLarge, Unread, StopsAt, Fetches, Refused, Judges, refused_as}
+use Rattle.play_jobs.specs.Second.{IsText, IsLarge, Unread, StopsAt, Fetches, Refused, Judges, refused_as, longest_second}
 
 -- A text of too many bytes.
 pub large : (name : Text) (told : Option Shelved) (reads reads_after : ℕ) →
-    IfSome told (λ shelf. IsSomeAnd (found_in shelf name) (λ text. 4194304 < length text)) → reads_after ≡ reads →
+    IfSome told (λ shelf. IsSomeAnd (found_in shelf name) (λ text. longest_second < length text)) → reads_after ≡ reads →
     IsLarge name told reads reads_after
 large name told reads reads_after h sound =
-    let l = longer told name 4194304 h in record { text = l.0; large = l.2; is = record { found = l.1; sound = sound } }
+    let l = longer told name longest_second h in record { text = l.0; large = l.2; is = record { found = l.1; sound = sound } }
 
 -- It is refused.
-pub too_large : (text : List ℕ) → 4194304 < length text → is_too_long text ≡ true
-too_large text more = ap (λ b. b || nat_lt 100000 (line_count text)) (lt-ltb 4194304 (length text) more)
+pub too_large : (text : List ℕ) → longest_second < length text → is_too_long text ≡ true
+too_large text more = ap (λ b. b || nat_lt 100000 (line_count text)) (lt-ltb longest_second (length text) more)
 
-pub large_script : (text : List ℕ) → 4194304 < length text → script_of text ≡ Err too_long
+pub large_script : (text : List ℕ) → longest_second < length text → script_of text ≡ Err too_long
 large_script text more = ap (λ b. if b then Err too_long else script_of_lines (said_lines text)) (too_large text more)
 
 -- A job that stopped as it read its second file stopped at it.
-pub stops_unread : {A : Type 0} (spelled : List ℕ → Result A ScriptFault) → ((text : List ℕ) → 4194304 < length text → spelled text ≡ Err too_long) →
+pub stops_unread : {A : Type 0} (spelled : List ℕ → Result A ScriptFault) → ((text : List ℕ) → longest_second < length text → spelled text ≡ Err too_long) →
     (name : Text) (told : Option Shelved) (reads reads_after : ℕ) (end : Ended) → Unread name told reads reads_after end →
     StopsAt spelled name told reads reads_after end
 stops_unread spelled long name told reads reads_after (second_refused (misspelled too_long)) l =

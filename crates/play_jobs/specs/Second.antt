@@ -11,6 +11,11 @@ use Rattle.job_mean.specs.Status.{Ended, second_refused, read_failed, no_memory,
 use Rattle.file_jobs.specs.Stack.{IsMissed}
 use Rattle.job_ends.specs.Shown.{shown}
 use Rattle.job_ends.specs.declared.ending.Ending.{Ending}
+use Rattle.play_jobs.specs.declared.second.TheConstants.{MOST_SECOND}
+
+-- The most bytes of a second file.
+abbrev pub longest_second : ℕ
+longest_second = MOST_SECOND
 
 -- The next read of this name found this text.
 pub record IsText (name : Text) (told : Option Shelved) (reads reads_after : ℕ) (text : List ℕ) : Type 0 where
@@ -20,7 +25,7 @@ pub record IsText (name : Text) (told : Option Shelved) (reads reads_after : ℕ
 -- It found a text of too many bytes.
 pub record IsLarge (name : Text) (told : Option Shelved) (reads reads_after : ℕ) : Type 0 where
   pub text : List ℕ
-  pub large : 4194304 < length text
+  pub large : longest_second < length text
   pub is : IsText name told reads reads_after text
 
 -- A job ends so as it reads its second file.

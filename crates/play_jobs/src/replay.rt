@@ -2,7 +2,6 @@
 
 ghost use Rattle.job_mean.specs.Job as job;
 ghost use Rattle.job_mean.specs.Job.{layered};
-ghost use Rattle.sink_lines.specs.Tells.{tells};
 ghost use Rattle.job_ends.specs.Comes.{Comes, around};
 ghost use Rattle.job_ends.specs.Shown.{shown};
 
@@ -23,9 +22,7 @@ pub fn replay_script<S: Shelf, O: Sink>(
     out: &mut O,
 ) -> Ending
     ensures { Comes (job.replay replay.now.file.now replay.now.script.now layered replay.now.wire replay.now.count)
-        (around (S.told shelf.old) (S.faults shelf.old) (S.faults shelf.new)
-        (tells (O.contents out.old) (O.failures out.old) (O.faults out.old))
-        (tells (O.contents out.new) (O.failures out.new) (O.faults out.new))) (shown result) }
+        (around S.Shelf O.Sink shelf.old shelf.new out.old out.new) (shown result) }
 {
     match fetch_stack(alloc, replay.file, shelf) {
         Ok(stack) => match fetch_script(alloc, replay.script, shelf) {

@@ -33,7 +33,7 @@ impl Left {
 }
 
 /// A run. What it says of concrete files, sinks and links isn't asked here, and would cost each test much.
-fn run_over<S: Shelf, O: Sink, E: Sink, N: Links, C: Clock>(
+pub(crate) fn run_over<S: Shelf, O: Sink, E: Sink, N: Links, C: Clock>(
     alloc: Global,
     words: &[String],
     shelf: &mut S,

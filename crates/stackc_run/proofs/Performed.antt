@@ -8,12 +8,12 @@ use Rattle.job_mean.specs.Status.{Ended, words_refused, no_memory}
 use Rattle.program_laws.specs.OneEnd.{IsAlone}
 use Rattle.sink_lines.specs.Said.{Errors}
 use Rattle.sink_lines.specs.Tells.{Tells}
-use Rattle.job_ends.specs.Comes.{Around, around, NoJob}
+use Rattle.job_ends.specs.Comes.{Around, surrounding, NoJob}
 use Rattle.job_ends.specs.Due.{Due}
 use Rattle.job_ends.specs.Shown.{Said}
 use Rattle.job_ends.proofs.Due.{words_due, exact, status_said}
 use Rattle.job_ends.proofs.Seen.{seen, jobless_seen}
-use Rattle.node_jobs.specs.Comes.{Beyond, Node, Untouched, beyond, job_of}
+use Rattle.node_jobs.specs.Comes.{Beyond, Node, Untouched, lying_beyond, job_of}
 use Rattle.node_jobs.proofs.Due.{node_exact}
 use Rattle.node_jobs.proofs.Seen.{node_seen}
 use Rattle.stackc_run.specs.Performed.{Way, over_files, over_network, unbuilt, way_of, PerformedBy, Performed, DoesBy, DoesJob}
@@ -79,17 +79,17 @@ does words (Some job) is a n e end came said = does_by words job (way_of job) re
 
 -- Where memory ran out over the words, nothing was done.
 pub wanted : (job : Option Job) (told : Option Shelved) (reads : ℕ) (output : Tells) (faults sends : ℕ) (links : Option Network) (clock : Option (List ℕ)) →
-    Performed job (around told reads reads output output) (beyond faults faults sends sends links links clock clock) no_memory
+    Performed job (surrounding told reads reads output output) (lying_beyond faults faults sends sends links links clock clock) no_memory
 wanted job told reads output faults sends links clock = go job where
-  untouched : Untouched (beyond faults faults sends sends links links clock clock)
+  untouched : Untouched (lying_beyond faults faults sends sends links links clock clock)
   untouched = record { faults = refl; sends = refl; told = refl; clock = refl }
 
   by : (way : Way) (job : Job) →
-      PerformedBy way job (around told reads reads output output) (beyond faults faults sends sends links links clock clock) no_memory
+      PerformedBy way job (surrounding told reads reads output output) (lying_beyond faults faults sends sends links links clock clock) no_memory
   by over_files job = (inl refl, untouched)
   by (over_network w) job = inl (record { unwritten = refl; untouched = untouched })
   by unbuilt job = (record { untouched = refl; unread = refl }, untouched)
 
-  go : (job : Option Job) → Performed job (around told reads reads output output) (beyond faults faults sends sends links links clock clock) no_memory
+  go : (job : Option Job) → Performed job (surrounding told reads reads output output) (lying_beyond faults faults sends sends links links clock clock) no_memory
   go None = (record { untouched = refl; unread = refl }, untouched)
   go (Some job) = by (way_of job) job

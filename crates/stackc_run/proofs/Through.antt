@@ -8,7 +8,7 @@ use Rattle.job_mean.specs.Job.{Job, job_of_words}
 use Rattle.job_mean.specs.Status.{Ended, done, breached, file_refused, report_refused, words_refused, second_refused, read_failed, write_failed, link_failed, no_memory}
 use Rattle.sink_lines.specs.Said.{errors}
 use Rattle.sink_lines.specs.Tells.{Tells}
-use Rattle.job_ends.specs.Comes.{Around, around, NoJob, Whole, Comes}
+use Rattle.job_ends.specs.Comes.{Around, surrounding, NoJob, Whole, Comes}
 use Rattle.job_ends.proofs.Due.{Finished, well, breach, finished}
 use Rattle.node_loop.specs.Serve.{MadeAllTurns}
 use Rattle.node_jobs.specs.Comes.{Beyond, Node, NodeComes, Ran}
@@ -41,7 +41,7 @@ got_all false no_memory (breach is) = absurd (cc is)
 
 module _ (told : Option Shelved) (reads reads_after : ℕ) (n : Beyond) (out : Stream) (put : Tells) (handed : HandsOn put out.after out.holds true) where
   abbrev a : Around
-  a = around told reads reads_after out.before put
+  a = surrounding told reads reads_after out.before put
 
   delivered : (job : Job) (end : Ended) → Whole job a end → DeliversOutput job told reads reads_after out
   delivered job end w = record {

@@ -13,7 +13,7 @@ use Rattle.program_mean.specs.Headline.{node_words}
 use Rattle.program_mean.specs.Output.{IsNode, Surroundings, failed, noted, played}
 use Rattle.sink_lines.specs.Said.{errors}
 use Rattle.sink_lines.specs.Tells.{Tells}
-use Rattle.job_ends.specs.Comes.{Good, around}
+use Rattle.job_ends.specs.Comes.{Good, surrounding}
 use Rattle.job_ends.specs.Shown.{Said}
 use Rattle.node_loop.specs.Serve.{MadeAllTurns}
 use Rattle.node_jobs.specs.Comes.{Beyond, Node, Ran}
@@ -52,12 +52,12 @@ HandsOn put after holds false = Rose put.faults after.faults
 pub record RunsThrough (words : List Text) (told : Option Shelved) (reads reads_after : ℕ) (n : Beyond) (out err : Stream) (status : ℕ) : Type 0 where
   pub put : Tells
   pub end : Ended
-  pub performed : Performed (job_of_words words) (around told reads reads_after out.before put) n end
+  pub performed : Performed (job_of_words words) (surrounding told reads reads_after out.before put) n end
   pub whole : Bool
   pub handed_on : HandsOn put out.after out.holds whole
   pub closing : Tells
   pub said : Said (closed whole end) (errors err.before closing status)
-  pub does : closed whole end ≡ end → Does words (around told reads reads_after out.before put) n (errors err.before closing status)
+  pub does : closed whole end ≡ end → Does words (surrounding told reads reads_after out.before put) n (errors err.before closing status)
   pub heard : Bool
   pub told_on : HandsOn closing err.after err.holds heard
 
@@ -79,7 +79,7 @@ journal_of w node s = let words = node_words w.turns w.me w.patience layered in
 -- A node made all its turns, and the output's stream gained its whole journal.
 pub record DeliversJournal (w : Node) (told : Option Shelved) (reads reads_after : ℕ) (n : Beyond) (out : Stream) : Type 0 where
   pub put : Tells
-  pub ran : Ran w (around told reads reads_after out.before put) n MadeAllTurns
+  pub ran : Ran w (surrounding told reads reads_after out.before put) n MadeAllTurns
   pub gained : Appends out.before.contents out.holds (concat (journal_of w ran.good.node ran.served.s))
 
 abbrev pub DeliversBy : Way → Job → Option Shelved → ℕ → ℕ → Beyond → Stream → Type 0

@@ -31,11 +31,7 @@ pub fn run<S: Shelf, O: Sink, E: Sink, N: Links, C: Clock>(
     clock: &mut C,
 ) -> u8
     ensures { Does (map string_bytes words.now)
-        (around (S.told shelf.old) (S.faults shelf.old) (S.faults shelf.new)
-        (tells (O.contents out.old) (O.failures out.old) (O.faults out.old))
-        (tells (O.contents out.new) (O.failures out.new) (O.faults out.new)))
-        (beyond (N.faults links.old) (N.faults links.new) (N.send_faults links.old) (N.send_faults links.new) (N.told links.old) (N.told links.new)
-        (C.told clock.old) (C.told clock.new))
+        (around S.Shelf O.Sink shelf.old shelf.new out.old out.new) (beyond N.Links C.Clock links.old links.new clock.old clock.new)
         (errors (tells (E.contents err.old) (E.failures err.old) (E.faults err.old))
         (tells (E.contents err.new) (E.failures err.new) (E.faults err.new)) result) }
 {

@@ -1,6 +1,7 @@
 //! The program over the system's arguments, files, streams, sockets and clock.
 
 use crate::over_streams::run_through;
+use job_ends::NO_MEMORY;
 use outside::{FileShelf, RunClock, StdSink};
 use std::alloc::Global;
 use std::env;
@@ -8,9 +9,6 @@ use std::io::{self, ErrorKind, Write};
 use std::net::Net;
 use std::rt::{Clock as SystemClock, Env, Files};
 use udp_link::UdpLinks;
-
-/// The status where memory ran out before the standard error was made.
-const NO_MEMORY: u8 = 7;
 
 /// Does the job that the command line names, and answers the program's status. Where memory runs out before the
 /// standard error is made, nothing is said.

@@ -4,7 +4,6 @@ ghost use Rattle.std.specs.Prelude.{map, Some};
 ghost use Rattle.std.specs.String.{string_bytes};
 ghost use Rattle.job_mean.specs.Job.{job_of_words};
 ghost use Rattle.job_text.specs.Shown.{shown_job};
-ghost use Rattle.sink_lines.specs.Tells.{tells};
 ghost use Rattle.job_ends.specs.Comes.{around};
 ghost use Rattle.job_ends.specs.Shown.{shown};
 ghost use Rattle.node_jobs.specs.Comes.{beyond};
@@ -28,11 +27,7 @@ pub(crate) fn perform<S: Shelf, O: Sink, N: Links, C: Clock>(
     clock: &mut C,
 ) -> Ending
     ensures { Performed (job_of_words (map string_bytes words.now))
-        (around (S.told shelf.old) (S.faults shelf.old) (S.faults shelf.new)
-        (tells (O.contents out.old) (O.failures out.old) (O.faults out.old))
-        (tells (O.contents out.new) (O.failures out.new) (O.faults out.new)))
-        (beyond (N.faults links.old) (N.faults links.new) (N.send_faults links.old) (N.send_faults links.new) (N.told links.old) (N.told links.new)
-        (C.told clock.old) (C.told clock.new)) (shown result) }
+        (around S.Shelf O.Sink shelf.old shelf.new out.old out.new) (beyond N.Links C.Clock links.old links.new clock.old clock.new) (shown result) }
 {
     match job(alloc, words) {
         Ok(Some(job)) => perform_job(alloc, &job, shelf, out, links, clock),
@@ -51,11 +46,7 @@ fn perform_job<S: Shelf, O: Sink, N: Links, C: Clock>(
     clock: &mut C,
 ) -> Ending
     ensures { Performed (Some (shown_job job.now))
-        (around (S.told shelf.old) (S.faults shelf.old) (S.faults shelf.new)
-        (tells (O.contents out.old) (O.failures out.old) (O.faults out.old))
-        (tells (O.contents out.new) (O.failures out.new) (O.faults out.new)))
-        (beyond (N.faults links.old) (N.faults links.new) (N.send_faults links.old) (N.send_faults links.new) (N.told links.old) (N.told links.new)
-        (C.told clock.old) (C.told clock.new)) (shown result) }
+        (around S.Shelf O.Sink shelf.old shelf.new out.old out.new) (beyond N.Links C.Clock links.old links.new clock.old clock.new) (shown result) }
 {
     match job {
         Job::Check(file) => check_stack(alloc, *file, shelf, out),

@@ -1,6 +1,7 @@
 // Links over the system's sockets.
 ghost use Rattle.std.specs.Prelude.{◌≡◌, ◌≢◌, ◌<◌, ◌≤◌, ℕ, None, Some, Err, IsSome, IsSomeAnd, IfOk, IfSome, OnOk, OnErr, length, replicate, slice_get, vec_capacity};
 ghost use Rattle.outside.specs.declared.links.LinkError.TheVariants.{Memory};
+ghost use Rattle.outside.specs.declared.links.TheConstants.{MOST_BYTES};
 ghost use Rattle.outside.specs.Links.{Listens, Sends, Receives, WritesFront, faults_after_call};
 ghost use Rattle.udp_link.specs.Listening.{listening_in, peers_in, peers_of};
 
@@ -21,7 +22,7 @@ pub struct UdpLinks<R: Net + Drop> {
     faults: u64,
     send_faults: u64,
     ghost places: { length members.items ≡ 32 },
-    ghost room_size: { 65507 ≤ vec_capacity room },
+    ghost room_size: { MOST_BYTES ≤ vec_capacity room },
 }
 
 impl<R: Net + Drop> UdpLinks<R> {
@@ -69,9 +70,9 @@ fn nobody(alloc: Global) -> Result<Vec<Option<Member>>, AllocError>
 
 /// Fills a room that has memory for the longest datagram.
 fn fill(room: &mut Vec<u8>)
-    requires { 65507 ≤ vec_capacity room.old }
-    ensures size { length room.new.items ≡ 65507 }
-    ensures capacity { 65507 ≤ vec_capacity room.new }
+    requires { MOST_BYTES ≤ vec_capacity room.old }
+    ensures size { length room.new.items ≡ MOST_BYTES }
+    ensures capacity { MOST_BYTES ≤ vec_capacity room.new }
 {
     match room.resize(MOST_BYTES, 0) {
         Ok(()) => {}

@@ -1,7 +1,6 @@
 use Rattle.std.proofs.Common.{refl, sym, subst, [], ◌∷◌}
 use Rattle.std.specs.String.{string_bytes}
 use Rattle.job_mean.specs.Job.{audit}
-use Rattle.sink_lines.specs.Tells.{Tells, tells}
 use Rattle.job_ends.specs.Comes.{around, Writes}
 use Rattle.job_ends.specs.Shown.{shown}
 use Rattle.job_ends.proofs.Comes.{written}
@@ -10,11 +9,9 @@ use Rattle.file_jobs.proofs.audit.audit_report.Goals as goal
 
 pub returns-in-Ok : goal.returns-in-Ok
 returns-in-Ok g c =
-    let before : Tells = tells (g.O.Sink.contents c.args.out.now) (g.O.Sink.failures c.args.out.now) (g.O.Sink.faults c.args.out.now) in
-    let after : Tells = tells (g.O.Sink.contents c.write.new.out) (g.O.Sink.failures c.write.new.out) (g.O.Sink.faults c.write.new.out) in
     let report = c.in-Ok.ensures in
-    written (audit c.args.file.now c.args.law)
-    (around (g.S.Shelf.told c.args.shelf.now) (g.S.Shelf.faults c.args.shelf.now) (g.S.Shelf.faults c.fetch_report.new.shelf) before after)
+    let a = around g.S.Shelf g.O.Sink c.args.shelf.now c.fetch_report.new.shelf c.args.out.now c.write.new.out in
+    written (audit c.args.file.now c.args.law) a
     (record {
       file = report.file;
       second = [];
@@ -24,10 +21,8 @@ returns-in-Ok g c =
       output = report.finds.output;
     })
     (shown c.write.result) report.sound
-    (subst (λ end. Writes (string_bytes c.in-Ok.output.line ∷ []) end before after (shown c.write.result)) (sym report.finds.ends) c.write.ensures)
+    (subst (λ end. Writes (string_bytes c.in-Ok.output.line ∷ []) end a.output a.output_after (shown c.write.result)) (sym report.finds.ends) c.write.ensures)
 
 pub returns-in-Err : goal.returns-in-Err
-returns-in-Err g c = audit_stops c.args.file.now c.args.law (around (g.S.Shelf.told c.args.shelf.now) (g.S.Shelf.faults c.args.shelf.now) (g.S.Shelf.faults c.fetch_report.new.shelf)
-    (tells (g.O.Sink.contents c.args.out.now) (g.O.Sink.failures c.args.out.now) (g.O.Sink.faults c.args.out.now))
-    (tells (g.O.Sink.contents c.args.out.now) (g.O.Sink.failures c.args.out.now) (g.O.Sink.faults c.args.out.now)))
+returns-in-Err g c = audit_stops c.args.file.now c.args.law (around g.S.Shelf g.O.Sink c.args.shelf.now c.fetch_report.new.shelf c.args.out.now c.args.out.now)
     (shown c.in-Err.ending) c.in-Err.ensures refl

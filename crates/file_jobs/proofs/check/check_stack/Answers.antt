@@ -2,7 +2,6 @@ use Rattle.std.proofs.Common.{refl, [], ◌∷◌, ◌++◌, codes, ap, ◌∙�
 use Rattle.std.specs.Fmt.{decimal}
 use Rattle.event_graph.specs.Answer.{stack_tree}
 use Rattle.job_mean.specs.Job.{check}
-use Rattle.sink_lines.specs.Tells.{tells}
 use Rattle.job_ends.specs.Comes.{around}
 use Rattle.job_ends.specs.Shown.{shown}
 use Rattle.job_ends.proofs.Comes.{written}
@@ -11,9 +10,7 @@ use Rattle.file_jobs.proofs.Texts.{accepted_as}
 use Rattle.file_jobs.proofs.check.check_stack.Goals as goal
 
 pub returns-in-Ok : goal.returns-in-Ok
-returns-in-Ok g c = written (check c.args.file.now) (around (g.S.Shelf.told c.args.shelf.now) (g.S.Shelf.faults c.args.shelf.now) (g.S.Shelf.faults c.fetch_stack.new.shelf)
-    (tells (g.O.Sink.contents c.args.out.now) (g.O.Sink.failures c.args.out.now) (g.O.Sink.faults c.args.out.now))
-    (tells (g.O.Sink.contents c.accept.new.out) (g.O.Sink.failures c.accept.new.out) (g.O.Sink.faults c.accept.new.out)))
+returns-in-Ok g c = written (check c.args.file.now) (around g.S.Shelf g.O.Sink c.args.shelf.now c.fetch_stack.new.shelf c.args.out.now c.accept.new.out)
     (record {
       file = c.in-Ok.ensures.read.file;
       second = [];
@@ -29,7 +26,5 @@ returns-in-Ok g c = written (check c.args.file.now) (around (g.S.Shelf.told c.ar
     (shown c.accept.result) c.in-Ok.ensures.read.sound c.accept.ensures
 
 pub returns-in-Err : goal.returns-in-Err
-returns-in-Err g c = stops (check c.args.file.now) (around (g.S.Shelf.told c.args.shelf.now) (g.S.Shelf.faults c.args.shelf.now) (g.S.Shelf.faults c.fetch_stack.new.shelf)
-    (tells (g.O.Sink.contents c.args.out.now) (g.O.Sink.failures c.args.out.now) (g.O.Sink.faults c.args.out.now))
-    (tells (g.O.Sink.contents c.args.out.now) (g.O.Sink.failures c.args.out.now) (g.O.Sink.faults c.args.out.now)))
+returns-in-Err g c = stops (check c.args.file.now) (around g.S.Shelf g.O.Sink c.args.shelf.now c.fetch_stack.new.shelf c.args.out.now c.args.out.now)
     (shown c.in-Err.ending) tt c.in-Err.ensures.read refl

@@ -1,6 +1,5 @@
 use Rattle.std.proofs.Common.{refl}
 use Rattle.event_graph.specs.Answer.{stack_tree}
-use Rattle.sink_lines.specs.Tells.{tells}
 use Rattle.job_ends.specs.Comes.{around}
 use Rattle.job_ends.specs.Shown.{shown}
 use Rattle.play_jobs.proofs.Typed.{means_typed}
@@ -15,23 +14,15 @@ serve_plan-requires-clause-typed g c = means_typed _ _ c.in-Ok.ensures.read.mean
 
 pub returns-in-Ok-fetch_plan : goal.returns-in-Ok-fetch_plan
 returns-in-Ok-fetch_plan g c = ran (words_of c.args.node.now)
-    (around (g.S.Shelf.told c.args.shelf.now) (g.S.Shelf.faults c.args.shelf.now) (g.S.Shelf.faults c.fetch_plan.new.shelf)
-    (tells (g.O.Sink.contents c.args.out.now) (g.O.Sink.failures c.args.out.now) (g.O.Sink.faults c.args.out.now))
-    (tells (g.O.Sink.contents c.serve_plan.new.out) (g.O.Sink.failures c.serve_plan.new.out) (g.O.Sink.faults c.serve_plan.new.out)))
-    (beyond (g.N.Links.faults c.args.links.now) (g.N.Links.faults c.serve_plan.new.links) (g.N.Links.send_faults c.args.links.now)
-    (g.N.Links.send_faults c.serve_plan.new.links) (g.N.Links.told c.args.links.now) (g.N.Links.told c.serve_plan.new.links)
-    (g.C.Clock.told c.args.clock.now) (g.C.Clock.told c.serve_plan.new.clock))
+    (around g.S.Shelf g.O.Sink c.args.shelf.now c.fetch_plan.new.shelf c.args.out.now c.serve_plan.new.out)
+    (beyond g.N.Links g.C.Clock c.args.links.now c.serve_plan.new.links c.args.clock.now c.serve_plan.new.clock)
     (g.S.Shelf.faults c.fetch_stack.new.shelf) (stack_tree c.in-Ok.stack) c.in-Ok-fetch_plan.plan c.in-Ok.ensures.read
     (rw c.in-Ok.ensures.kept at c.in-Ok-fetch_plan.ensures) (shown c.serve_plan.result) c.serve_plan.ensures
 
 pub returns-in-Err-fetch_plan : goal.returns-in-Err-fetch_plan
 returns-in-Err-fetch_plan g c = stopped_at_plan (words_of c.args.node.now)
-    (around (g.S.Shelf.told c.args.shelf.now) (g.S.Shelf.faults c.args.shelf.now) (g.S.Shelf.faults c.fetch_plan.new.shelf)
-    (tells (g.O.Sink.contents c.args.out.now) (g.O.Sink.failures c.args.out.now) (g.O.Sink.faults c.args.out.now))
-    (tells (g.O.Sink.contents c.args.out.now) (g.O.Sink.failures c.args.out.now) (g.O.Sink.faults c.args.out.now)))
-    (beyond (g.N.Links.faults c.args.links.now) (g.N.Links.faults c.args.links.now) (g.N.Links.send_faults c.args.links.now)
-    (g.N.Links.send_faults c.args.links.now) (g.N.Links.told c.args.links.now) (g.N.Links.told c.args.links.now)
-    (g.C.Clock.told c.args.clock.now) (g.C.Clock.told c.args.clock.now))
+    (around g.S.Shelf g.O.Sink c.args.shelf.now c.fetch_plan.new.shelf c.args.out.now c.args.out.now)
+    (beyond g.N.Links g.C.Clock c.args.links.now c.args.links.now c.args.clock.now c.args.clock.now)
     (record { faults = refl; sends = refl; told = refl; clock = refl }) refl
     (g.S.Shelf.faults c.fetch_stack.new.shelf) (stack_tree c.in-Ok.stack) (shown c.in-Err-fetch_plan.ending) c.in-Ok.ensures.read
     (rw c.in-Ok.ensures.kept at c.in-Err-fetch_plan.ensures)

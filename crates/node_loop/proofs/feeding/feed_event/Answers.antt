@@ -1,8 +1,7 @@
 use Rattle.std.proofs.Common.{◌∙◌, refl, arith}
 use Rattle.std.proofs.lemmas.Result.{err_from_is_err_and}
-use Rattle.event_graph.specs.Answer.{stack_tree}
-use Rattle.packet_plans.specs.Trees.{plans_tree}
 use Rattle.report_text.proofs.Moments.{told_full}
+use Rattle.node_loop.specs.Course.{plans_in, stack_in}
 use Rattle.node_loop.proofs.Fed.{first_is, happened, journal_cut, journal_none, journal_then, own_never_absent, own_never_shown, own_sendable, rests_again}
 use Rattle.node_loop.proofs.Passing.{breaks_first, line_stops}
 use Rattle.node_loop.proofs.feeding.feed_event.Goals as goal
@@ -20,17 +19,17 @@ pass_stepped-requires-clause-few g c =
 pub pass_stepped-requires-clause-full : goal.pass_stepped-requires-clause-full
 pass_stepped-requires-clause-full g c =
     let at = c.requires.up.rests.somewhere in
-    let h = happened (stack_tree c.args.stack.now) (plans_tree c.args.plans.now) c.requires.up.world c.args.event.now (g.F.Feed.group c.args.feed.now)
+    let h = happened (stack_in c.args.course) (plans_in c.args.course) c.requires.up.world c.args.event.now (g.F.Feed.group c.args.feed.now)
     (g.F.Feed.group c.feed.new.self) c.feed.new.out.outputs 0 c.feed.new.visits _ _ at.stack_is at.plans_are c.in-Ok-Stepped.field-0-is (c.in-Ok-Stepped.ensures.fed c.requires.up.world at.stands) in
     told_full _ _ _ _ _ _ _ h.told
 
 pub pass_stepped-requires-clause-sendable : goal.pass_stepped-requires-clause-sendable
 pass_stepped-requires-clause-sendable g c =
     let at = c.requires.up.rests.somewhere in
-    let h = happened (stack_tree c.args.stack.now) (plans_tree c.args.plans.now) c.requires.up.world c.args.event.now (g.F.Feed.group c.args.feed.now)
+    let h = happened (stack_in c.args.course) (plans_in c.args.course) c.requires.up.world c.args.event.now (g.F.Feed.group c.args.feed.now)
     (g.F.Feed.group c.feed.new.self) c.feed.new.out.outputs 0 c.feed.new.visits _ _ at.stack_is at.plans_are c.in-Ok-Stepped.field-0-is (c.in-Ok-Stepped.ensures.fed c.requires.up.world at.stands) in
     own_sendable _ _ _ _ c.requires.up.members _ _ _ _ _ _ (g.N.Links.listening c.args.links.now)
-    (record { places = c.is_within_limits.ensures.places; fields = c.is_within_limits.ensures.fields }) c.requires.typed c.requires.numbered c.is_given.ensures
+    (record { places = c.is_within_limits.ensures.places; fields = c.is_within_limits.ensures.fields }) c.requires.up.typed c.requires.up.numbered c.is_given.ensures
     at.chained at.within h c.member_of-id.ensures c.requires.up.listen.0.1
 
 pub returns-in_err-pass_stepped-in-Ok-Stepped-clause-fed : goal.returns-in_err-pass_stepped-in-Ok-Stepped-clause-fed
@@ -38,7 +37,7 @@ returns-in_err-pass_stepped-in-Ok-Stepped-clause-fed g c =
     let p = err_from_is_err_and c.from_residual-in_err-pass_stepped-in-Ok-Stepped.result c.from_residual-in_err-pass_stepped-in-Ok-Stepped.ensures.1 in
     rw (p.1, p.2) (λ n w r.
     let at = r.somewhere in
-    let h = happened (stack_tree c.args.stack.now) (plans_tree c.args.plans.now) w c.args.event.now (g.F.Feed.group c.args.feed.now)
+    let h = happened (stack_in c.args.course) (plans_in c.args.course) w c.args.event.now (g.F.Feed.group c.args.feed.now)
     (g.F.Feed.group c.feed.new.self) c.feed.new.out.outputs 0 c.feed.new.visits _ _ at.stack_is at.plans_are c.in-Ok-Stepped.field-0-is (c.in-Ok-Stepped.ensures.fed w at.stands) in
     journal_cut _ _ w _ _ _ _ _ _ _ _ _ _ _ _ h c.member_of-id.ensures
     (first_is _ _ w (g.F.Feed.group c.args.feed.now) n _ at c.next_number-number.ensures.number) c.in_ok-write_journal.ensures refl refl refl
@@ -47,10 +46,10 @@ returns-in_err-pass_stepped-in-Ok-Stepped-clause-fed g c =
 pub returns-in_ok-pass_stepped-in-Ok-Stepped-clause-fed : goal.returns-in_ok-pass_stepped-in-Ok-Stepped-clause-fed
 returns-in_ok-pass_stepped-in-Ok-Stepped-clause-fed g c = λ n w r.
     let at = r.somewhere in
-    let h = happened (stack_tree c.args.stack.now) (plans_tree c.args.plans.now) w c.args.event.now (g.F.Feed.group c.args.feed.now)
+    let h = happened (stack_in c.args.course) (plans_in c.args.course) w c.args.event.now (g.F.Feed.group c.args.feed.now)
     (g.F.Feed.group c.feed.new.self) c.feed.new.out.outputs 0 c.feed.new.visits _ _ at.stack_is at.plans_are c.in-Ok-Stepped.field-0-is (c.in-Ok-Stepped.ensures.fed w at.stands) in
     record {
-      rests = rests_again _ _ w _ n _ _ _ _ _ _ _ _ c.requires.typed c.requires.numbered c.is_given.ensures r c.in-Ok-Stepped.ensures.stays h
+      rests = rests_again _ _ w _ n _ _ _ _ _ _ _ _ c.requires.up.typed c.requires.up.numbered c.is_given.ensures r c.in-Ok-Stepped.ensures.stays h
           c.in-Ok-Stepped.ensures.places;
       counted = refl;
       passed = journal_then _ _ w _ _ _ _ _ _ _ _ _ _ _ h c.member_of-id.ensures
@@ -61,14 +60,14 @@ returns-in_ok-pass_stepped-in-Ok-Stepped-clause-fed g c = λ n w r.
 pub unreachable-requires : goal.unreachable-requires
 unreachable-requires g c =
     let at = c.requires.up.rests.somewhere in
-    let h = happened (stack_tree c.args.stack.now) (plans_tree c.args.plans.now) c.requires.up.world c.args.event.now (g.F.Feed.group c.args.feed.now)
+    let h = happened (stack_in c.args.course) (plans_in c.args.course) c.requires.up.world c.args.event.now (g.F.Feed.group c.args.feed.now)
     (g.F.Feed.group c.feed.new.self) c.feed.new.out.outputs 0 c.feed.new.visits _ _ at.stack_is at.plans_are c.in-Ok-Absent.field-0-is (c.in-Ok-Absent.ensures.fed c.requires.up.world at.stands) in
     own_never_absent _ _ _ _ _ _ _ _ c.requires.own h
 
 pub unreachable-requires-in-Ok-Shown : goal.unreachable-requires-in-Ok-Shown
 unreachable-requires-in-Ok-Shown g c =
     let at = c.requires.up.rests.somewhere in
-    let h = happened (stack_tree c.args.stack.now) (plans_tree c.args.plans.now) c.requires.up.world c.args.event.now (g.F.Feed.group c.args.feed.now)
+    let h = happened (stack_in c.args.course) (plans_in c.args.course) c.requires.up.world c.args.event.now (g.F.Feed.group c.args.feed.now)
     (g.F.Feed.group c.feed.new.self) c.feed.new.out.outputs 0 c.feed.new.visits _ _ at.stack_is at.plans_are c.in-Ok-Shown.field-0-is (c.in-Ok-Shown.ensures.fed c.requires.up.world at.stands) in
     own_never_shown _ _ _ _ _ _ _ _ c.requires.own h
 

@@ -2,7 +2,6 @@ use Rattle.std.specs.Prelude.{◌≡◌, ℕ, ◌+◌, ◌≤◌, take}
 use Rattle.event_graph.specs.Answer.{stack_tree}
 use Rattle.packet_plans.specs.Trees.{plans_tree}
 use Rattle.report_text.specs.Numbered.{number_after}
-use Rattle.sink_lines.specs.Tells.{tells}
 use Rattle.node_laws.specs.Acts.{outputs_acts}
 use Rattle.node_loop.specs.Around.{around}
 use Rattle.node_loop.specs.Passing.{PassesAll}
@@ -11,10 +10,8 @@ use Rattle.node_loop.proofs.outputs.pass_outputs.Given as goal
 abbrev pub invariant-loop-k : goal.invariant-loop-k
 invariant-loop-k g l = record {
   passed : PassesAll (outputs_acts (stack_tree l.stack) (plans_tree l.plans) l.id l.initial.number (take l.k l.outputs.outputs))
-      (around (tells (g.O.Sink.contents l.initial.out) (g.O.Sink.failures l.initial.out) (g.O.Sink.faults l.initial.out))
-      (g.N.Links.faults l.initial.links) (g.N.Links.send_faults l.initial.links) (g.N.Links.told l.initial.links))
-      (around (tells (g.O.Sink.contents l.out) (g.O.Sink.failures l.out) (g.O.Sink.faults l.out))
-      (g.N.Links.faults l.links) (g.N.Links.send_faults l.links) (g.N.Links.told l.links));
+      (around g.O.Sink g.N.Links l.initial.out l.initial.links)
+      (around g.O.Sink g.N.Links l.out l.links);
   numbered : l.number ≡ number_after l.initial.number (take l.k l.outputs.outputs);
   few : l.number ≤ l.initial.number + l.k;
   listening : (m : ℕ) → g.N.Links.listening l.links m ≡ g.N.Links.listening l.initial.links m;

@@ -2,22 +2,18 @@ use Rattle.std.proofs.Common.{◌≡◌, ◌<◌, Some, length, sym, subst}
 use Rattle.std.specs.List.{AllByRecursion}
 use Rattle.std.specs.Prelude.{Ok, Err}
 use Rattle.std.proofs.lemmas.Result.{err_from_is_err_and}
-use Rattle.event_graph.specs.Answer.{stack_tree}
-use Rattle.packet_plans.specs.Trees.{plans_tree}
 use Rattle.packet_laws.specs.Strays.{AreNumbered}
 use Rattle.step_laws.proofs.Numbered.{plans_are_numbered}
-use Rattle.sink_lines.specs.Tells.{tells}
-use Rattle.node_loop.specs.Around.{around}
-use Rattle.node_loop.specs.Course.{now}
+use Rattle.node_loop.specs.Around.{around, output_of, surrounding}
+use Rattle.node_loop.specs.Course.{now, plans_in, stack_in}
 use Rattle.node_loop.specs.Serve.{Serves, layered_words, whereabouts}
 use Rattle.node_loop.proofs.Ends.{all_served, made_first, not_all_listen, not_all_made, not_begun, reached, rests_first, up_first}
 use Rattle.node_loop.proofs.serving.serve.Goals as goal
 
 pub returns-in-Err : goal.returns-in-Err
 returns-in-Err g c =
-    not_begun (stack_tree c.args.stack.now) c.args.course.plan.now c.args.course.me.now c.args.course.turns c.args.patience c.stopped_goes_on.ensures
-    (whereabouts (around (tells (g.O.Sink.contents c.args.out.now) (g.O.Sink.failures c.args.out.now) (g.O.Sink.faults c.args.out.now))
-    (g.N.Links.faults c.args.links.now) (g.N.Links.send_faults c.args.links.now) (g.N.Links.told c.args.links.now)) (g.C.Clock.told c.args.clock.now))
+    not_begun (stack_in c.args.course) c.args.course.plan.now c.args.course.me.now c.args.course.turns c.args.patience c.stopped_goes_on.ensures
+    (whereabouts (around g.O.Sink g.N.Links c.args.out.now c.args.links.now) (g.C.Clock.told c.args.clock.now))
 
 pub listen_all-requires-clause-members : goal.listen_all-requires-clause-members
 listen_all-requires-clause-members g c =
@@ -28,26 +24,23 @@ returns-in_err-listen_all g c =
     let p = err_from_is_err_and c.from_residual.result c.from_residual.ensures.1 in
     let links = c.args.links.now in
     let listening = c.listen_all.new.links in
-    rw (p.1, p.2) (not_all_listen (stack_tree c.args.stack.now) c.args.course.plan.now c.args.course.me.now c.args.course.turns c.args.patience
-    c.stopped_goes_on.ensures (tells (g.O.Sink.contents c.args.out.now) (g.O.Sink.failures c.args.out.now) (g.O.Sink.faults c.args.out.now))
+    rw (p.1, p.2) (not_all_listen (stack_in c.args.course) c.args.course.plan.now c.args.course.me.now c.args.course.turns c.args.patience
+    c.stopped_goes_on.ensures (output_of g.O.Sink c.args.out.now)
     (g.C.Clock.told c.args.clock.now) (g.N.Links.faults links) (g.N.Links.faults listening) (g.N.Links.send_faults links) (g.N.Links.send_faults listening)
     (g.N.Links.told links) (g.N.Links.told listening) c.in_err-listen_all.field-0.0 c.in_err-listen_all.ensures.told c.in_err-listen_all.ensures.sends)
 
-pub make_turns-requires-clause-numbered : goal.make_turns-requires-clause-numbered
-make_turns-requires-clause-numbered g c =
-    subst AreNumbered (sym c.requires.plans) (plans_are_numbered (stack_tree c.args.stack.now) c.requires.typed)
-
 pub make_turns-requires-clause-up : goal.make_turns-requires-clause-up
 make_turns-requires-clause-up g c =
-    let stack = stack_tree c.args.stack.now in
+    let stack = stack_in c.args.course in
     let plan = c.args.course.plan.now in
     let me = c.args.course.me.now in
     let turns = c.args.course.turns in
     let patience = c.args.patience in
-    let plans = plans_tree c.args.plans.now in
+    let plans = plans_in c.args.course in
     let group = g.F.Feed.group c.args.feed.now in
     let desk = c.in-Ok.desk in
-    up_first stack plan me turns patience plans group desk (g.N.Links.listening c.listen_all.new.links)
+    up_first stack plan me turns patience plans group desk (g.N.Links.listening c.listen_all.new.links) c.requires.typed
+    (subst AreNumbered (sym c.requires.plans) (plans_are_numbered stack c.requires.typed))
     (rests_first stack plan me turns patience plans group desk c.requires.typed c.number_fits.ensures c.number_fits-2.ensures c.requires.few_peers
     c.requires.stack c.requires.group_plans c.requires.group c.in-Ok.ensures.places) c.requires.members
     (subst (λ peers. AllByRecursion (λ id. g.N.Links.listening c.listen_all.new.links id ≡ Some (length peers)) me) c.slice.ensures
@@ -55,27 +48,26 @@ make_turns-requires-clause-up g c =
 
 pub returns-in_err-make_turns : goal.returns-in_err-make_turns
 returns-in_err-make_turns g c =
-    let stack = stack_tree c.args.stack.now in
+    let stack = stack_in c.args.course in
     let plan = c.args.course.plan.now in
     let me = c.args.course.me.now in
     let turns = c.args.course.turns in
     let patience = c.args.patience in
-    let plans = plans_tree c.args.plans.now in
+    let plans = plans_in c.args.course in
     let group = g.F.Feed.group c.args.feed.now in
     let desk = c.in-Ok.desk in
-    let out = tells (g.O.Sink.contents c.args.out.now) (g.O.Sink.failures c.args.out.now) (g.O.Sink.faults c.args.out.now) in
+    let out = c.args.out.now in
     let links = c.args.links.now in
     let listening = c.listen_all.new.links in
-    let before = around out (g.N.Links.faults links) (g.N.Links.send_faults links) (g.N.Links.told links) in
-    let from = around out (g.N.Links.faults listening) (g.N.Links.send_faults listening) (g.N.Links.told listening) in
+    let before = around g.O.Sink g.N.Links out links in
+    let from = around g.O.Sink g.N.Links out listening in
     let clock = g.C.Clock.told c.args.clock.now in
     let on = c.make_turns.new in
     let at = now (g.F.Feed.group on.feed) on.desk
-    (around (tells (g.O.Sink.contents on.out) (g.O.Sink.failures on.out) (g.O.Sink.faults on.out)) (g.N.Links.faults on.links) (g.N.Links.send_faults on.links)
-    (g.N.Links.told on.links)) (g.C.Clock.told on.clock) in
+    (around g.O.Sink g.N.Links on.out on.links) (g.C.Clock.told on.clock) in
     let p = err_from_is_err_and c.from_residual-in_err-make_turns.result c.from_residual-in_err-make_turns.ensures.1 in
     rw (p.1, p.2) (not_all_made stack plan me turns patience c.stopped_goes_on.ensures (whereabouts before clock) from
-    (reached out (length me) (g.N.Links.faults links) (g.N.Links.faults listening) (g.N.Links.send_faults links) (g.N.Links.send_faults listening)
+    (reached before.output (length me) (g.N.Links.faults links) (g.N.Links.faults listening) (g.N.Links.send_faults links) (g.N.Links.send_faults listening)
     (g.N.Links.told links) (g.N.Links.told listening) c.in_ok-listen_all.ensures.told c.in_ok-listen_all.ensures.sends) at
     c.in_err-make_turns.field-0.0
     (made_first stack plan me turns patience plans group desk
@@ -85,29 +77,28 @@ returns-in_err-make_turns g c =
 
 pub returns : goal.returns
 returns g c =
-    let stack = stack_tree c.args.stack.now in
+    let stack = stack_in c.args.course in
     let plan = c.args.course.plan.now in
     let me = c.args.course.me.now in
     let turns = c.args.course.turns in
     let patience = c.args.patience in
-    let plans = plans_tree c.args.plans.now in
+    let plans = plans_in c.args.course in
     let group = g.F.Feed.group c.args.feed.now in
     let desk = c.in-Ok.desk in
-    let out = tells (g.O.Sink.contents c.args.out.now) (g.O.Sink.failures c.args.out.now) (g.O.Sink.faults c.args.out.now) in
+    let out = c.args.out.now in
     let links = c.args.links.now in
     let listening = c.listen_all.new.links in
-    let before = around out (g.N.Links.faults links) (g.N.Links.send_faults links) (g.N.Links.told links) in
-    let from = around out (g.N.Links.faults listening) (g.N.Links.send_faults listening) (g.N.Links.told listening) in
+    let before = around g.O.Sink g.N.Links out links in
+    let from = around g.O.Sink g.N.Links out listening in
     let clock = g.C.Clock.told c.args.clock.now in
     let on = c.make_turns.new in
     let at = now (g.F.Feed.group on.feed) on.desk
-    (around (tells (g.O.Sink.contents on.out) (g.O.Sink.failures on.out) (g.O.Sink.faults on.out)) (g.N.Links.faults on.links) (g.N.Links.send_faults on.links)
-    (g.N.Links.told on.links)) (g.C.Clock.told on.clock) in
-    let last = tells (g.O.Sink.contents c.write_end.new.out) (g.O.Sink.failures c.write_end.new.out) (g.O.Sink.faults c.write_end.new.out) in
+    (around g.O.Sink g.N.Links on.out on.links) (g.C.Clock.told on.clock) in
+    let last = output_of g.O.Sink c.write_end.new.out in
     subst (Serves (record { stack = stack; plan = plan; words = layered_words turns me patience }) (whereabouts before clock)
-    (whereabouts (around last at.around.faults at.around.sends at.around.told) at.clock)) (sym c.cut.ensures)
+    (whereabouts (surrounding last at.around.faults at.around.sends at.around.told) at.clock)) (sym c.cut.ensures)
     (all_served stack plan me turns patience c.stopped_goes_on.ensures (whereabouts before clock) from
-    (reached out (length me) (g.N.Links.faults links) (g.N.Links.faults listening) (g.N.Links.send_faults links) (g.N.Links.send_faults listening)
+    (reached before.output (length me) (g.N.Links.faults links) (g.N.Links.faults listening) (g.N.Links.send_faults links) (g.N.Links.send_faults listening)
     (g.N.Links.told links) (g.N.Links.told listening) c.in_ok-listen_all.ensures.told c.in_ok-listen_all.ensures.sends) at
     (made_first stack plan me turns patience plans group desk
     (rests_first stack plan me turns patience plans group desk c.requires.typed c.number_fits.ensures c.number_fits-2.ensures c.requires.few_peers

@@ -1,34 +1,22 @@
 use Rattle.std.proofs.Common.{ap₂, take, refl, rules}
-use Rattle.event_graph.specs.Answer.{stack_tree}
-use Rattle.packet_plans.specs.Trees.{plans_tree}
-use Rattle.sink_lines.specs.Tells.{tells}
+use Rattle.node_loop.specs.Course.{FedOn, plans_in, stack_in}
 use Rattle.node_loop.specs.Around.{around}
 use Rattle.std_alloc.proofs.VecSteps.Gaps.{with_items_is}
 use Rattle.std_alloc.specs.Vec.{with_items}
 use Rattle.script_mean.specs.declared.event.ScriptEvent.TheVariants.{Raw}
-use Rattle.node_loop.proofs.Turning.{FedOn}
 use Rattle.node_loop.proofs.Asking.{again_on, came, failed, met_broke, met_came, met_quiet, on_ok, quiet, wanted}
 use Rattle.node_loop.proofs.turns.ask.Goals as goal
 
 pub returns-in-Ok-Some-clause-told : goal.returns-in-Ok-Some-clause-told
 returns-in-Ok-Some-clause-told g c =
-    let told : FedOn (stack_tree c.args.stack.now) (plans_tree c.args.plans.now)
+    let told : FedOn (stack_in c.args.course) (plans_in c.args.course)
     (Raw c.args.id (take _ (with_items c.args.desk.now.room c.recv.new.into).items))
     (g.F.Feed.group c.args.feed.now) (g.F.Feed.group c.feed_datagram.new.feed)
-    (record {
-      outputs = c.args.desk.now.outputs;
-      tools = c.args.desk.now.tools;
-      room = with_items c.args.desk.now.room c.recv.new.into;
-      events = c.args.desk.now.events;
-      room_size = _;
-    }) c.feed_datagram.new.desk
-    (around (tells (g.O.Sink.contents c.args.out.now) (g.O.Sink.failures c.args.out.now) (g.O.Sink.faults c.args.out.now))
-    (g.N.Links.faults c.recv.new.self) (g.N.Links.send_faults c.recv.new.self) (g.N.Links.told c.recv.new.self))
-    (around (tells (g.O.Sink.contents c.feed_datagram.new.out) (g.O.Sink.failures c.feed_datagram.new.out) (g.O.Sink.faults c.feed_datagram.new.out))
-    (g.N.Links.faults c.feed_datagram.new.links) (g.N.Links.send_faults c.feed_datagram.new.links) (g.N.Links.told c.feed_datagram.new.links))
+    (record c.args.desk.now { room = with_items c.args.desk.now.room c.recv.new.into; room_size = _ }) c.feed_datagram.new.desk
+    (around g.O.Sink g.N.Links c.args.out.now c.recv.new.self) (around g.O.Sink g.N.Links c.feed_datagram.new.out c.feed_datagram.new.links)
     c.feed_datagram.result = c.feed_datagram.ensures.told in
     rw c.cut.ensures
-    (came (stack_tree c.args.stack.now) (plans_tree c.args.plans.now) c.args.id c.args.patience.now (g.F.Feed.group c.args.feed.now) c.args.desk.now _
+    (came (stack_in c.args.course) (plans_in c.args.course) c.args.id c.args.patience.now (g.F.Feed.group c.args.feed.now) c.args.desk.now _
     (take c.in-Ok-Some.count c.recv.new.into) _ (g.F.Feed.group c.feed_datagram.new.feed) _
     c.feed_datagram.new.desk _ _ c.feed_datagram.result
     (record { outputs = refl; events = refl })
@@ -39,21 +27,20 @@ returns-in-Ok-Some-clause-told g c =
 
 pub returns-in-Ok-Some-clause-rests : goal.returns-in-Ok-Some-clause-rests
 returns-in-Ok-Some-clause-rests g c =
-    rw c.cut.ensures (on_ok _ c.feed_datagram.result (again_on (stack_tree c.args.stack.now) (plans_tree c.args.plans.now) _ _ _ _ _ c.feed_datagram.result
+    rw c.cut.ensures (on_ok _ c.feed_datagram.result (again_on (stack_in c.args.course) (plans_in c.args.course) _ _ _ _ _ c.feed_datagram.result
     (record { outputs = refl; events = refl }) c.feed_datagram.ensures.rests))
 
 pub returns-in-Ok-None-clause-told : goal.returns-in-Ok-None-clause-told
 returns-in-Ok-None-clause-told g c =
-    quiet (stack_tree c.args.stack.now) (plans_tree c.args.plans.now) c.args.id c.args.patience.now _ _ _ _ _
+    quiet (stack_in c.args.course) (plans_in c.args.course) c.args.id c.args.patience.now _ _ _ _ _
     (record { outputs = refl; events = refl })
     (met_quiet c.args.id c.recv.new.into _ _ refl c.recv.ensures.sends c.in-Ok-None.field-0 c.in-Ok-None.field-0-is c.in-Ok-None.ensures.counted
     c.in-Ok-None.ensures.told)
 
 pub returns-in-Err-Failed-clause-told : goal.returns-in-Err-Failed-clause-told
 returns-in-Err-Failed-clause-told g c =
-    failed (stack_tree c.args.stack.now) (plans_tree c.args.plans.now) c.args.id _ _ _ _
-    (around (tells (g.O.Sink.contents c.args.out.now) (g.O.Sink.failures c.args.out.now) (g.O.Sink.faults c.args.out.now))
-    (g.N.Links.faults c.recv.new.self) (g.N.Links.send_faults c.recv.new.self) (g.N.Links.told c.recv.new.self)) _
+    failed (stack_in c.args.course) (plans_in c.args.course) c.args.id _ _ _ _
+    (around g.O.Sink g.N.Links c.args.out.now c.recv.new.self) _
     (record { outputs = refl; events = refl })
     (met_broke c.args.id c.recv.new.into _ _ refl c.recv.ensures.sends c.in-Err-Failed.field-0 c.in-Err-Failed.field-0-is c.in-Err-Failed.ensures.counted
     c.in-Err-Failed.ensures.told)
@@ -61,6 +48,6 @@ returns-in-Err-Failed-clause-told g c =
 
 pub returns-in-Err-Memory-clause-told : goal.returns-in-Err-Memory-clause-told
 returns-in-Err-Memory-clause-told g c =
-    wanted (stack_tree c.args.stack.now) (plans_tree c.args.plans.now) c.args.id c.args.patience.now _ _ _ c.recv.new.into
+    wanted (stack_in c.args.course) (plans_in c.args.course) c.args.id c.args.patience.now _ _ _ c.recv.new.into
     c.args.desk.now _ c.in-Err-Memory.field-0 c.in-Err-Memory.field-0-is
     refl c.in-Err-Memory.ensures.counted c.recv.ensures.sends c.in-Err-Memory.ensures.told

@@ -1,8 +1,6 @@
 use Rattle.std.proofs.Common.{◌∙◌, ap, arith, length, subst, sym}
 use Rattle.std.proofs.lemmas.Result.{err_from_is_err_and}
-use Rattle.event_graph.specs.Answer.{stack_tree}
-use Rattle.packet_plans.specs.Trees.{plans_tree}
-use Rattle.node_loop.specs.Course.{course_of}
+use Rattle.node_loop.specs.Course.{course_of, plans_in, stack_in}
 use Rattle.node_loop.proofs.Rounds.{TickedOn, asks_end, on_well, rests_end, ticks_end, turn_end, well}
 use Rattle.node_loop.proofs.Turning.{again_then, up_on}
 use Rattle.node_loop.proofs.turns.turn.Goals as goal
@@ -21,7 +19,7 @@ pub returns-in_err-cut-clause-told : goal.returns-in_err-cut-clause-told
 returns-in_err-cut-clause-told g c =
     let p = err_from_is_err_and c.from_residual.result c.from_residual.ensures.1 in
     rw (p.1, p.2) (λ b borne sum so.
-    ticks_end (stack_tree c.args.stack.now) (plans_tree c.args.plans.now) (course_of c.args.course) b c.args.t c.requires.turns c.args.progress.now.patience
+    ticks_end (stack_in c.args.course) (plans_in c.args.course) (course_of c.args.course) b c.args.t c.requires.turns c.args.progress.now.patience
     borne c.now-moment.result sum (g.F.Feed.group c.args.feed.now) (g.F.Feed.group c.tick_all.new.feed) c.args.desk.now c.tick_all.new.desk _ _
     (g.C.Clock.told c.args.clock.now) (g.C.Clock.told c.now-moment.new.self) c.now-moment.ensures.moment c.now-moment.ensures.kept so
     c.args.progress.now.patience c.tick_all.result _ (sym c.cut.ensures ∙ c.in_err-cut.was)
@@ -29,7 +27,7 @@ returns-in_err-cut-clause-told g c =
 
 pub ask_all-requires-clause-up : goal.ask_all-requires-clause-up
 ask_all-requires-clause-up g c =
-    up_on (stack_tree c.args.stack.now) (plans_tree c.args.plans.now) _ _ _ _ _ _ c.args.course.me.now c.requires.up
+    up_on (stack_in c.args.course) (plans_in c.args.course) _ _ _ _ _ _ c.args.course.me.now c.requires.up
     (on_well _ c.tick_all.result _ (sym c.cut.ensures ∙ c.in_ok-cut.was) c.tick_all.ensures.rests) c.tick_all.ensures.listening
 
 pub ask_all-requires-clause-few : goal.ask_all-requires-clause-few
@@ -47,10 +45,10 @@ pub returns-in_err-ask_all-clause-told : goal.returns-in_err-ask_all-clause-told
 returns-in_err-ask_all-clause-told g c =
     let p = err_from_is_err_and c.from_residual-in_err-ask_all.result c.from_residual-in_err-ask_all.ensures.1 in
     rw (p.1, p.2) (λ b borne sum so.
-    asks_end (stack_tree c.args.stack.now) (plans_tree c.args.plans.now) (course_of c.args.course) b c.args.t c.requires.turns c.args.progress.now.patience
+    asks_end (stack_in c.args.course) (plans_in c.args.course) (course_of c.args.course) b c.args.t c.requires.turns c.args.progress.now.patience
     borne c.now-moment.result sum (g.F.Feed.group c.args.feed.now) (g.F.Feed.group c.tick_all.new.feed) c.args.desk.now c.tick_all.new.desk _ _
     (g.C.Clock.told c.args.clock.now) (g.C.Clock.told c.now-moment.new.self) c.now-moment.ensures.moment c.now-moment.ensures.kept so
-    (subst (TickedOn (stack_tree c.args.stack.now) (plans_tree c.args.plans.now) (course_of c.args.course) b c.args.t c.requires.turns c.now-moment.result
+    (subst (TickedOn (stack_in c.args.course) (plans_in c.args.course) (course_of c.args.course) b c.args.t c.requires.turns c.now-moment.result
     c.args.progress.now.patience (g.F.Feed.group c.args.feed.now) (g.F.Feed.group c.tick_all.new.feed) c.args.desk.now c.tick_all.new.desk _ _)
     (well c.tick_all.result _ (sym c.cut.ensures ∙ c.in_ok-cut.was))
     (λ m k borne clock within so. c.tick_all.ensures.told (course_of c.args.course) b m k c.args.t c.args.progress.now.patience borne clock within so))
@@ -59,8 +57,8 @@ returns-in_err-ask_all-clause-told g c =
 
 pub feed_planned-requires-clause-up : goal.feed_planned-requires-clause-up
 feed_planned-requires-clause-up g c =
-    up_on (stack_tree c.args.stack.now) (plans_tree c.args.plans.now) (g.F.Feed.group c.args.feed.now) _ c.args.desk.now _ _ _ c.args.course.me.now c.requires.up
-    (again_then (stack_tree c.args.stack.now) (plans_tree c.args.plans.now) _ (g.F.Feed.group c.tick_all.new.feed) _ _ c.tick_all.new.desk _
+    up_on (stack_in c.args.course) (plans_in c.args.course) (g.F.Feed.group c.args.feed.now) _ c.args.desk.now _ _ _ c.args.course.me.now c.requires.up
+    (again_then (stack_in c.args.course) (plans_in c.args.course) _ (g.F.Feed.group c.tick_all.new.feed) _ _ c.tick_all.new.desk _
     (on_well _ c.tick_all.result _ (sym c.cut.ensures ∙ c.in_ok-cut.was) c.tick_all.ensures.rests) c.in_ok-ask_all.ensures.rests) (λ m. c.ask_all.ensures.listening m ∙ c.tick_all.ensures.listening m)
 
 pub feed_planned-requires-clause-few : goal.feed_planned-requires-clause-few
@@ -77,16 +75,16 @@ feed_planned-requires-clause-few g c =
 
 pub returns-clause-rests : goal.returns-clause-rests
 returns-clause-rests g c = rw c.cut-2.ensures
-    (rests_end (stack_tree c.args.stack.now) (plans_tree c.args.plans.now) _ (g.F.Feed.group c.tick_all.new.feed) (g.F.Feed.group c.ask_all.new.feed) _
+    (rests_end (stack_in c.args.course) (plans_in c.args.course) _ (g.F.Feed.group c.tick_all.new.feed) (g.F.Feed.group c.ask_all.new.feed) _
     _ c.tick_all.new.desk c.ask_all.new.desk _ c.feed_planned.result
     (on_well _ c.tick_all.result _ (sym c.cut.ensures ∙ c.in_ok-cut.was) c.tick_all.ensures.rests) c.in_ok-ask_all.ensures.rests c.feed_planned.ensures.rests)
 
 pub returns-clause-told : goal.returns-clause-told
 returns-clause-told g c = rw c.cut-2.ensures (λ b borne sum so.
-    turn_end (stack_tree c.args.stack.now) (plans_tree c.args.plans.now) (course_of c.args.course) b c.args.t c.requires.turns c.args.progress.now.patience
+    turn_end (stack_in c.args.course) (plans_in c.args.course) (course_of c.args.course) b c.args.t c.requires.turns c.args.progress.now.patience
     borne c.now-moment.result sum (g.F.Feed.group c.args.feed.now) (g.F.Feed.group c.tick_all.new.feed) c.args.desk.now c.tick_all.new.desk _ _
     (g.C.Clock.told c.args.clock.now) (g.C.Clock.told c.now-moment.new.self) c.now-moment.ensures.moment c.now-moment.ensures.kept so
-    (subst (TickedOn (stack_tree c.args.stack.now) (plans_tree c.args.plans.now) (course_of c.args.course) b c.args.t c.requires.turns c.now-moment.result
+    (subst (TickedOn (stack_in c.args.course) (plans_in c.args.course) (course_of c.args.course) b c.args.t c.requires.turns c.now-moment.result
     c.args.progress.now.patience (g.F.Feed.group c.args.feed.now) (g.F.Feed.group c.tick_all.new.feed) c.args.desk.now c.tick_all.new.desk _ _)
     (well c.tick_all.result _ (sym c.cut.ensures ∙ c.in_ok-cut.was))
     (λ m k borne clock within so. c.tick_all.ensures.told (course_of c.args.course) b m k c.args.t c.args.progress.now.patience borne clock within so))

@@ -1,7 +1,6 @@
 use Rattle.std.proofs.Common.{ap, arith, length, sym, subst}
 use Rattle.event_graph.specs.Answer.{stack_tree}
 use Rattle.job_mean.specs.Job.{layered, load}
-use Rattle.sink_lines.specs.Tells.{tells}
 use Rattle.job_ends.specs.Comes.{around, Comes}
 use Rattle.play_jobs.proofs.Events.{made_many}
 use Rattle.play_jobs.proofs.Plays.{load_comes}
@@ -14,9 +13,7 @@ play_load-requires-clause-typed g c = means_typed _ _ c.in-Ok.ensures.read.means
 pub returns-in-Ok-generate : goal.returns-in-Ok-generate
 returns-in-Ok-generate g c =
     let job = c.args.load.now in
-    let a = around (g.S.Shelf.told c.args.shelf.now) (g.S.Shelf.faults c.args.shelf.now) (g.S.Shelf.faults c.fetch_stack.new.shelf)
-    (tells (g.O.Sink.contents c.args.out.now) (g.O.Sink.failures c.args.out.now) (g.O.Sink.faults c.args.out.now))
-    (tells (g.O.Sink.contents c.play_load.new.out) (g.O.Sink.failures c.play_load.new.out) (g.O.Sink.faults c.play_load.new.out)) in
+    let a = around g.S.Shelf g.O.Sink c.args.shelf.now c.fetch_stack.new.shelf c.args.out.now c.play_load.new.out in
     subst (Comes (load job.file.now job.seed job.events job.members job.raw layered) a) (sym c.ending.ensures)
     (load_comes job.file.now job.seed job.events job.members job.raw a (stack_tree c.in-Ok.stack) c.in-Ok.ensures.read c.play_load.result
     (rw c.in-Ok-generate.ensures.made at c.play_load.ensures))

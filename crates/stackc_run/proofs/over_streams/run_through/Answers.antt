@@ -4,7 +4,7 @@ use Rattle.outside.specs.StdSink.{gathered}
 use Rattle.job_mean.specs.Job.{job_of_words}
 use Rattle.sink_lines.specs.Said.{errors}
 use Rattle.sink_lines.specs.Tells.{tells}
-use Rattle.job_ends.specs.Comes.{around}
+use Rattle.job_ends.specs.Comes.{surrounding}
 use Rattle.job_ends.specs.Shown.{shown, Said}
 use Rattle.node_jobs.specs.Comes.{beyond}
 use Rattle.stackc_run.proofs.Performed.{does}
@@ -22,11 +22,9 @@ returns-clause-through g c =
     let said = subst (λ end. Said end e) c.closed.ensures c.say-status.ensures in
     let put = tells (gathered (g.O.Write.contents out.stream) out.done out.held.items) None out.faults in
     let start = c.args.out.now in
-    let a = around (g.S.Shelf.told c.args.shelf.now) (g.S.Shelf.faults c.args.shelf.now) (g.S.Shelf.faults c.perform-ending.new.shelf)
+    let a = surrounding (g.S.Shelf.told c.args.shelf.now) (g.S.Shelf.faults c.args.shelf.now) (g.S.Shelf.faults c.perform-ending.new.shelf)
     (tells (gathered (g.O.Write.contents start.stream) start.done start.held.items) None start.faults) put in
-    let n = beyond (g.N.Links.faults c.args.links.now) (g.N.Links.faults c.perform-ending.new.links) (g.N.Links.send_faults c.args.links.now)
-    (g.N.Links.send_faults c.perform-ending.new.links) (g.N.Links.told c.args.links.now) (g.N.Links.told c.perform-ending.new.links)
-    (g.C.Clock.told c.args.clock.now) (g.C.Clock.told c.perform-ending.new.clock) in
+    let n = beyond g.N.Links g.C.Clock c.args.links.now c.perform-ending.new.links c.args.clock.now c.perform-ending.new.clock in
     record {
       put = put;
       end = shown c.perform-ending.result;

@@ -1,6 +1,7 @@
 //! A node of all three members of the counter layer through two hundred turns, in the fourth and the sixth of which one casts.
 
-use crate::served::{Left, files, left_by};
+use super::served::{files, left_by};
+use crate::runs::Left;
 use outside::{Clock, Links, MemClock, MemLinks, MemShelf, MemSink, RunClock};
 use std::alloc::{AllocError, Global};
 use std::process;

@@ -1,14 +1,12 @@
 //! Nodes whose outside fails.
 
-use crate::served::{Case, Left, nothing_fails, served};
+use super::served::{Case, SERVED, nothing_fails, served};
+use crate::runs::Left;
 use outside::Fate;
 use std::alloc::{AllocError, Global};
 use std::test::Fail;
 
-const SERVED: &[u8] =
-    b"> tick 0 5\n> tick 1 5\n> tick 2 5\n> cast 0 6869\npacket 1 0 all cnt.num(0) 6869\n> tick 0 6\n> tick 1 6\n> tick 2 6\n> raw 1 e50000000100000007000000000000000700ff01000000006869\ndeliver 1 cast 0 6869\n> raw 2 e50000000100000007000000000000000700ff01000000006869\ndeliver 2 cast 0 6869\n> cast 2 7a\npacket 2 2 all cnt.num(0) 7a\nend 10\n";
-
-/// The same, where the first and the last of the four sendings fail.
+/// What a node of two turns writes, where the first and the last of its four sendings fail.
 const LOST: &[u8] =
     b"> tick 0 5\n> tick 1 5\n> tick 2 5\n> cast 0 6869\npacket 1 0 all cnt.num(0) 6869\nlost 1\n> tick 0 6\n> tick 1 6\n> tick 2 6\n> raw 2 e50000000100000007000000000000000700ff01000000006869\ndeliver 2 cast 0 6869\n> cast 2 7a\npacket 2 2 all cnt.num(0) 7a\nlost 2\nend 9\n";
 

@@ -1,14 +1,15 @@
 //! A node over memory.
 
-use outside::{Clock, Fate, Links, MemClock, MemLinks, MemShelf, MemSink, NamedFile, Shelf, Sink};
-use stackc_run::run;
+use crate::runs::{COUNTER, Left, pair, run_over, words};
+use outside::{Clock, Fate, Links, MemClock, MemLinks, MemShelf, MemSink, NamedFile};
 use std::alloc::{AllocError, Global};
 
-const COUNTER: &[u8] =
-    b"layer cnt {\n  state int k;\n  state int e[n];\n  header num(seq) passes;\n  down Cast(p, m) {\n    down Cast(p, m) with num(k);\n    set k = (k + 1);\n  }\n  up Cast(o, m) with num(seq) common (seq == e[o]) {\n    set e[o] = (seq + 1);\n    up Cast(o, m);\n  }\n}\nstack { cnt; }\n";
-
-const PLAN: &[u8] =
+pub(crate) const PLAN: &[u8] =
     b"group 1 stamp 7 members 3\npeer 0 127.0.0.1:4000\npeer 1 127.0.0.1:4001\npeer 2 127.0.0.1:4002\nturn 0 cast 0 6869\nturn 1 cast 2 7a\n";
+
+/// What a node of two turns writes, where nothing fails.
+pub(crate) const SERVED: &[u8] =
+    b"> tick 0 5\n> tick 1 5\n> tick 2 5\n> cast 0 6869\npacket 1 0 all cnt.num(0) 6869\n> tick 0 6\n> tick 1 6\n> tick 2 6\n> raw 1 e50000000100000007000000000000000700ff01000000006869\ndeliver 1 cast 0 6869\n> raw 2 e50000000100000007000000000000000700ff01000000006869\ndeliver 2 cast 0 6869\n> cast 2 7a\npacket 2 2 all cnt.num(0) 7a\nend 10\n";
 
 /// What is to fail, or to become of datagrams, in a run of the node; and what its clock shows.
 #[derive(Drop)]
@@ -37,27 +38,6 @@ pub(crate) fn nothing_fails(alloc: Global) -> Result<Case, AllocError> {
     })
 }
 
-/// What a run left: its status, and the bytes on its output and on its standard error.
-#[derive(Drop)]
-pub(crate) struct Left {
-    pub status: u8,
-    pub out: Vec<u8>,
-    pub err: Vec<u8>,
-}
-
-/// A run. What it says of concrete files, sinks and links isn't asked here, and would cost each test much.
-fn run_over<S: Shelf, O: Sink, E: Sink, N: Links, C: Clock>(
-    alloc: Global,
-    words: &[String],
-    shelf: &mut S,
-    out: &mut O,
-    err: &mut E,
-    links: &mut N,
-    clock: &mut C,
-) -> u8 {
-    run(alloc, words, shelf, out, err, links, clock)
-}
-
 /// What a run leaves.
 pub(crate) fn left_by<N: Links, C: Clock>(
     alloc: Global,
@@ -68,10 +48,7 @@ pub(crate) fn left_by<N: Links, C: Clock>(
     links: &mut N,
     clock: &mut C,
 ) -> Result<Left, AllocError> {
-    let mut words = Vec::new(alloc);
-    for text in texts {
-        words.push(String::from_str(alloc, text)?)?;
-    }
+    let words = words(alloc, texts)?;
     let status = run_over(alloc, &words, &mut shelf, &mut out, &mut err, links, clock);
     Ok(Left {
         status,
@@ -80,17 +57,9 @@ pub(crate) fn left_by<N: Links, C: Clock>(
     })
 }
 
-fn named(alloc: Global, name: &str, bytes: &[u8]) -> Result<NamedFile, AllocError> {
-    Ok(NamedFile {
-        name: String::from_str(alloc, name)?,
-        bytes: Vec::from_slice(alloc, bytes)?,
-    })
-}
-
 /// The counter layer as `f`, and another file as `p`.
 pub(crate) fn files(alloc: Global, other: &[u8]) -> Result<Vec<NamedFile>, AllocError> {
-    let files = vec![in alloc; named(alloc, "f", COUNTER)?, named(alloc, "p", other)?]?;
-    Ok(files)
+    pair(alloc, COUNTER, "p", other)
 }
 
 /// Runs the node of a case.
