@@ -75,7 +75,7 @@ pub fn cut(alloc: Global, text: &[u8]) -> Result<Tokens, AllocError>
     Ok(Tokens { tokens, bad_at })
 }
 
-/// Adds tokens up to the next line that seems to begin a layer or the stack, but for one at the front, or to the end of the text. The
+/// Adds tokens up to the next word that seems to begin a layer or the stack, but for one at the front, or to the end of the text. The
 /// result is what is left then, or none where a token is bad.
 pub fn cut_part<'a>(tokens: &mut Vec<Lexed>, left: Left<'a>) -> Result<Option<Left<'a>>, AllocError>
     requires { HasRoom left }
@@ -87,7 +87,7 @@ pub fn cut_part<'a>(tokens: &mut Vec<Lexed>, left: Left<'a>) -> Result<Option<Le
     }
 }
 
-/// Adds the tokens of what is left, to the end or up to the next line that seems to begin a layer or the stack.
+/// Adds the tokens of what is left, to the end or up to the next word that seems to begin a layer or the stack.
 fn cut_on<'a>(tokens: &mut Vec<Lexed>, left: Left<'a>, to_end: bool) -> Result<Stop<'a>, AllocError>
     requires { HasRoom left }
     ensures { IfOk result (λ stop. Stops tokens.old.items tokens.new.items left.entry to_end stop) }
@@ -102,7 +102,7 @@ fn cut_on<'a>(tokens: &mut Vec<Lexed>, left: Left<'a>, to_end: bool) -> Result<S
             rest = behind;
             continue;
         }
-        if at.col == 1 && !to_end && begins_part(*first, rest) && !tokens.is_empty() {
+        if !to_end && begins_part(*first, rest) && !tokens.is_empty() {
             return Ok(Stop::Before(Left {
                 text: rest,
                 at,
