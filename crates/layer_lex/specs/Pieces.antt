@@ -1,11 +1,15 @@
 -- What the lexer's values say.
-use Rattle.std.specs.Prelude.{◌≡◌, ◌<◌, ℕ, suc, length, take, Bool, false, not, nat_eq, List, [], ◌∷◌, ◌++◌, fold, Option, Some, None}
+use Rattle.std.specs.Prelude.{◌≡◌, ◌<◌, ◌≤◌, ◌+◌, ℕ, suc, length, take, Bool, true, false, not, nat_eq, List, [], ◌∷◌, ◌++◌, fold, Option, Some, None}
 use Rattle.std.specs.List.{list_all}
 use Rattle.layer_ast.specs.declared.names.At.{At}
 use Rattle.layer_ast.specs.declared.tokens.Lexed.{Lexed}
 use Rattle.layer_ast.specs.declared.tokens.Token.TheVariants as token
 use Rattle.layer_ast.specs.Spelling.{word_token}
-use Rattle.layer_ast.specs.Cut.{Piece as Found, gap, one, bad, Tokens as Parts, is_numeral, place_behind}
+use Rattle.layer_ast.specs.Cut.{Piece as Found, gap, one, bad, Tokens as Parts, is_numeral, cut_from, place_behind}
+use Rattle.layer_lex.specs.declared.Left.{Left}
+use Rattle.layer_lex.specs.declared.Stop.{Stop}
+use Rattle.layer_lex.specs.declared.Stop.TheVariants.{Before}
+use Rattle.layer_lex.specs.declared.Stop.TheVariants as stop
 use Rattle.layer_lex.specs.declared.Tokens.{Tokens}
 use Rattle.layer_lex.specs.declared.pieces.Piece.{Piece}
 use Rattle.layer_lex.specs.declared.pieces.Piece.TheVariants.{Gap, Word, Number, Symbol, Bad}
@@ -51,3 +55,33 @@ GoesOn bad at old new more = (new ≡ old) × (more ≡ None)
 -- whether bytes stand in one line
 abbrev pub is_flat : List ℕ → Bool
 is_flat bytes = list_all (λ b. not (nat_eq b 10)) bytes
+
+-- the tokens of what is left of a text
+abbrev pub left_of : Left → Parts
+left_of left = cut_from left.behind_number 0 left.text.now left.at
+
+-- these tokens and then others
+abbrev pub in_front : List Lexed → Parts → Parts
+in_front front t = record { tokens = front ++ t.tokens; bad_at = t.bad_at }
+
+-- the places of what is left are numbers of 32 bits
+pub record HasRoom (left : Left) : Type 0 where
+  pub line : left.at.line + length left.text.now < 4294967296
+  pub col : left.at.col + length left.text.now < 4294967296
+
+-- tokens were added up to here, where this is left, and no more of them than there were bytes
+pub record CutsPart (old new : List Lexed) (left next : Left) : Type 0 where
+  pub same : in_front new (left_of next) ≡ in_front old (left_of left)
+  pub room : HasRoom next
+  pub fewer : length next.text.now + length new ≤ length left.text.now + length old
+
+-- what cutting comes to: the front of what is left was cut, all of it where that was asked for, or there is a bad token behind it
+pub record StopsBefore (old new : List Lexed) (left : Left) (to_end : Bool) (next : Left) : Type 0 where
+  pub same : in_front new (left_of next) ≡ in_front old (left_of left)
+  pub room : HasRoom next
+  pub fewer : length next.text.now + length new ≤ length left.text.now + length old
+  pub ended : to_end ≡ true → left_of next ≡ record { tokens = []; bad_at = None }
+
+abbrev pub Stops : List Lexed → List Lexed → Left → Bool → Stop → Type 0
+Stops old new left to_end (Before next) = StopsBefore old new left to_end next
+Stops old new left to_end (stop.Bad at) = in_front new record { tokens = []; bad_at = Some at } ≡ in_front old (left_of left)

@@ -1,10 +1,10 @@
 //! The lexer of layer files: a text is cut into its tokens, each with its place.
 #![tactic(auto)]
 
-ghost use Rattle.std.specs.Prelude.{◌≡◌, ℕ, List, ◌+◌, ◌<◌, ◌≤◌, length, IfOk};
+ghost use Rattle.std.specs.Prelude.{◌≡◌, ℕ, List, [], ◌∷◌, ◌+◌, ◌<◌, ◌≤◌, length, true, None, IfOk, IfSome};
 ghost use Rattle.layer_ast.specs.Cut.{cut as cut_of, place_behind as next_place};
 ghost use Rattle.layer_ast.specs.Stops.{end_of as end};
-ghost use Rattle.layer_lex.specs.Pieces.{found, tokens_of, is_number as is_number_piece, past, GoesOn, IsFront};
+ghost use Rattle.layer_lex.specs.Pieces.{found, tokens_of, is_number as is_number_piece, past, left_of, GoesOn, IsFront, HasRoom, CutsPart, Stops};
 
 mod pieces;
 mod words;
@@ -24,42 +24,117 @@ pub struct Tokens {
     pub bad_at: Option<At>,
 }
 
+/// What is left of a text behind some of its tokens: its bytes, the place of the first, and whether a number stands in front of it.
+#[derive(Clone, Copy)]
+pub struct Left<'a> {
+    text: &'a [u8],
+    at: At,
+    behind_number: bool,
+}
+
+impl<'a> Left<'a> {
+    /// A whole text.
+    pub fn of(text: &'a [u8]) -> Left<'a>
+        requires { length text.now < 4294967295 }
+        ensures is { left_of result ≡ cut_of text.now }
+        ensures room { HasRoom result }
+        ensures text { result.text.now ≡ text.now }
+    {
+        Left {
+            text,
+            at: At { line: 1, col: 1 },
+            behind_number: false,
+        }
+    }
+
+    /// Whether nothing is left.
+    pub fn is_at_end(&self) -> bool
+        ensures { result ≡ true → left_of self.now ≡ record { tokens = []; bad_at = None } }
+    {
+        self.text.is_empty()
+    }
+}
+
+/// Where cutting came to an end: in front of what is left, or at a bad token.
+#[derive(Clone, Copy)]
+enum Stop<'a> {
+    Before(Left<'a>),
+    Bad(At),
+}
+
 /// Cuts a text into tokens.
 pub fn cut(alloc: Global, text: &[u8]) -> Result<Tokens, AllocError>
     requires { length text.now < 4294967295 }
     ensures { IfOk result (λ c. tokens_of c ≡ cut_of text.now) }
 {
     let mut tokens = Vec::with_capacity(alloc, text.len() / BYTES_A_TOKEN + 1)?;
-    let mut at = At { line: 1, col: 1 };
-    let mut behind_number = false;
-    let mut rest = text;
+    let bad_at = match cut_on(&mut tokens, Left::of(text), true)? {
+        Stop::Before(_) => None,
+        Stop::Bad(at) => Some(at),
+    };
+    Ok(Tokens { tokens, bad_at })
+}
+
+/// Adds tokens up to the next word that seems to begin a layer or the stack, but for one at the front, or to the end of the text. The
+/// result is what is left then, or none where a token is bad.
+pub fn cut_part<'a>(tokens: &mut Vec<Lexed>, left: Left<'a>) -> Result<Option<Left<'a>>, AllocError>
+    requires { HasRoom left }
+    ensures { IfOk result (λ o. IfSome o (λ next. CutsPart tokens.old.items tokens.new.items left.entry next)) }
+{
+    match cut_on(tokens, left, false)? {
+        Stop::Before(next) => Ok(Some(next)),
+        Stop::Bad(_) => Ok(None),
+    }
+}
+
+/// Adds the tokens of what is left, to the end or up to the next word that seems to begin a layer or the stack.
+fn cut_on<'a>(tokens: &mut Vec<Lexed>, left: Left<'a>, to_end: bool) -> Result<Stop<'a>, AllocError>
+    requires { HasRoom left }
+    ensures { IfOk result (λ stop. Stops tokens.old.items tokens.new.items left.entry to_end stop) }
+{
+    let mut at = left.at;
+    let mut behind_number = left.behind_number;
+    let mut rest = left.text;
     while let Some((first, behind)) = rest.split_first() {
-        let next = place_behind(*first, at);
         if is_blank(*first) {
             behind_number = false;
-            at = next;
+            at = place_behind(*first, at);
             rest = behind;
             continue;
         }
+        if !to_end && begins_part(*first, rest) && !tokens.is_empty() {
+            return Ok(Stop::Before(Left {
+                text: rest,
+                at,
+                behind_number,
+            }));
+        }
         let piece = piece_at(behind_number, *first, behind, rest);
         behind_number = is_number(&piece);
-        let Some(more) = take_piece(&mut tokens, piece, at, rest)? else {
-            return Ok(Tokens {
-                tokens,
-                bad_at: Some(at),
-            });
+        let Some(more) = take_piece(tokens, piece, at, rest)? else {
+            return Ok(Stop::Bad(at));
         };
         at = At {
-            line: next.line,
-            col: next.col + more as u32,
+            line: at.line,
+            col: at.col + 1 + more as u32,
         };
         let (_, after) = behind.split_at(more);
         rest = after;
     }
-    Ok(Tokens {
-        tokens,
-        bad_at: None,
-    })
+    Ok(Stop::Before(Left {
+        text: rest,
+        at,
+        behind_number,
+    }))
+}
+
+/// Whether a text seems to begin a layer or the stack.
+fn begins_part(first: u8, text: &[u8]) -> bool {
+    match first {
+        b'l' => text.starts_with(b"layer "),
+        b's' => text.starts_with(b"stack "),
+        _ => false,
+    }
 }
 
 /// Adds the token of a piece at the front of a text to the tokens. The result is how many bytes of the piece stand behind its

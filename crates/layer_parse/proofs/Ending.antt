@@ -8,7 +8,7 @@ use Rattle.layer_ast.specs.Printed.{plain}
 use Rattle.layer_ast.specs.Spells.{Fits}
 use Rattle.layer_ast.specs.Tree.{LayerTree, PlaceTree}
 use Rattle.layer_machine.specs.Machine.{Symbol, one, layers, a_place, places, accepted, refused, step, run, start, Outcome}
-use Rattle.layer_parse.specs.Reading.{Reads, ReadsFlat, ReadsOpening, ReadsFile}
+use Rattle.layer_parse.specs.Reading.{last_part, Reads, ReadsFlat, ReadsOpening, ReadsStack, ReadsFile}
 
 no_stack : (room : Option ℕ) (n : ℕ) (go : ℕ → List Symbol → Outcome) → step room None n go ≡ refused n
 no_stack None n go = refl
@@ -29,27 +29,37 @@ pub ends_later : (rest : List Lexed) (room : ℕ) → nat_eq (length rest) 0 ≡
 ends_later [] room is = absurd (true≢false is)
 ends_later (t ∷ rest) room is = no_stack (room_behind t.token room) _ _
 
--- the parts of a whole file, one behind the other
-module _ (tokens behind_layers behind_stack inside_stack behind_places rest : List Lexed) (inside : ℕ) (ls : List LayerTree)
-    (ps : List PlaceTree) (a : Reads print.layers (layers ∷ []) 100 tokens ls behind_layers)
-    (b : ReadsFlat (λ p k. p ∷ k) (one sign.Stack ∷ []) (λ room. room) behind_layers (plain sign.Stack) behind_stack)
+-- the parts of the stack at the end of a file, one behind the other
+module _ (tokens behind_stack inside_stack behind_places rest : List Lexed) (inside : ℕ) (ps : List PlaceTree)
+    (b : ReadsFlat (λ p k. p ∷ k) (one sign.Stack ∷ []) (λ room. room) tokens (plain sign.Stack) behind_stack)
     (c : ReadsOpening sign.LeftBrace 100 behind_stack inside inside_stack)
     (d : Reads print.places (a_place ∷ places ∷ []) inside inside_stack ps behind_places)
     (e : ReadsFlat (λ p k. p ∷ k) (one sign.RightBrace ∷ []) suc behind_places (plain sign.RightBrace) rest) where
-  file_goes_on : run 100 start tokens ≡ run (suc inside) [] rest
-  file_goes_on =
-      a.goes_on (one sign.Stack ∷ one sign.LeftBrace ∷ a_place ∷ places ∷ one sign.RightBrace ∷ [])
-      ∙ (b.goes_on 100 (one sign.LeftBrace ∷ a_place ∷ places ∷ one sign.RightBrace ∷ [])
+  stack_goes_on : run 100 last_part tokens ≡ run (suc inside) [] rest
+  stack_goes_on =
+      b.goes_on 100 (one sign.LeftBrace ∷ a_place ∷ places ∷ one sign.RightBrace ∷ [])
       ∙ (c.goes_on (a_place ∷ places ∷ one sign.RightBrace ∷ [])
-      ∙ (d.goes_on (one sign.RightBrace ∷ []) ∙ e.goes_on inside [])))
+      ∙ (d.goes_on (one sign.RightBrace ∷ []) ∙ e.goes_on inside []))
 
-  pub file_refused : false ≡ nat_eq (length rest) 0 → run 100 start tokens ≡ refused (length rest)
-  file_refused is = file_goes_on ∙ ends_later rest (suc inside) (sym is)
+  pub stack_refused : false ≡ nat_eq (length rest) 0 → run 100 last_part tokens ≡ refused (length rest)
+  stack_refused is = stack_goes_on ∙ ends_later rest (suc inside) (sym is)
 
-  pub file_read : true ≡ nat_eq (length rest) 0 → 0 < length ps → (library : List LayerTree) →
-      ReadsFile tokens record { layers = ls; places = ps; library = library }
-  file_read is some library = record {
-    fits = a.spelled _ (b.spelled _ (c.spelled _ (d.spelled _ (e.spelled [] (nothing_fits rest (sym is))))));
-    accepts = file_goes_on ∙ ends_here rest (suc inside) (sym is);
-    placed = λ none. absurd (omega (arith, ap length none));
+  pub stack_read : true ≡ nat_eq (length rest) 0 → 0 < length ps → ReadsStack tokens ps
+  stack_read is some = record {
+    fits = b.spelled _ (c.spelled _ (d.spelled _ (e.spelled [] (nothing_fits rest (sym is)))));
+    accepts = stack_goes_on ∙ ends_here rest (suc inside) (sym is);
+    some = λ none. absurd (omega (arith, ap length none));
   }
+
+-- the layers of a file and its stack
+module _ (tokens rest : List Lexed) (ls : List LayerTree) (a : Reads print.layers (layers ∷ []) 100 tokens ls rest) where
+  pub file_read : (ps : List PlaceTree) (brought : List LayerTree) → ReadsStack rest ps →
+      ReadsFile tokens record { layers = ls; places = ps; library = brought }
+  file_read ps brought s = record {
+    fits = a.spelled _ s.fits;
+    accepts = a.goes_on last_part ∙ s.accepts;
+    placed = s.some;
+  }
+
+  pub file_refused : (n : ℕ) → run 100 last_part rest ≡ refused n → run 100 start tokens ≡ refused n
+  file_refused n stops = a.goes_on last_part ∙ stops

@@ -193,7 +193,7 @@ declarations-append : (all : List Declaration) (d : Declaration) (k : List Print
 declarations-append [] d k = refl
 declarations-append (x ∷ all) d k = ap (print.declaration (declaration_tree x)) (declarations-append all d k)
 
-layers-append : (all : List Layer) (l : Layer) (k : List Printed) →
+pub layers-append : (all : List Layer) (l : Layer) (k : List Printed) →
     print.layers (map layer_tree (all ++ l ∷ [])) k ≡ print.layers (map layer_tree all) (print.layer (layer_tree l) k)
 layers-append [] l k = refl
 layers-append (x ∷ all) l k = ap (print.layer (layer_tree x)) (layers-append all l k)

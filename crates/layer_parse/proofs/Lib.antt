@@ -3,6 +3,7 @@ pub mod Ending
 pub mod Exits
 pub mod Fit
 pub mod Gathered
+pub mod LayerAfterLayer
 pub mod LibraryTexts
 pub mod Signs
 pub mod Under

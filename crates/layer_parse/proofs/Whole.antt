@@ -1,13 +1,13 @@
 -- What the reading of a whole text says of it.
 use Rattle.std.proofs.Common.{◌≡◌, ℕ, zero, suc, ◌+◌, ◌-◌, ◌<◌, ◌≤◌, List, [], ◌∷◌, length, slice_get, get_or, Option, Some, None, refl, sym, ap, subst, ◌∙◌, arith}
 use Rattle.std.proofs.lemmas.Option.{slice_get_read}
-use Rattle.file_mean.specs.Library.{SpellsLayer, HasLibrary, IsFile}
+use Rattle.file_mean.specs.Library.{SpellsLayer}
 use Rattle.layer_ast.specs.declared.names.At.{At}
 use Rattle.layer_ast.specs.declared.tokens.Lexed.{Lexed}
 use Rattle.layer_ast.specs.Cut.{cut, Tokens}
 use Rattle.layer_ast.specs.Depth.{room_behind}
 use Rattle.layer_ast.specs.Print as print
-use Rattle.layer_ast.specs.Spells.{Fits}
+use Rattle.layer_ast.specs.Spells.{Fits, Spells}
 use Rattle.layer_ast.specs.Stops.{end_of, StopsBad, StopsInside, StopsAtEnd}
 use Rattle.layer_ast.specs.Tree.{LayerTree, FileTree}
 use Rattle.layer_machine.specs.Machine.{Symbol, a_layer, start, Outcome, accepted, refused, step, run}
@@ -47,16 +47,13 @@ module _ (text : List ℕ) (tokens : List Lexed) (bad_at : Option At) (cuts : re
           fits = subst (Fits (print.layer l [])) same_tokens (read.spelled [] (nothing_left rest 100 ends));
         }
 
-    -- what was read of a text without a bad token, with what the library brings, the text is
-    pub read_file : (f : FileTree) → bad_at ≡ None → ReadsFile tokens f → HasLibrary f → IsFile text f
-    read_file f good read brought = record {
-      spelled = record {
-        good = sym same_bad ∙ good;
-        fits = subst (Fits (print.file f)) same_tokens read.fits;
-        within = goes_within (tokens_in (cut text).tokens) 100 start (accepted_takes (cut text).tokens 100 start taken).1;
-        placed = read.placed;
-      };
-      library = brought;
+    -- a file that was read of a text without a bad token the text spells
+    pub file_spelled : (f : FileTree) → bad_at ≡ None → ReadsFile tokens f → Spells text f
+    file_spelled f good read = record {
+      good = sym same_bad ∙ good;
+      fits = subst (Fits (print.file f)) same_tokens read.fits;
+      within = goes_within (tokens_in (cut text).tokens) 100 start (accepted_takes (cut text).tokens 100 start taken).1;
+      placed = read.placed;
     }
       where
         taken : run 100 start (cut text).tokens ≡ accepted

@@ -77,6 +77,10 @@ some_arguments_within es k = plain LeftParen ∷ some_arguments es (plain RightP
 abbrev pub block_behind_else : StatementTrees → List Printed → List Printed
 block_behind_else b k = plain Else ∷ block b k
 
+-- what is assigned, to the end of a statement
+abbrev pub print_assigned : ExpressionTree → List Printed → List Printed
+print_assigned value k = plain Assign ∷ expression value (plain Semicolon ∷ k)
+
 -- a statement is the assignment of a value to what has this name and these indices
 pub record AssignmentPrints (at : At) (n : Name) (element : Option Element) (value : Expression) (s : Statement) : Type 0 where
   pub spelled : (k : List Printed) (tokens : List Lexed) →

@@ -1,19 +1,20 @@
 -- What a reader of a part of a file does: it reads the tokens of one tree in front of others, as the machine does, or stops
 -- where the machine refuses.
-use Rattle.std.specs.Prelude.{◌≡◌, ℕ, Bool, true, false, suc, ◌≤◌, List, [], ◌∷◌, ◌++◌, length, Option, Some, None, Result, Ok, Err}
+use Rattle.std.specs.Prelude.{◌≡◌, ◌≢◌, ◌<◌, ℕ, Bool, true, false, suc, ◌≤◌, List, [], ◌∷◌, ◌++◌, length, Option, Some, None, Result, Ok, Err}
 use Rattle.std.specs.Borrow.{Bor}
 use Rattle.layer_ast.specs.declared.tokens.Lexed.{Lexed}
 use Rattle.layer_ast.specs.declared.tokens.Sign.{Sign}
-use Rattle.layer_ast.specs.declared.tokens.Sign.TheVariants.{LeftBrace, RightBrace, LeftParen, RightParen, LeftBracket, RightBracket, Comma, With, Star, Assign, Else}
+use Rattle.layer_ast.specs.declared.tokens.Sign.TheVariants.{Stack, LeftBrace, RightBrace, LeftParen, RightParen, LeftBracket, RightBracket, Comma, With, Star, Assign, Else}
 use Rattle.layer_ast.specs.declared.tokens.Token.TheVariants as token
 use Rattle.layer_ast.specs.Depth.{room_behind}
-use Rattle.layer_ast.specs.Print.{file}
+use Rattle.layer_ast.specs.Print.{file, layer, places as print_places}
 use Rattle.layer_ast.specs.Printed.{Printed, plain}
 use Rattle.layer_ast.specs.Spells.{Fits, HasPlace}
-use Rattle.layer_ast.specs.Tree.{FileTree}
+use Rattle.layer_ast.specs.Tree.{LayerTree, PlaceTree, FileTree}
 use Rattle.layer_ast.specs.View.{file_tree}
 use Rattle.layer_ast.specs.declared.syntax.File.{File}
-use Rattle.layer_machine.specs.Machine.{Symbol, one, an_index, a_shape, a_square, an_initial, more_arguments, more_names, more_items, more_given, some_given, a_pushed, a_popped, an_otherwise, accepted, refused, feed, step, run, start}
+use Rattle.layer_machine.specs.Machine.{Symbol, one, an_index, a_shape, a_square, an_initial, more_arguments, more_names, more_items, more_given, some_given, a_pushed, a_popped, an_otherwise, a_place, places, accepted, refused, feed, step, run, start}
+use Rattle.print_laws.specs.Behind.{Stands}
 use Rattle.layer_parse.specs.declared.readers.Fault.{Fault}
 use Rattle.layer_parse.specs.declared.readers.Fault.TheVariants.{Refused, Memory}
 
@@ -204,3 +205,33 @@ abbrev pub ParsesFile : List Lexed → Result File Fault → Type 0
 ParsesFile tokens (Ok f) = ReadsFile tokens (file_tree f)
 ParsesFile tokens (Err Memory) = Unit {0}
 ParsesFile tokens (Err (Refused n)) = run 100 start tokens ≡ refused n
+
+-- what the machine expects behind the layers of a file
+abbrev pub last_part : List Symbol
+last_part = one Stack ∷ one LeftBrace ∷ a_place ∷ places ∷ one RightBrace ∷ []
+
+-- the stack at the end of a file
+abbrev pub print_stack : List PlaceTree → List Printed
+print_stack ps = plain Stack ∷ plain LeftBrace ∷ print_places ps (plain RightBrace ∷ [])
+
+-- the stack at the end of a file was read
+pub record ReadsStack (tokens : List Lexed) (ps : List PlaceTree) : Type 0 where
+  pub fits : Fits (print_stack ps) tokens
+  pub accepts : run 100 last_part tokens ≡ accepted
+  pub some : ps ≢ []
+
+-- what the reader of that stack answers
+abbrev pub ParsesStack : {A : Type 0} → (A → List PlaceTree) → List Lexed → Result A Fault → Type 0
+ParsesStack view tokens (Ok ps) = ReadsStack tokens (view ps)
+ParsesStack view tokens (Err Memory) = Unit {0}
+ParsesStack view tokens (Err (Refused n)) = run 100 last_part tokens ≡ refused n
+
+-- tokens are a layer
+pub record IsLayer (tokens : List Lexed) (l : LayerTree) : Type 0 where
+  pub stands : Stands 100 (layer l []) tokens
+  pub some : 0 < length tokens
+
+-- tokens are the stack at the end of a file
+pub record IsStack (tokens : List Lexed) (ps : List PlaceTree) : Type 0 where
+  pub stands : Stands 100 (print_stack ps) tokens
+  pub some : ps ≢ []

@@ -114,6 +114,9 @@ fn named(
     ensures { Parses print.expression expression_tree an_expression room (first ∷ tokens.now) result }
 {
     let name = Name { at: first.at, word };
+    let Some(_) = past(Sign::LeftBracket, tokens) else {
+        return Ok((Expression::Named { name, index: None }, tokens));
+    };
     let (indices, rest) = indices(alloc, room, tokens)?;
     let Some(Element { row, column }) = indices else {
         return Ok((Expression::Named { name, index: None }, rest));

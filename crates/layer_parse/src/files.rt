@@ -4,7 +4,7 @@ ghost use Rattle.layer_ast.specs.Print as print;
 ghost use Rattle.layer_ast.specs.View.{layer_tree, given_tree, place_tree};
 ghost use Rattle.layer_machine.specs.Machine.{a_layer, layers as more_layers, a_given, some_given as one_or_no_given, a_place, places as more_places};
 ghost use Rattle.layer_parse.specs.Parts.{ParsesGiven};
-ghost use Rattle.layer_parse.specs.Reading.{Parses, ParsesAll, ParsesAllFlat, ParsesFile, SeesPart};
+ghost use Rattle.layer_parse.specs.Reading.{Parses, ParsesAll, ParsesAllFlat, ParsesFile, ParsesStack, SeesPart};
 
 use crate::declarations::declarations;
 use crate::handlers::handlers;
@@ -30,7 +30,7 @@ fn layers(alloc: Global, room: u32, tokens: &[Lexed]) -> Result<(Vec<Layer>, &[L
 }
 
 /// Whether the next token begins a layer.
-fn begins_layer(tokens: &[Lexed]) -> bool
+pub fn begins_layer(tokens: &[Lexed]) -> bool
     ensures { SeesPart more_layers (a_layer ∷ more_layers ∷ []) tokens.now result }
 {
     let Some((first, _)) = tokens.split_first() else {
@@ -183,19 +183,27 @@ fn given(tokens: &[Lexed]) -> Result<(Given, &[Lexed]), Fault>
     Ok((Given { name, value }, rest))
 }
 
-/// Reads a whole file, without the layers that the library brings.
-pub fn file(alloc: Global, tokens: &[Lexed]) -> Result<File, Fault>
-    ensures { ParsesFile tokens.now result }
+/// Reads the stack that ends a file, and its places.
+pub fn stack(alloc: Global, tokens: &[Lexed]) -> Result<Vec<Place>, Fault>
+    ensures { ParsesStack (λ v. map place_tree v.items) tokens.now result }
 {
-    let library = Vec::new(alloc);
-    let (layers, rest) = layers(alloc, DEEPEST, tokens)?;
-    let rest = sign(Sign::Stack, rest)?;
+    let rest = sign(Sign::Stack, tokens)?;
     let (inside, rest) = open(DEEPEST, Sign::LeftBrace, rest)?;
     let (places, rest) = places(alloc, inside, rest)?;
     let rest = close(Sign::RightBrace, rest)?;
     if !rest.is_empty() {
         return Err(Fault::Refused(rest.len()));
     }
+    Ok(places)
+}
+
+/// Reads a whole file, without the layers that the library brings.
+pub fn file(alloc: Global, tokens: &[Lexed]) -> Result<File, Fault>
+    ensures { ParsesFile tokens.now result }
+{
+    let library = Vec::new(alloc);
+    let (layers, rest) = layers(alloc, DEEPEST, tokens)?;
+    let places = stack(alloc, rest)?;
     Ok(File {
         layers,
         places,

@@ -3,13 +3,14 @@
 
 ghost use Rattle.std.specs.Prelude.{◌≡◌, ◌≤◌, length, Err};
 ghost use Rattle.layer_ast.specs.Cut.{cut as cut_of};
-ghost use Rattle.layer_ast.specs.Spells.{longest_file};
+ghost use Rattle.layer_ast.specs.Spells.{Spells, longest_file};
 ghost use Rattle.layer_ast.specs.View.{file_tree};
 ghost use Rattle.layer_lex.specs.Pieces.{tokens_of};
 ghost use Rattle.layer_machine.specs.Machine.{refused, run, start};
 ghost use Rattle.layer_parse.specs.Answers.{Answers};
 ghost use Rattle.layer_parse.specs.Reading.{ReadsFile};
 
+mod apart;
 mod arguments;
 mod declarations;
 mod error;
@@ -21,6 +22,7 @@ mod names;
 mod readers;
 mod statements;
 
+use apart::by_layers;
 pub use error::ParseError;
 use files::file;
 use layer_ast::File;
@@ -40,6 +42,28 @@ pub fn parse(alloc: Global, text: &[u8]) -> Result<File, ParseError>
     if text.len() > LONGEST {
         return Err(ParseError::TooLarge);
     }
+    match by_layers(alloc, text)? {
+        Some(file) => brought(alloc, text, file),
+        None => read_whole(alloc, text),
+    }
+}
+
+/// Brings the layers of the library to the file that a text spells.
+fn brought(alloc: Global, text: &[u8], file: File) -> Result<File, ParseError>
+    requires small { length text.now ≤ longest_file }
+    requires spelled { Spells text.now (file_tree file) }
+    ensures { Answers text.now result }
+{
+    let mut file = file;
+    file.library = library(alloc, &file.layers, &file.places)?;
+    Ok(file)
+}
+
+/// Reads the file that a text is, with all its tokens at once, so that a refusal has its place.
+fn read_whole(alloc: Global, text: &[u8]) -> Result<File, ParseError>
+    requires { length text.now ≤ longest_file }
+    ensures { Answers text.now result }
+{
     let tokens = cut(alloc, text)?;
     match file(alloc, &tokens.tokens) {
         Ok(file) => complete(alloc, text, &tokens, file),
@@ -58,9 +82,7 @@ fn complete(alloc: Global, text: &[u8], tokens: &Tokens, file: File) -> Result<F
     if let Some(at) = tokens.bad_at {
         return Err(ParseError::BadToken(at));
     }
-    let mut file = file;
-    file.library = library(alloc, &file.layers, &file.places)?;
-    Ok(file)
+    brought(alloc, text, file)
 }
 
 /// Why a text is refused whose tokens no file goes on with, where so many of them are left.

@@ -241,12 +241,18 @@ pub fn ending(tokens: &[Lexed]) -> Result<(Ending, &[Lexed]), Fault>
     }
 }
 
-/// Adds an item to a list. The first gets room for itself alone, as many lists have no other.
+/// Adds an item to a list. The first gets room for itself alone, as many lists have no other; a long list that is full gets four times
+/// its room, so that few of its items are moved often.
 pub fn push_item<T: Drop>(all: &mut Vec<T>, item: T) -> Result<(), AllocError>
     ensures { OnOk result (all.new.items ≡ all.old.items ++ item ∷ []) }
 {
-    if all.is_empty() {
-        all.reserve_exact(1)?;
+    let len = all.len();
+    if len == all.capacity() {
+        if len == 0 {
+            all.reserve_exact(1)?;
+        } else {
+            all.reserve(len.saturating_mul(3))?;
+        }
     }
     all.push(item)?;
     Ok(())

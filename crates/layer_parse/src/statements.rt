@@ -2,11 +2,11 @@
 ghost use Rattle.std.specs.Prelude.{◌≡◌, ◌<◌, ◌≤◌, [], ◌∷◌, length, IfOk, option_map};
 ghost use Rattle.layer_ast.specs.Print as print;
 ghost use Rattle.layer_ast.specs.Printed.{direction_sign};
-ghost use Rattle.layer_ast.specs.View.{pushed_tree, statement_tree, statement_trees, block_tree};
-ghost use Rattle.layer_ast.specs.declared.tokens.Sign.TheVariants.{Else};
-ghost use Rattle.layer_machine.specs.Machine.{one, a_likely, a_pushed, an_otherwise, a_statement, statements as more_statements, a_block};
+ghost use Rattle.layer_ast.specs.View.{expression_tree, pushed_tree, statement_tree, statement_trees, block_tree};
+ghost use Rattle.layer_ast.specs.declared.tokens.Sign.TheVariants.{Assign, Else, Semicolon};
+ghost use Rattle.layer_machine.specs.Machine.{one, an_expression, a_likely, a_pushed, an_otherwise, a_statement, statements as more_statements, a_block};
 ghost use Rattle.layer_machine.specs.Parts.{otherwise as print_otherwise};
-ghost use Rattle.layer_parse.specs.Parts.{AssignmentPrints, DecisionPrints, block_behind_else};
+ghost use Rattle.layer_parse.specs.Parts.{AssignmentPrints, DecisionPrints, block_behind_else, print_assigned};
 ghost use Rattle.layer_parse.specs.Reading.{Parses, ParsesAll, ReadsFlat, SeesPart};
 
 use crate::arguments::{arguments_in_parentheses, some_arguments_in_parentheses};
@@ -102,7 +102,7 @@ fn bind(
 }
 
 /// Reads an assignment from behind its first word.
-#[tactic(auto, using(crate::proofs::Fit::fits_first))]
+#[tactic(auto, using(crate::proofs::Fit::fits_first, layer_ast::proofs::StatementViews::set_tree))]
 fn set(
     alloc: Global,
     room: u32,
@@ -114,11 +114,33 @@ fn set(
     ensures shorter { IfOk result (λ r. length r.1.now ≤ length tokens.now) }
 {
     let (name, rest) = read!(name(tokens));
+    let Some(_) = past(Sign::LeftBracket, rest) else {
+        let (value, rest) = assigned(alloc, room, rest)?;
+        let at = first.at;
+        let index = None;
+        return Ok((
+            Statement::Set {
+                at,
+                name,
+                index,
+                value,
+            },
+            rest,
+        ));
+    };
     let (indices, rest) = indices(alloc, room, rest)?;
-    let rest = sign(Sign::Assign, rest)?;
+    let (value, rest) = assigned(alloc, room, rest)?;
+    Ok((assignment(first.at, name, indices, value), rest))
+}
+
+/// Reads what is assigned, to the end of a statement.
+fn assigned(alloc: Global, room: u32, tokens: &[Lexed]) -> Result<(Expression, &[Lexed]), Fault>
+    ensures { ParsesAll print_assigned expression_tree (one Assign ∷ an_expression ∷ one Semicolon ∷ []) room tokens.now result }
+{
+    let rest = sign(Sign::Assign, tokens)?;
     let (value, rest) = expression(alloc, room, rest)?;
     let rest = sign(Sign::Semicolon, rest)?;
-    Ok((assignment(first.at, name, indices, value), rest))
+    Ok((value, rest))
 }
 
 /// The assignment of a value to a cell, or to the element of an array that has these indices.

@@ -1,15 +1,5 @@
-use Rattle.std.proofs.Common.{arith}
-use Rattle.std.proofs.lemmas.List.{length-map}
-use Rattle.layer_parse.proofs.Ending.{file_refused, file_read}
+use Rattle.layer_parse.proofs.Ending.{file_read}
 use Rattle.layer_parse.proofs.files.file.Goals as goal
 
-pub returns-then-not-is_empty : goal.returns-then-not-is_empty
-returns-then-not-is_empty c =
-    file_refused _ _ _ _ _ _ _ _ _ c.in_ok-layers.ensures c.in_ok-rest.ensures c.in_ok-inside.ensures
-    c.in_ok-places.ensures.read c.in_ok-rest-2.ensures c.if-not-is_empty.ensures
-
 pub returns : goal.returns
-returns c =
-    file_read _ _ _ _ _ _ _ _ _ c.in_ok-layers.ensures c.in_ok-rest.ensures c.in_ok-inside.ensures
-    c.in_ok-places.ensures.read c.in_ok-rest-2.ensures c.if-not-is_empty.ensures
-    (grind (arith, length-map, c.in_ok-places.ensures.some)) _
+returns c = file_read _ _ _ c.in_ok-layers.ensures _ _ c.in_ok-places.ensures
