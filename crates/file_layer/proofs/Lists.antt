@@ -1,8 +1,10 @@
 -- Lists whose items have references, and what holds of each item.
-use Rattle.std.proofs.Common.{◌≡◌, ℕ, zero, suc, ◌+◌, ◌<◌, ◌≤◌, List, [], ◌∷◌, ◌++◌, map, reverse, length, get_or, set, slice_get, Some, None, flat_map, refl, ap, subst, ◌∙◌, arith}
+use Rattle.std.proofs.Common.{◌≡◌, ℕ, zero, suc, ◌+◌, ◌-◌, ◌<◌, ◌≤◌, take, List, [], ◌∷◌, ◌++◌, map, reverse, length, get_or, set, slice_get, Option, Some, None, flat_map, refl, sym, ap, subst, ◌∙◌, arith}
 use Rattle.std.specs.List.{AllByRecursion}
+use Rattle.std.specs.Prelude.{IfSome, IfNone}
 use Rattle.std.proofs.lemmas.Grind.{flat_map-append}
 use Rattle.std.proofs.lemmas.List.{map-append, reverse-append}
+use Rattle.circular_buffer.specs.Buffer.{Buffer, buffer, last_item}
 use Rattle.slot_pool.specs.Times.{times}
 use Rattle.slot_pool.proofs.Times.{times-append}
 
@@ -77,6 +79,44 @@ pub item_there : {A : Type 0} (xs : List A) (k : ℕ) (x : A) → slice_get xs k
 item_there [] k x is = absurd (cc)
 item_there (y ∷ xs) zero x is = let same : x ≡ y = cc in (omega arith, ap (λ z. z ∷ xs) same)
 item_there (y ∷ xs) (suc k) x is = let rest = item_there xs k x is in let below = rest.0 in (omega arith, ap (λ ys. y ∷ ys) rest.1)
+
+-- Items of a pile.
+pub items_are : {A : Type 0} (b : Buffer A) (xs : List A) (n : ℕ) → b ≡ buffer xs n → b.items ≡ xs
+items_are b xs n is = ap (λ c. c.items) is
+
+-- The last one, behind those in front of it.
+last_at : {A : Type 0} (xs : List A) (n : ℕ) (x : A) → n + 1 ≡ length xs → slice_get xs n ≡ Some x → xs ≡ take n xs ++ x ∷ []
+last_at [] n x long is = absurd (cc)
+last_at (y ∷ []) zero x long is = let same : y ≡ x = cc in ap (λ z. z ∷ []) same
+last_at (y ∷ z ∷ xs) zero x long is = absurd (omega (arith, long))
+last_at (y ∷ xs) (suc n) x long is = ap (λ ys. y ∷ ys) (last_at xs n x (omega (arith, long)) is)
+
+some_last : {A : Type 0} (xs : List A) (n : ℕ) → n < length xs → slice_get xs n ≡ None → ⊥
+some_last [] n few none = omega (arith, few)
+some_last (x ∷ xs) zero few none = absurd (cc)
+some_last (x ∷ xs) (suc n) few none = some_last xs n (omega (arith, few)) none
+
+no_last : {A : Type 0} (xs : List A) → last_item xs ≡ None → xs ≡ []
+no_last [] none = refl
+no_last (x ∷ xs) none = absurd (some_last (x ∷ xs) (length (x ∷ xs) - 1) (omega arith) none)
+
+pub last_off : {A : Type 0} (xs : List A) (x : A) → last_item xs ≡ Some x → xs ≡ take (length xs - 1) xs ++ x ∷ []
+last_off [] x is = absurd (cc)
+last_off (y ∷ xs) x is = last_at (y ∷ xs) (length (y ∷ xs) - 1) x (omega arith) is
+
+-- A pile from which the last one was taken, if there was one.
+module _ {A : Type 0} (b c : Buffer A) where
+  pub some_off : (o : Option A) → o ≡ last_item b.items → c ≡ buffer (take (length b.items - 1) b.items) b.capacity →
+      IfSome o (λ x. b.items ≡ c.items ++ x ∷ [])
+  some_off None is rest = tt
+  some_off (Some x) is rest = last_off b.items x (sym is) ∙ ap (λ xs. xs ++ x ∷ []) (sym (items_are c (take (length b.items - 1) b.items) b.capacity rest))
+
+  pub none_off : (o : Option A) → o ≡ last_item b.items → c ≡ buffer (take (length b.items - 1) b.items) b.capacity →
+      IfNone o ((b.items ≡ []) × (c ≡ b))
+  none_off None is rest =
+      let empty = no_last b.items (sym is) in
+      (empty, rest ∙ ap (λ xs. buffer (take (length xs - 1) xs) b.capacity) empty ∙ ap (λ xs. buffer xs b.capacity) (sym empty))
+  none_off (Some x) is rest = tt
 
 pub last_first : {A B : Type 0} (f : A → B) (xs : List A) (x : A) → reverse (map f (xs ++ x ∷ [])) ≡ f x ∷ reverse (map f xs)
 last_first f xs x = ap reverse (map-append f xs (x ∷ [])) ∙ reverse-append (map f xs) (f x ∷ [])

@@ -20,8 +20,8 @@ use Rattle.layer_mean.specs.Visit.{behind, met, handler_for, handled, none_heade
 use Rattle.layer_stage.specs.Front.{first_way, first_seen, behind_first}
 use Rattle.typed_layer.specs.View.{layer_tree}
 use Rattle.typed_layer.specs.declared.tree.TypedLayer.{TypedLayer}
-use Rattle.pool_message.specs.Seen.{refs_if, seen, seen_if, event_refs, event_seen}
-use Rattle.pool_message.specs.Sent.{sent_refs, sent_seen, first_sent, message_passed, event_passed}
+use Rattle.pool_message.specs.Seen.{refs_if, seen, seen_if, event_refs, event_seen, EventLies}
+use Rattle.pool_message.specs.Sent.{sent_refs, sent_seen, SentLie, first_sent, message_passed, event_passed}
 use Rattle.pool_message.specs.declared.event.PoolEvent.{PoolEvent}
 use Rattle.pool_message.specs.declared.message.PoolMessage.{PoolMessage}
 use Rattle.file_layer.specs.Passes.{is_passed}
@@ -67,6 +67,15 @@ module _ (place : ℕ) (s : State) where
   visit_passes here layer p events same passes =
       passes_on (layer_tree layer) p (first_sent events)
       (ap (λ l. is_passed (layer_tree l) (first_way events) (first_seen p events)) (sym same) ∙ sym passes)
+
+-- The first one lies in the pool, as do the others, and refers to what they don't.
+pub front_lies : (p : List Held) (events : List (Dir × PoolEvent)) → SentLie p events → EventLies p (first_sent events).1 × SentLie p (behind_first events)
+front_lies p [] lie = (tt, tt)
+front_lies p (x ∷ rest) lie = lie
+
+pub front_refs : (events : List (Dir × PoolEvent)) → sent_refs events ≡ event_refs (first_sent events).1 ++ sent_refs (behind_first events)
+front_refs [] = refl
+front_refs (x ∷ rest) = refl
 
 -- It comes behind the others.
 pub seen_behind : (p : List Held) (header : Header) (events : List (Dir × PoolEvent)) →

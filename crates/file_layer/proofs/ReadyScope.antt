@@ -1,21 +1,25 @@
 -- The scope of a desk that has no more than it is made for.
-use Rattle.std.proofs.Common.{◌≡◌, ℕ, suc, ◌+◌, ◌≤◌, List, [], ◌∷◌, ◌++◌, Option, None, length, refl, sym, ap, subst, ◌∙◌, arith}
+use Rattle.std.proofs.Common.{◌≡◌, ℕ, suc, ◌+◌, ◌≤◌, List, [], ◌∷◌, ◌++◌, Option, Some, None, option_to_list, length, refl, sym, ap, subst, ◌∙◌, arith}
 use Rattle.std.specs.List.{AllByRecursion}
-use Rattle.std.proofs.lemmas.List.{length-append}
+use Rattle.std.proofs.lemmas.List.{append-nil, length-append, map-append}
 use Rattle.slot_pool.specs.Held.{Held}
+use Rattle.slot_pool.specs.References.{Covers}
 use Rattle.layer_desk.specs.Laid.{Laid}
 use Rattle.layer_desk.specs.Need.{Layout}
 use Rattle.layer_desk.specs.Spent.{Begun}
-use Rattle.pool_message.specs.Seen.{bodiless, refs, refs_if}
+use Rattle.pool_message.specs.Seen.{bodiless, refs_if, seen}
 use Rattle.pool_message.specs.Moves.{Returned}
+use Rattle.pool_message.specs.Piled.{pile_refs}
 use Rattle.pool_message.specs.declared.message.PoolMessage.{PoolMessage}
 use Rattle.file_layer.specs.Stock.{Stock, laid}
 use Rattle.file_layer.specs.Scope.{without_messages}
-use Rattle.file_layer.specs.Entered.{with_bare}
+use Rattle.file_layer.specs.Entered.{with_arrived, with_bare}
 use Rattle.file_layer.specs.Steps.{InPool}
-use Rattle.file_layer.specs.Fits.{most_bound, IsShort, StockFits}
-use Rattle.file_layer.proofs.Lists.{all-append, all-front}
-use Rattle.file_layer.proofs.Scope.{bare_bound, message_gone, arrived_gone, numbers_step}
+use Rattle.file_layer.specs.Fits.{most_bound, IsShort, IsShortIf, StockFits}
+use Rattle.file_layer.proofs.Lists.{all-append}
+use Rattle.file_layer.proofs.Parts.{messages_within}
+use Rattle.file_layer.proofs.Steps.{covered}
+use Rattle.file_layer.proofs.Scope.{arrived_bound, bare_bound, messages_gone, arrived_gone, numbers_step}
 
 pub fits_scope : (l : Layout) (s : Stock) (ns : List ℕ) (ms : List PoolMessage) (arrived : Option PoolMessage) → StockFits l s → length ns ≤ l.numbers + most_bound → length ms ≤ l.messages + 1 →
     AllByRecursion IsShort ms → StockFits l (record s { numbers = ns; messages = ms; arrived = arrived })
@@ -32,18 +36,19 @@ fits_scope l s ns ms arrived fits numbers messages short = record {
 }
 
 module _ (b : Begun) (p q : List Held) (s : Stock) (is : InPool b p s) (fits : StockFits b.layout s) where
-  -- The last message of the scope is given back.
-  pub message_back : (rest : List PoolMessage) (m : PoolMessage) → s.messages ≡ rest ++ m ∷ [] → Returned p q (refs m) →
-      InPool b q (record s { messages = rest }) × StockFits b.layout (record s { messages = rest }) ×
-      (without_messages (laid q (record s { messages = rest })) ≡ without_messages (laid p s))
-  message_back rest m at gone =
-      let step = message_gone b p q s is rest m at gone in
-      let long = ap length at in let all = fits.messages in (
-        step.0,
-        fits_scope b.layout s s.numbers rest s.arrived fits fits.numbers (omega (arith, length-append rest (m ∷ [])))
-            (all-front IsShort rest (m ∷ []) (subst (AllByRecursion IsShort) at fits.short)),
-        ap without_messages step.1,
-      )
+  -- The messages of the scope are covered.
+  pub scope_covered : Covers p (pile_refs s.messages)
+  scope_covered = record { covers = λ i. omega (arith, (covered b p s is).covers i, messages_within i s) }
+
+  -- They are given back.
+  pub messages_back : (none : List PoolMessage) → none ≡ [] → Returned p q (pile_refs s.messages) →
+      InPool b q (record s { messages = none }) × StockFits b.layout (record s { messages = none }) ×
+      (laid q (record s { messages = none }) ≡ without_messages (laid p s))
+  messages_back none empty gone =
+      let step = messages_gone b p q s is gone in
+      subst (λ ms. InPool b q (record s { messages = ms }) × StockFits b.layout (record s { messages = ms }) ×
+      (laid q (record s { messages = ms }) ≡ without_messages (laid p s))) (sym empty)
+      (step.0, fits_scope b.layout s s.numbers [] s.arrived fits fits.numbers (omega arith) tt, step.1)
 
   -- The numbers go, and the message that arrived is given back.
   pub arrived_back : (ns : List ℕ) (none : Option PoolMessage) → ns ≡ [] → none ≡ None → Returned p q (refs_if s.arrived) →
@@ -63,6 +68,36 @@ module _ (b : Begun) (p q : List Held) (s : Stock) (is : InPool b p s) (fits : S
         fits_scope b.layout s [] s.messages None fits (omega arith) fits.messages fits.short,
         ap (λ (l : Laid). record l { scope = record { numbers = []; messages = l.scope.messages } }) step.1,
       ))
+
+-- The message that arrived comes into the scope, if there is one.
+pub arrived_in : (b : Begun) (p : List Held) (s : Stock) → InPool b p s → StockFits b.layout s → (ms : List PoolMessage) (none : Option PoolMessage) →
+    ms ≡ s.messages ++ option_to_list s.arrived → none ≡ None → length s.messages + 1 ≤ b.layout.messages + 1 → IsShortIf s.arrived →
+    InPool b p (record s { messages = ms; arrived = none }) × StockFits b.layout (record s { messages = ms; arrived = none }) ×
+    (laid p (record s { messages = ms; arrived = none }) ≡ with_arrived (laid p s))
+arrived_in b p s is fits ms none new gone few short =
+    subst (λ ms. InPool b p (record s { messages = ms; arrived = none }) × StockFits b.layout (record s { messages = ms; arrived = none }) ×
+    (laid p (record s { messages = ms; arrived = none }) ≡ with_arrived (laid p s))) (sym new)
+    (subst (λ a. InPool b p (record s { messages = s.messages ++ option_to_list s.arrived; arrived = a }) ×
+    StockFits b.layout (record s { messages = s.messages ++ option_to_list s.arrived; arrived = a }) ×
+    (laid p (record s { messages = s.messages ++ option_to_list s.arrived; arrived = a }) ≡ with_arrived (laid p s))) (sym gone) (go s.arrived refl short))
+  where
+    go : (o : Option PoolMessage) → s.arrived ≡ o → IsShortIf o →
+        InPool b p (record s { messages = s.messages ++ option_to_list o; arrived = None }) ×
+        StockFits b.layout (record s { messages = s.messages ++ option_to_list o; arrived = None }) ×
+        (laid p (record s { messages = s.messages ++ option_to_list o; arrived = None }) ≡ with_arrived (laid p (record s { arrived = o })))
+    go None at short =
+        let same : s ≡ record s { messages = s.messages ++ []; arrived = None } = λ j. record s { messages = sym (append-nil s.messages) j; arrived = at j } in (
+          subst (InPool b p) same is,
+          subst (StockFits b.layout) same fits,
+          ap (λ ms. record (laid p s) { scope = record { numbers = s.numbers; messages = ms }; arrived = None }) (map-append (seen p) s.messages []),
+        )
+    go (Some m) at short =
+        let step = arrived_bound b p s is m at in (
+          step.0,
+          fits_scope b.layout s s.numbers (s.messages ++ m ∷ []) None fits fits.numbers (omega (arith, length-append s.messages (m ∷ []), few))
+              (all-append IsShort s.messages (m ∷ []) fits.short (short, tt)),
+          step.1,
+        )
 
 -- A message without bytes comes into the scope.
 pub bare_more : (b : Begun) (p : List Held) (s : Stock) → InPool b p s → StockFits b.layout s → (m : PoolMessage) (ms : List PoolMessage) →

@@ -8,6 +8,7 @@ use Rattle.slot_pool.specs.Times.{times}
 use Rattle.msg_core.specs.declared.message.Header.{Header}
 use Rattle.layer_ast.specs.declared.tokens.Dir.{Dir}
 use Rattle.layer_mean.specs.Effect.{sent_as}
+use Rattle.layer_desk.specs.Laid.{sends_first}
 use Rattle.layer_desk.specs.Need.{Layout}
 use Rattle.layer_desk.specs.Spent.{Begun}
 use Rattle.layer_desk.specs.declared.envelope.Envelope.{Envelope}
@@ -16,7 +17,7 @@ use Rattle.pool_message.specs.declared.event.PoolEvent.{PoolEvent}
 use Rattle.pool_message.specs.declared.message.PoolMessage.{PoolMessage}
 use Rattle.pool_message.specs.Sent.{sent_refs}
 use Rattle.file_layer.specs.Sent.{sent_behind, TakesLast}
-use Rattle.file_layer.specs.Stock.{Stock, pool_event}
+use Rattle.file_layer.specs.Stock.{Stock, laid, pool_event}
 use Rattle.file_layer.specs.Steps.{InPool}
 use Rattle.file_layer.specs.Fits.{IsShort, StockFits, SentGrows}
 use Rattle.file_layer.proofs.Lists.{all-front}
@@ -55,7 +56,8 @@ module _ (b : Begun) (p : List Held) (s : Stock) (is : InPool b p s) (fits : Sto
     (sent : List (Dir × PoolEvent)) (new : sent ≡ s.sent ++ (dir, event) ∷ []) (places : length s.sent + 1 ≤ b.layout.places) where
   first_goes : (rest : List PoolMessage) (o : Option PoolMessage) → TakesLast (sent_behind dir header) s.hand rest o →
       InPool b p (record s { hand = rest; sent = s.sent ++ (dir, pool_event e o) ∷ [] }) × (length s.hand ≡ length rest + 1) ×
-      (AllByRecursion IsShort s.hand → AllByRecursion IsShort rest)
+      (AllByRecursion IsShort s.hand → AllByRecursion IsShort rest) ×
+      (laid p (record s { hand = rest; sent = s.sent ++ (dir, pool_event e o) ∷ [] }) ≡ sends_first dir e header (laid p s))
   first_goes rest None taken = absurd taken
   first_goes rest (Some y) taken =
       let made : Derived (sent_as dir header) taken.last y = subst (Derived (sent_as dir header) taken.last) (sym taken.made) (is_derived dir header taken.last) in
@@ -63,16 +65,20 @@ module _ (b : Begun) (p : List Held) (s : Stock) (is : InPool b p s) (fits : Sto
         step.0,
         ap length taken.before ∙ length-append rest (taken.last ∷ []),
         λ short. all-front IsShort rest (taken.last ∷ []) (subst (AllByRecursion IsShort) taken.before short),
+        step.1,
       )
 
   pub first_fits : (rest : List PoolMessage) (o : Option PoolMessage) → TakesLast (sent_behind dir header) s.hand rest o → event ≡ pool_event e o →
-      InPool b p (record s { hand = rest; sent = sent }) × StockFits b.layout (record s { hand = rest; sent = sent })
+      InPool b p (record s { hand = rest; sent = sent }) × StockFits b.layout (record s { hand = rest; sent = sent }) × (length s.hand ≡ length rest + 1) ×
+      (laid p (record s { hand = rest; sent = sent }) ≡ sends_first dir e header (laid p s))
   first_fits rest o taken is_event =
       let whole = new ∙ ap (λ ev. s.sent ++ (dir, ev) ∷ []) is_event in
       let step = first_goes rest o taken in (
         subst (λ sent. InPool b p (record s { hand = rest; sent = sent })) (sym whole) step.0,
         fits_sent b.layout s rest s.arrived sent fits (omega (arith, step.1, fits.hand)) (step.2 fits.hand_short)
             (omega (arith, ap length whole, places, length-append s.sent ((dir, pool_event e o) ∷ []))),
+        step.1,
+        ap (λ sent. laid p (record s { hand = rest; sent = sent })) whole ∙ step.3,
       )
 
   pub on_fits : (left m : Option PoolMessage) → m ≡ option_map (sent_behind dir header) s.arrived → event ≡ pool_event e m → left ≡ None →

@@ -1,6 +1,5 @@
 -- Steps at the scope, and at the message that arrived.
-use Rattle.std.proofs.Common.{◌≡◌, ℕ, List, [], ◌∷◌, ◌++◌, Option, Some, None, option_map, map, sym, ap, subst, ◌∙◌}
-use Rattle.std.specs.List.{AllByRecursion}
+use Rattle.std.proofs.Common.{◌≡◌, ℕ, List, [], ◌∷◌, ◌++◌, Option, Some, None, option_map, map, ap, subst, ◌∙◌}
 use Rattle.std.proofs.lemmas.List.{append-nil, map-append}
 use Rattle.slot_pool.specs.Held.{Held}
 use Rattle.slot_pool.proofs.References.{moved-same}
@@ -9,10 +8,11 @@ use Rattle.layer_desk.specs.Laid.{header_popped}
 use Rattle.layer_desk.specs.Spent.{Begun}
 use Rattle.pool_message.specs.Seen.{refs, seen, Lies, refs_if, seen_if, LiesIf}
 use Rattle.pool_message.specs.Moves.{Returned}
+use Rattle.pool_message.specs.Piled.{pile_refs}
 use Rattle.pool_message.specs.declared.message.PoolMessage.{PoolMessage}
 use Rattle.file_layer.specs.Stock.{Stock, laid, StockLies}
 use Rattle.file_layer.specs.Steps.{InPool, TakesOut}
-use Rattle.file_layer.proofs.Lists.{all-append, all-front}
+use Rattle.file_layer.proofs.Lists.{all-append}
 use Rattle.file_layer.proofs.Parts.{none_out, messages_out, arrived_out}
 use Rattle.file_layer.proofs.Steps.{rest_stays, stepped}
 
@@ -77,23 +77,14 @@ module _ (b : Begun) (p : List Held) (s : Stock) (is : InPool b p s) where
       )
 
 module _ (b : Begun) (p q : List Held) (s : Stock) (is : InPool b p s) where
-  -- The last message of the scope is given back.
-  pub message_gone : (rest : List PoolMessage) (m : PoolMessage) → s.messages ≡ rest ++ m ∷ [] → Returned p q (refs m) →
-      InPool b q (record s { messages = rest }) × (laid q (record s { messages = rest }) ≡ laid p (record s { messages = rest }))
-  message_gone rest m at gone =
-      let t : Stock = record s { messages = rest } in
-      let out : TakesOut s t (refs m) =
-      subst (λ ms. TakesOut (record s { messages = ms }) t (refs m)) (sym at)
-      (subst (TakesOut (record s { messages = rest ++ m ∷ [] }) t) (append-nil (refs m)) (messages_out s rest (m ∷ []))) in
-      let left : StockLies p t = record {
-        kept = is.lies.kept;
-        messages = all-front (Lies p) rest (m ∷ []) (subst (AllByRecursion (Lies p)) at is.lies.messages);
-        arrived = is.lies.arrived;
-        hand = is.lies.hand;
-        sent = is.lies.sent;
-      } in
-      let stays = rest_stays b p q s t (refs m) [] is out left gone.moved in
-      (stepped b p q s t t (refs m) [] is out (none_out t) gone.moved stays.0, stays.1)
+  -- All messages of the scope are given back.
+  pub messages_gone : Returned p q (pile_refs s.messages) →
+      InPool b q (record s { messages = [] }) × (laid q (record s { messages = [] }) ≡ laid p (record s { messages = [] }))
+  messages_gone gone =
+      let t : Stock = record s { messages = [] } in
+      let left : StockLies p t = record { kept = is.lies.kept; messages = tt; arrived = is.lies.arrived; hand = is.lies.hand; sent = is.lies.sent } in
+      let stays = rest_stays b p q s t (pile_refs s.messages) [] is (messages_out s [] s.messages) left gone.moved in
+      (stepped b p q s t t (pile_refs s.messages) [] is (messages_out s [] s.messages) (none_out t) gone.moved stays.0, stays.1)
 
   -- The message that arrived is given back.
   pub arrived_gone : Returned p q (refs_if s.arrived) →

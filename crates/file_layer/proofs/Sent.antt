@@ -1,16 +1,16 @@
 -- Messages as they are sent.
-use Rattle.std.proofs.Common.{◌≡◌, ℕ, ◌+◌, ◌-◌, ◌<◌, List, [], ◌∷◌, ◌++◌, Option, Some, None, option_map, get_or, set, take, length, refl, sym, ap, subst, ◌∙◌, arith}
-use Rattle.std.proofs.Math.Seq.{take-length}
-use Rattle.std.proofs.lemmas.List.{take_more, take-set, get_or-set_same}
+use Rattle.std.proofs.Common.{◌≡◌, suc, ◌-◌, ◌<◌, ◌==◌, Bool, false, List, [], ◌∷◌, Option, Some, None, option_map, slice_get, take, length, refl, sym, ap, subst, ◌∙◌, arith}
+use Rattle.circular_buffer.specs.Buffer.{last_item}
 use Rattle.msg_core.specs.declared.message.Header.{Header}
 use Rattle.slot_pool.specs.Held.{Held}
 use Rattle.layer_ast.specs.declared.tokens.Dir.{Dir}
 use Rattle.layer_ast.specs.declared.tokens.Dir.TheVariants.{Up, Down}
 use Rattle.layer_mean.specs.Effect.{sent_as}
 use Rattle.pool_message.specs.Moves.{Derived}
+use Rattle.pool_message.specs.Piled.{without_last, with_header_last}
 use Rattle.pool_message.specs.Seen.{refs_if, seen_if, LiesIf}
 use Rattle.pool_message.specs.declared.message.PoolMessage.{PoolMessage}
-use Rattle.file_layer.specs.Sent.{sent_behind, TakesLast}
+use Rattle.file_layer.specs.Sent.{sent_behind, last_behind, TakesLast}
 
 pub is_derived : (dir : Dir) (header : Header) (m : PoolMessage) → Derived (sent_as dir header) m (sent_behind dir header m)
 is_derived Up header m = record { slots = refl; lies = λ p lies. lies; shows = λ p. refl }
@@ -36,23 +36,40 @@ shows_sent p Up header (Some m) = refl
 shows_sent p Down header None = refl
 shows_sent p Down header (Some m) = refl
 
--- the last one is taken out
-last_of : (f : PoolMessage → PoolMessage) (xs zs : List PoolMessage) (o : Option PoolMessage) (k : ℕ) (d : PoolMessage) → k + 1 ≡ length xs →
-    zs ≡ take k xs → o ≡ Some (f (get_or xs k d)) → TakesLast f xs zs o
-last_of f xs zs o k d many rest is = subst (TakesLast f xs zs) (sym is) record {
-  last = get_or xs k d;
-  before = sym (take-length xs) ∙ ap (λ n. take n xs) (sym many) ∙ take_more xs k d (omega (arith, many)) ∙ ap (λ ts. ts ++ get_or xs k d ∷ []) (sym rest);
-  made = refl;
-}
+-- the last one is taken out, once it is as it is sent
+behind_one : (f : PoolMessage → PoolMessage) (x : PoolMessage) (xs zs : List PoolMessage) (o : Option PoolMessage) → TakesLast f xs zs o → TakesLast f (x ∷ xs) (x ∷ zs) o
+behind_one f x xs zs None taken = absurd taken
+behind_one f x xs zs (Some y) taken = record { last = taken.last; before = ap (λ ys. x ∷ ys) taken.before; made = taken.made }
 
--- going down, once it has its header
-pub goes_down : (dir : Dir) (header : Header) (xs ys zs : List PoolMessage) (o : Option PoolMessage) (x y d : PoolMessage) (n k : ℕ) → dir ≡ Down →
-    k + 1 ≡ length xs → x ≡ get_or xs k d → y ≡ record x { headers = header ∷ x.headers } → ys ≡ set xs k y → n ≡ length xs → zs ≡ take (n - 1) ys →
-    ((e : PoolMessage) → 0 < n → o ≡ Some (get_or ys (n - 1) e)) → TakesLast (sent_behind dir header) xs zs o
-goes_down dir header xs ys zs o x y d n k down many read made changed long rest is =
-    let at : n - 1 ≡ k = omega (arith, long, many) in
-    let its : y ≡ sent_behind dir header (get_or xs k d) = made ∙ (λ j. sent_behind (sym down j) header (read j)) in
-    last_of (sent_behind dir header) xs zs o k d many
-    (rest ∙ ap (λ i. take i ys) at ∙ ap (take k) changed ∙ take-set xs k y)
-    (is d (omega (arith, long, many)) ∙ ap (λ i. Some (get_or ys i d)) at ∙ ap (λ ms. Some (get_or ms k d)) changed
-    ∙ ap (λ m. Some m) (get_or-set_same xs k y d (omega (arith, many)) ∙ its))
+one_more : (f : PoolMessage → PoolMessage) (x : PoolMessage) (xs ys : List PoolMessage) → 0 < length ys → TakesLast f xs (without_last ys) (last_item ys) →
+    TakesLast f (x ∷ xs) (without_last (x ∷ ys)) (last_item (x ∷ ys))
+one_more f x xs [] some taken = absurd (omega (arith, some))
+one_more f x xs (y ∷ ys) some taken =
+    let long : suc (length (y ∷ ys) - 1) ≡ length (x ∷ y ∷ ys) - 1 = omega arith in
+    subst (λ n. TakesLast f (x ∷ xs) (take n (x ∷ y ∷ ys)) (slice_get (x ∷ y ∷ ys) n)) long
+    (behind_one f x xs (without_last (y ∷ ys)) (last_item (y ∷ ys)) taken)
+
+some_headed : (header : Header) (x : PoolMessage) (xs : List PoolMessage) → 0 < length (with_header_last header (x ∷ xs))
+some_headed header x [] = omega arith
+some_headed header x (y ∷ xs) = omega arith
+
+last_taken : (dir : Dir) (header : Header) (xs : List PoolMessage) → 0 < length xs →
+    TakesLast (sent_behind dir header) xs (without_last (last_behind dir header xs)) (last_item (last_behind dir header xs))
+last_taken dir header [] some = absurd (omega (arith, some))
+last_taken Up header (x ∷ []) some = record { last = x; before = refl; made = refl }
+last_taken Down header (x ∷ []) some = record { last = x; before = refl; made = refl }
+last_taken Up header (x ∷ y ∷ xs) some = one_more (sent_behind Up header) x (y ∷ xs) (y ∷ xs) (omega arith) (last_taken Up header (y ∷ xs) (omega arith))
+last_taken Down header (x ∷ y ∷ xs) some =
+    one_more (sent_behind Down header) x (y ∷ xs) (with_header_last header (y ∷ xs)) (some_headed header y xs) (last_taken Down header (y ∷ xs) (omega arith))
+
+-- a hand that isn't empty gives it
+some_there : (xs : List PoolMessage) → (length xs == 0) ≡ false → 0 < length xs
+some_there [] some = absurd (cc)
+some_there (x ∷ xs) some = omega arith
+
+pub taken_off : (dir : Dir) (header : Header) (xs ms zs : List PoolMessage) (empty : Bool) → empty ≡ (length xs == 0) → empty ≡ false →
+    ms ≡ last_behind dir header xs → zs ≡ without_last ms → TakesLast (sent_behind dir header) xs zs (last_item ms)
+taken_off dir header xs ms zs empty is some behind off =
+    subst (λ zs. TakesLast (sent_behind dir header) xs zs (last_item ms)) (sym off)
+    (subst (λ ms. TakesLast (sent_behind dir header) xs (without_last ms) (last_item ms)) (sym behind)
+    (last_taken dir header xs (some_there xs (sym is ∙ some))))

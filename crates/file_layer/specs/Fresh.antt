@@ -25,7 +25,7 @@ pub record IsEmpty (layer : LayerTree) (me n ltime : ℕ) (d : FileDesk) : Type 
   pub hand : d.hand.items ≡ []
   pub sent : d.sent ≡ buffer [] 0
   pub numbers_room : most_bound ≤ vec_capacity d.numbers
-  pub messages_room : 1 ≤ vec_capacity d.messages
+  pub messages_room : 1 ≤ d.messages.capacity
   pub layout : layout_of d ≡ room.layout_of layer 0
 
 -- The layer at a desk has seen no event: it is at rest in any pool, refers to none, and its state is that of a layer at first.

@@ -30,8 +30,8 @@ abbrev pub layout_of : FileDesk → Layout
 layout_of d = record {
   rows = map capacity_of d.cells.cells;
   numbers = vec_capacity d.numbers - most_bound;
-  messages = vec_capacity d.messages - 1;
-  hand = vec_capacity d.hand;
+  messages = d.messages.capacity - 1;
+  hand = d.hand.capacity;
   places = d.places;
 }
 
@@ -39,7 +39,7 @@ abbrev pub room_of : List Held → FileDesk → Room
 room_of p d = record {
   slots = spare p;
   places = d.places - length d.sent.items;
-  hand = vec_capacity d.hand - length d.hand.items;
+  hand = d.hand.capacity - length d.hand.items;
 }
 
 -- Since a beginning its references alone have moved; and it has no more than it is made for, which is as it was, as are its cells' forms.
@@ -48,6 +48,6 @@ pub record IsReady (b : Begun) (p : List Held) (d : FileDesk) : Type 0 where
   pub layout : layout_of d ≡ b.layout
   pub fits : StockFits b.layout (stock_of d)
   pub numbers : most_bound ≤ vec_capacity d.numbers
-  pub messages : 1 ≤ vec_capacity d.messages
+  pub messages : 1 ≤ d.messages.capacity
   pub forms : forms_of d ≡ b.forms
   pub sent : SentGrows b.refs b.list d.first d.places d.sent

@@ -41,7 +41,7 @@ pub record IsAtRest (layer : LayerTree) (p : List Held) (d : FileDesk) : Type 0 
   pub hand : d.hand.items ≡ []
   pub sent : d.sent.items ≡ []
   pub numbers_room : most_bound ≤ vec_capacity d.numbers
-  pub messages_room : 1 ≤ vec_capacity d.messages
+  pub messages_room : 1 ≤ d.messages.capacity
   pub few : KeepsFew (layout_of d)
   pub made : IsMadeFor layer (layout_of d)
 

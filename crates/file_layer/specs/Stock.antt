@@ -62,3 +62,7 @@ pub record StockLies (p : List Held) (s : Stock) : Type 0 where
 -- An event of which all but its message is known.
 abbrev pub pool_event : Envelope → Option PoolMessage → PoolEvent
 pool_event e message = record { kind = e.kind; peer = e.peer; a = e.a; b = e.b; message = message }
+
+-- And what is known of an event but for its message.
+abbrev pub envelope_of : PoolEvent → Envelope
+envelope_of e = record { kind = e.kind; peer = e.peer; a = e.a; b = e.b }

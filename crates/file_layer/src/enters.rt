@@ -1,6 +1,6 @@
 //! Blocks that are entered.
 
-ghost use Rattle.std.specs.Prelude.{◌≡◌, ◌+◌, ◌≤◌, [], ◌++◌, None, length, OnOk, vec_capacity};
+ghost use Rattle.std.specs.Prelude.{◌≡◌, ◌+◌, ◌≤◌, ◌++◌, None, length, OnOk, vec_capacity};
 ghost use Rattle.layer_mean.specs.Event.{arguments};
 ghost use Rattle.layer_desk.specs.Laid.{event_in, enters};
 ghost use Rattle.layer_desk.specs.Need.{entry_need};
@@ -16,7 +16,6 @@ use crate::sends::arrived_headers;
 use layer_ast::Kind;
 use layer_desk::{Envelope, NoRoom, Start};
 use msg_core::Fields;
-use pool_message::PoolMessage;
 use slot_pool::Pool;
 
 /// Puts the number arguments of an event, in the order in which they are written.
@@ -82,30 +81,27 @@ fn bind_numbers<K: Start>(
 /// Puts the message that arrived behind those of the scope.
 fn bind_arrived<K: Start>(desk: &mut FileDesk, pool: &Pool)
     requires ready { IsReady K.begun pool.now desk.old }
-    requires room { length desk.old.messages.items + 1 ≤ vec_capacity desk.old.messages }
+    requires room { length desk.old.messages.items + 1 ≤ desk.old.messages.capacity }
     requires short { IsShortIf desk.old.arrived }
     ensures ready { IsReady K.begun pool.now desk.new }
     ensures shown { laid pool.now (stock_of desk.new) ≡ with_arrived (laid pool.now (stock_of desk.old)) }
     ensures free { room_of pool.now desk.new ≡ room_of pool.now desk.old }
     ensures count { length desk.new.messages.items ≤ length desk.old.messages.items + 1 }
-    ensures capacity { vec_capacity desk.new.messages ≡ vec_capacity desk.old.messages }
+    ensures capacity { desk.new.messages.capacity ≡ desk.old.messages.capacity }
 {
-    match desk.arrived.take() {
-        Some(message) => desk.messages.push_reserved(message),
-        None => {}
-    }
+    desk.messages.take_in(&mut desk.arrived);
 }
 
 /// Puts so many messages without bytes behind those of the scope.
 fn bind_bare<K: Start>(desk: &mut FileDesk, pool: &Pool, count: u8)
     requires ready { IsReady K.begun pool.now desk.old }
-    requires room { length desk.old.messages.items + count ≤ vec_capacity desk.old.messages }
+    requires room { length desk.old.messages.items + count ≤ desk.old.messages.capacity }
     ensures ready { IsReady K.begun pool.now desk.new }
     ensures shown { laid pool.now (stock_of desk.new) ≡ with_bare count (laid pool.now (stock_of desk.old)) }
     ensures free { room_of pool.now desk.new ≡ room_of pool.now desk.old }
 {
     for _ in 0..count {
-        desk.messages.push_reserved(PoolMessage::nothing());
+        desk.messages.push_bare();
     }
 }
 

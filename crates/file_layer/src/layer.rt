@@ -164,18 +164,7 @@ impl Stage for FileLayer {
             events.pass(none_header(self.place));
             return Predicted::usual();
         }
-        let Some((direction, event)) = events.pop_front() else {
-            unreachable!();
-        };
-        visit(
-            self.place,
-            &self.layer,
-            &mut self.desk,
-            pool,
-            direction,
-            event,
-            events,
-        )
+        visit(self.place, &self.layer, &mut self.desk, pool, events)
     }
 
     ghost frame = { layer_stays };

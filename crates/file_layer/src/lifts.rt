@@ -1,27 +1,26 @@
 //! Work at the hand.
 
-ghost use Rattle.std.specs.Prelude.{◌≡◌, [], slice_index_or, slice_get, option_copied, OnOk};
+ghost use Rattle.std.specs.Prelude.{◌≡◌, [], ◌∷◌, ◌++◌, slice_index_or, IfSome, IfNone, OnOk};
 ghost use Rattle.msg_core.specs.Chain.{plain};
 ghost use Rattle.msg_core.specs.Parts as parts;
-ghost use Rattle.layer_mean.specs.State.{row_at};
-ghost use Rattle.layer_mean.specs.Value.{message_in};
-ghost use Rattle.typed_layer.specs.View.{carried_tree};
 ghost use Rattle.layer_desk.specs.Laid.{lifted, changed, joined};
-ghost use Rattle.layer_desk.specs.Need.{one_slot, one_in_hand, held_need};
+ghost use Rattle.layer_desk.specs.Need.{one_slot, one_in_hand};
 ghost use Rattle.layer_desk.specs.Spent.{Spent, Lifted};
 ghost use Rattle.file_layer.specs.Stock.{laid};
 ghost use Rattle.file_layer.specs.Ready.{stock_of, room_of, IsReady};
 
 use crate::desk::FileDesk;
 use layer_desk::{NoRoom, Start};
-use pool_message::PoolMessage;
+use pool_message::{Messages, PoolMessage};
 use slot_pool::Pool;
 
-/// A message of the scope.
-fn message_at(desk: &FileDesk, slot: u8) -> Option<&PoolMessage>
-    ensures { option_copied result ≡ slice_get desk.now.messages.items slot }
+/// Takes the newest message out of a hand, if there is one.
+pub(crate) fn take_last(hand: &mut Messages) -> Option<PoolMessage>
+    ensures some { IfSome result (λ m. hand.old.items ≡ hand.new.items ++ m ∷ []) }
+    ensures none { IfNone result ((hand.old.items ≡ []) × (hand.new ≡ hand.old)) }
+    ensures capacity { hand.new.capacity ≡ hand.old.capacity }
 {
-    desk.messages.get(usize::from(slot))
+    hand.pop()
 }
 
 pub(crate) fn lift<K: Start>(desk: &mut FileDesk, pool: &mut Pool, slot: u8) -> Result<(), NoRoom>
@@ -34,14 +33,13 @@ pub(crate) fn lift<K: Start>(desk: &mut FileDesk, pool: &mut Pool, slot: u8) -> 
     if desk.hand.len() >= desk.hand.capacity() {
         return Err(NoRoom::Hand);
     }
-    match message_at(desk, slot) {
+    match desk.messages.get(usize::from(slot)) {
         Some(message) => {
-            let message = message.keep(pool);
-            desk.hand.push_reserved(message);
+            desk.hand.push_kept(message, pool);
             Ok(())
         }
         None => {
-            desk.hand.push_reserved(PoolMessage::nothing());
+            desk.hand.push_bare();
             Ok(())
         }
     }
@@ -56,7 +54,7 @@ pub(crate) fn lift_nothing<K: Start>(desk: &mut FileDesk, pool: &Pool) -> Result
     if desk.hand.len() >= desk.hand.capacity() {
         return Err(NoRoom::Hand);
     }
-    desk.hand.push_reserved(PoolMessage::nothing());
+    desk.hand.push_bare();
     Ok(())
 }
 
@@ -66,8 +64,8 @@ pub(crate) fn cut<K: Start>(desk: &mut FileDesk, pool: &Pool, from: u32, count: 
     ensures shown { laid pool.now (stock_of desk.new) ≡ changed (λ m. parts.cut m from count) (laid pool.now (stock_of desk.old)) }
     ensures free { room_of pool.now desk.new ≡ room_of pool.now desk.old }
 {
-    if let Some(message) = desk.hand.pop() {
-        desk.hand.push_reserved(message.cut(from, count));
+    if let Some(message) = take_last(&mut desk.hand) {
+        desk.hand.push(message.cut(from, count));
     }
 }
 
@@ -77,8 +75,8 @@ pub(crate) fn tail<K: Start>(desk: &mut FileDesk, pool: &Pool, from: u32)
     ensures shown { laid pool.now (stock_of desk.new) ≡ changed (λ m. parts.tail m from) (laid pool.now (stock_of desk.old)) }
     ensures free { room_of pool.now desk.new ≡ room_of pool.now desk.old }
 {
-    if let Some(message) = desk.hand.pop() {
-        desk.hand.push_reserved(message.tail(from));
+    if let Some(message) = take_last(&mut desk.hand) {
+        desk.hand.push(message.tail(from));
     }
 }
 
@@ -88,16 +86,16 @@ pub(crate) fn join<K: Start>(desk: &mut FileDesk, pool: &mut Pool) -> Result<(),
     ensures shown { OnOk result (laid pool.new (stock_of desk.new) ≡ joined (laid pool.old (stock_of desk.old))) }
     ensures spent { Spent (room_of pool.old desk.old) (room_of pool.new desk.new) one_slot result }
 {
-    let Some(second) = desk.hand.pop() else {
+    let Some(second) = take_last(&mut desk.hand) else {
         return Ok(());
     };
-    let Some(first) = desk.hand.pop() else {
-        desk.hand.push_reserved(second);
+    let Some(first) = take_last(&mut desk.hand) else {
+        desk.hand.push(second);
         return Ok(());
     };
     match PoolMessage::join(first, second, pool) {
         Some(message) => {
-            desk.hand.push_reserved(message);
+            desk.hand.push(message);
             Ok(())
         }
         None => Err(NoRoom::Slot),

@@ -1,6 +1,6 @@
 //! Desks that are made, and that end.
 
-ghost use Rattle.std.specs.Prelude.{◌≡◌, ◌+◌, ◌≤◌, [], map, IfOk, IfSome, vec_capacity};
+ghost use Rattle.std.specs.Prelude.{◌≡◌, ◌+◌, ◌≤◌, [], map, IfOk, IfSome};
 ghost use Rattle.circular_buffer.specs.Buffer.{buffer};
 ghost use Rattle.slot_pool.specs.References.{Covers};
 ghost use Rattle.layer_room.specs.Layouts as room;
@@ -17,33 +17,32 @@ ghost use Rattle.file_layer.specs.Stock.{kept_refs};
 use crate::desk::{FileDesk, MOST_BOUND, MOST_OWN, MOST_ROWS};
 use cell_store::{Cells, MOST_MEMBERS};
 use layer_room::{Reserve, reserve_for};
-use pool_message::{Events, PoolMessage, PoolRow};
+use pool_message::{Events, Messages, Place, PoolRow};
 use slot_pool::{Memory, Pool};
 use std::alloc::{AllocError, Global};
 use typed_layer::{Cell, Form, TypedLayer};
 
 /// Where messages lie, and a list of what is sent that keeps nothing.
 struct Lists {
-    messages: Vec<PoolMessage>,
-    hand: Vec<PoolMessage>,
+    messages: Messages,
+    hand: Messages,
     sent: Events,
 }
 
 impl Lists {
     fn fresh(alloc: Global, messages: usize, hand: usize) -> Result<Lists, Memory>
-        ensures empty { IfOk result (λ l. (l.messages.items ≡ []) × (l.hand.items ≡ []) × (l.sent ≡ buffer [] 0)) }
-        ensures room { IfOk result (λ l. (vec_capacity l.messages ≡ messages) × (vec_capacity l.hand ≡ hand)) }
+        ensures { IfOk result (λ l. (l.messages ≡ buffer [] messages) × (l.hand ≡ buffer [] hand) × (l.sent ≡ buffer [] 0)) }
     {
         let sent = Events::fresh(alloc, 0)?;
-        match Vec::with_capacity(alloc, messages) {
-            Ok(messages) => match Vec::with_capacity(alloc, hand) {
+        match Messages::fresh(alloc, messages) {
+            Ok(messages) => match Messages::fresh(alloc, hand) {
                 Ok(hand) => Ok(Lists {
                     messages,
                     hand,
                     sent,
                 }),
                 Err(error) => {
-                    messages.destroy_empty();
+                    messages.close();
                     sent.close();
                     Err(error)
                 }
@@ -63,8 +62,8 @@ impl Lists {
             hand,
             sent,
         } = self;
-        messages.destroy_empty();
-        hand.destroy_empty();
+        messages.close();
+        hand.close();
         sent.close();
     }
 }
@@ -140,7 +139,7 @@ pub(crate) fn make(
                 cells,
                 numbers,
                 messages,
-                arrived: None,
+                arrived: Place::empty(),
                 hand,
                 sent,
                 first: 0,
@@ -202,10 +201,7 @@ pub(crate) fn close(desk: FileDesk, pool: &mut Pool, layer: &TypedLayer)
         first: _,
         places: _,
     } = desk;
-    match arrived {
-        None => {}
-        Some(_) => unreachable!(),
-    }
+    arrived.close();
     give_rows_back(&mut cells, pool);
     cells.destroy();
     let lists = Lists {

@@ -11,7 +11,7 @@ ghost use Rattle.file_layer.specs.Passes.{is_passed};
 
 use layer_ast::Dir;
 use msg_core::{Fields, Header};
-use pool_message::{Events, PoolMessage};
+use pool_message::{Events, Place};
 use typed_layer::TypedLayer;
 
 /// Whether the first of the events passes a layer as it is but for its header: the layer has no handler for it, and it goes down, or up behind
@@ -30,7 +30,7 @@ pub(crate) fn lets_pass(layer: &TypedLayer, events: &Events) -> bool
 }
 
 /// The tag of the header that a layer pops off a message; 0 where it pops none.
-fn tag_met(direction: Dir, message: &Option<PoolMessage>) -> u8
+fn tag_met(direction: Dir, message: &Place) -> u8
     ensures { (p : List Held) → result ≡ (spec.met direction (seen_if p message.now)).tag }
 {
     match direction {
@@ -40,10 +40,10 @@ fn tag_met(direction: Dir, message: &Option<PoolMessage>) -> u8
 }
 
 /// The tag of a message's first header; 0 where it has none.
-fn first_tag(message: &Option<PoolMessage>) -> u8
+fn first_tag(message: &Place) -> u8
     ensures { (p : List Held) → result ≡ (spec.met Up (seen_if p message.now)).tag }
 {
-    match message {
+    match message.get() {
         Some(message) => match message.headers().at(0) {
             Some(header) => header.tag,
             None => 0,

@@ -9,6 +9,7 @@ ghost use Rattle.file_layer.specs.Stock.{laid};
 ghost use Rattle.file_layer.specs.Ready.{stock_of, room_of, IsReady};
 
 use crate::desk::FileDesk;
+use crate::lifts::take_last;
 use layer_desk::{NoRoom, Start};
 use msg_core::Fields;
 use pool_message::PoolRow;
@@ -56,7 +57,7 @@ pub(crate) fn push_first<K: Start>(
     if desk.cells.capacity(cell) < capacity {
         return Err(NoRoom::Misfit);
     }
-    let Some(message) = desk.hand.pop() else {
+    let Some(message) = take_last(&mut desk.hand) else {
         return Ok(());
     };
     let row = PoolRow {

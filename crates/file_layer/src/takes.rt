@@ -1,6 +1,6 @@
 //! Rows that are read and taken.
 
-ghost use Rattle.std.specs.Prelude.{◌≡◌, slice_index_or, slice_set, option_copied, IfOk, OnOk, vec_capacity};
+ghost use Rattle.std.specs.Prelude.{◌≡◌, option_copied, IfOk, OnOk, vec_capacity};
 ghost use Rattle.layer_mean.specs.State.{row_at};
 ghost use Rattle.layer_mean.specs.Value.{message_in};
 ghost use Rattle.typed_layer.specs.View.{carried_tree, taken_tree};
@@ -13,18 +13,18 @@ ghost use Rattle.file_layer.specs.Ready.{stock_of, room_of, IsReady};
 ghost use Rattle.file_layer.specs.Taken.{message_of, CanStandIn, JudgesBlank, JudgesWidth, JudgesTaken, StandsIn, IsMessageOf, numbers_filled};
 
 use crate::desk::{FileDesk, MOST_ABOVE};
+use cell_store::Cells;
 use layer_desk::{NoRoom, Start};
 use msg_core::Fields;
 use pool_message::{PoolMessage, PoolRow, give_back_if_any};
 use slot_pool::Pool;
-use std::mem;
 use typed_layer::{Blank, Carried, Taken};
 
 /// The message of a row, where there is a row and it has one.
-fn row_message(desk: &FileDesk, cell: u8, index: u32, row: u32) -> Option<&PoolMessage>
-    ensures { option_copied result ≡ message_of (kept_row desk.now.cells cell index row) }
+fn row_message(cells: &Cells<PoolRow>, cell: u8, index: u32, row: u32) -> Option<&PoolMessage>
+    ensures { option_copied result ≡ message_of (kept_row cells.now cell index row) }
 {
-    match desk.cells.row(cell, index, row) {
+    match cells.row(cell, index, row) {
         Some(row) => row.message.as_ref(),
         None => None,
     }
@@ -81,17 +81,16 @@ pub(crate) fn lift_row<K: Start>(
     if desk.hand.len() >= desk.hand.capacity() {
         return Err(NoRoom::Hand);
     }
-    match row_message(desk, cell, index, row) {
+    match row_message(&desk.cells, cell, index, row) {
         Some(message) => {
-            let message = message.keep(pool);
-            desk.hand.push_reserved(message);
+            desk.hand.push_kept(message, pool);
             Ok(())
         }
         None => {
             if is_too_wide(carried) {
                 return Err(NoRoom::Misfit);
             }
-            desk.hand.push_reserved(stand_in(carried));
+            desk.hand.push(stand_in(carried));
             Ok(())
         }
     }
@@ -120,20 +119,6 @@ fn set_numbers(numbers: &mut Vec<u32>, slots: &[u8], values: &Fields)
                 numbers[slot] = values.at(k);
             }
         }
-    }
-}
-
-/// Puts a message into a slot of a scope, and gives the one that stood there; where there is no such slot, the message itself.
-fn set_message(messages: &mut Vec<PoolMessage>, slot: u8, message: PoolMessage) -> PoolMessage
-    ensures old { result ≡ slice_index_or messages.old.items slot message }
-    ensures set { messages.new.items ≡ slice_set messages.old.items slot message }
-    ensures capacity { vec_capacity messages.new ≡ vec_capacity messages.old }
-{
-    let slot = usize::from(slot);
-    if slot < messages.len() {
-        mem::replace(&mut messages[slot], message)
-    } else {
-        message
     }
 }
 
@@ -171,8 +156,7 @@ pub(crate) fn take<K: Start>(
     match taken.message {
         Some(slot) => {
             let message = message_or(message, slot.carried);
-            let old = set_message(&mut desk.messages, slot.slot, message);
-            old.give_back(pool);
+            desk.messages.replace(usize::from(slot.slot), message, pool);
             Ok(true)
         }
         None => {

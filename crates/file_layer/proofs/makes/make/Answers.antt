@@ -1,9 +1,12 @@
-use Rattle.std.proofs.Common.{◌≡◌, ◌+◌, min, vec_capacity, None, rules, arith, ap, ◌∙◌}
+use Rattle.std.proofs.Common.{◌≡◌, ◌+◌, min, vec_capacity, rules, arith, ap, ◌∙◌}
+use Rattle.circular_buffer.specs.Buffer.{Buffer}
 use Rattle.typed_layer.specs.View.{layer_tree}
 use Rattle.layer_room.specs.Layouts as room
 use Rattle.layer_room.specs.declared.reserve.Reserve.{Reserve}
+use Rattle.pool_message.specs.declared.message.PoolMessage.{PoolMessage}
 use Rattle.file_layer.specs.declared.desk.FileDesk.{FileDesk}
 use Rattle.file_layer.specs.Fresh.{IsEmpty}
+use Rattle.file_layer.proofs.Lists.{items_are}
 use Rattle.file_layer.proofs.Fresh.{layout_at_first, empty_at_rest}
 use Rattle.file_layer.proofs.makes.make.Goals as goal
 
@@ -14,16 +17,16 @@ returns-in-Ok-clause-fresh c =
     let two = ap (λ (r : Reserve). r.messages) c.in_ok-reserve.ensures.is in
     let three = ap (λ (r : Reserve). r.hand) c.in_ok-reserve.ensures.is in
     let four = c.from.ensures in let five = c.from-2.ensures in
-    let places = c.in_ok-numbers.ensures.exact in let room = c.in_ok-lists.ensures.room in
-    let messages = room.0 in
+    let places = c.in_ok-numbers.ensures.exact in
+    let messages = ap (λ (b : Buffer PoolMessage). b.capacity) c.in_ok-lists.ensures.0 in
     let numbers_is : vec_capacity c.in_ok-numbers.numbers ≡ layout.numbers + 6 = omega arith in
-    let messages_is : vec_capacity c.in_ok-lists.lists.messages ≡ layout.messages + 1 = omega arith in
-    let hand_is : vec_capacity c.in_ok-lists.lists.hand ≡ min layout.hand 4294967295 = room.1 ∙ three in
+    let messages_is : c.in_ok-lists.lists.messages.capacity ≡ layout.messages + 1 = omega arith in
+    let hand_is : c.in_ok-lists.lists.hand.capacity ≡ min layout.hand 4294967295 = ap (λ (b : Buffer PoolMessage). b.capacity) c.in_ok-lists.ensures.1 ∙ three in
     let desk : FileDesk = record {
       cells = c.in-Ok.cells;
       numbers = c.in_ok-numbers.numbers;
       messages = c.in_ok-lists.lists.messages;
-      arrived = None;
+      arrived = c.empty.result;
       hand = c.in_ok-lists.lists.hand;
       sent = c.in_ok-lists.lists.sent;
       first = 0;
@@ -32,9 +35,9 @@ returns-in-Ok-clause-fresh c =
     let empty : IsEmpty (layer_tree c.args.layer.now) c.args.me c.args.count c.args.ltime desk = record {
       cells = search rules;
       numbers = search rules;
-      messages = search rules;
+      messages = items_are _ _ _ c.in_ok-lists.ensures.0;
       arrived = search rules;
-      hand = search rules;
+      hand = items_are _ _ _ c.in_ok-lists.ensures.1;
       sent = search rules;
       numbers_room = omega arith;
       messages_room = omega arith;
