@@ -9,7 +9,7 @@ use Rattle.layer_ast.specs.declared.tokens.Dir.{Dir}
 use Rattle.layer_mean.specs.declared.run.Event.{Event}
 use Rattle.pool_message.specs.Moves.{Returned}
 use Rattle.pool_message.specs.Seen.{event_refs, event_seen, EventLies}
-use Rattle.pool_message.specs.Sent.{sent_refs, sent_seen, SentLie}
+use Rattle.pool_message.specs.Sent.{sent_refs, sent_seen, SentLie, first_sent}
 use Rattle.pool_message.specs.declared.event.PoolEvent.{PoolEvent}
 use Rattle.pool_message.proofs.Lists.{covers_front, covers_rest, moved_rest, each_stays}
 use Rattle.pool_message.proofs.Stays.{event_stays}
@@ -60,13 +60,12 @@ module _ (start : List Held) (all : List (Dir × PoolEvent)) (first : Gathered) 
       }
 
   pub gathered_one : (q : List Held) (left : List (Dir × PoolEvent)) (now : Gathered) (dir : Dir) (event : PoolEvent) →
-      IsGathering start all first p left now → slice_get left 0 ≡ Some (dir, event) → Returned p q (event_refs event) →
+      IsGathering start all first p left now → slice_get left 0 ≡ Some (dir, event) → Returned p q (event_refs (first_sent left).1) →
       IsGathering start all first q (drop 1 left) (record now { outputs = now.outputs ++ full_output now.here (dir, event_seen p event) ∷ [] })
   gathered_one q [] now dir event is at returned = absurd (cc)
   gathered_one q (x ∷ rest) now dir event is at returned =
       let same : (dir, event) ≡ x = cc in
-      let back = subst (λ (y : Dir × PoolEvent). Returned p q (event_refs y.1)) same returned in
-      let stays = behind_lies p q x.1 rest back.moved is.covers is.lie.1 in
+      let stays = behind_lies p q x.1 rest returned.moved is.covers is.lie.1 in
       subst (λ (y : Dir × PoolEvent). IsGathering start all first q rest (record now {
         outputs = now.outputs ++ full_output now.here (
           y.0,
@@ -75,14 +74,14 @@ module _ (start : List Held) (all : List (Dir × PoolEvent)) (first : Gathered) 
       }))
       (sym same) record {
         lie = stays.0;
-        covers = covers_rest (λ (y : Dir × PoolEvent). event_refs y.1) p q (x ∷ rest) x refl is.covers back.moved;
+        covers = covers_rest (λ (y : Dir × PoolEvent). event_refs y.1) p q (x ∷ rest) x refl is.covers returned.moved;
         bring = is.bring.1;
         room =
             let room = is.room in
             let more : length (now.outputs ++ full_output now.here (x.0, event_seen p x.1) ∷ []) ≡ length now.outputs + 1 =
             length-append now.outputs (full_output now.here (x.0, event_seen p x.1) ∷ []) in omega arith;
-        moved = moved_rest (λ (y : Dir × PoolEvent). event_refs y.1) start p q (sent_refs all) (x ∷ rest) x refl is.moved back.moved;
-        slots = let one = is.slots in let two = back.slots in omega arith;
+        moved = moved_rest (λ (y : Dir × PoolEvent). event_refs y.1) start p q (sent_refs all) (x ∷ rest) x refl is.moved returned.moved;
+        slots = let one = is.slots in let two = returned.slots in omega arith;
         outputs =
             append_assoc now.outputs (full_output now.here (x.0, event_seen p x.1) ∷ []) (outputs_in now.here q rest)
             ∙ ap (λ (seen : List (Dir × Event)). now.outputs ++ (full_output now.here (x.0, event_seen p x.1) ∷ map (full_output now.here) seen))

@@ -16,7 +16,7 @@ use layer_ast::{Dir, Kind};
 use msg_core::{Dest, Headers};
 use packet_full::Scan;
 use packet_mean::Here;
-use pool_message::{PoolEvent, PoolMessage};
+use pool_message::{Place, PoolEvent, PoolMessage};
 use slot_pool::Pool;
 use stack_queue::PoolTask;
 
@@ -41,7 +41,7 @@ fn carrying(kind: Kind, peer: u32, message: PoolMessage) -> PoolEvent
         peer,
         a: 0,
         b: 0,
-        message: Some(message),
+        message: Place::of(message),
     }
 }
 
@@ -54,7 +54,7 @@ fn telling(kind: Kind, number: u32) -> PoolEvent
         peer: 0,
         a: number,
         b: 0,
-        message: None,
+        message: Place::empty(),
     }
 }
 

@@ -23,8 +23,8 @@ pub(crate) fn gather(outs: &mut Events, pool: &mut Pool, out: &mut Outputs)
     ensures returned { Returned pool.old pool.new (sent_refs outs.old.items) }
     ensures gathered { out.new ≡ record out.old { outputs = out.old.outputs ++ outputs_in out.old.here pool.old outs.old.items } }
 {
-    while let Some((direction, event)) = outs.pop_front() {
-        out.put(direction, &event, pool);
-        event.give_back(pool);
+    while let Some((direction, event)) = outs.first() {
+        out.put(direction, event, pool);
+        outs.drop_first(pool);
     }
 }

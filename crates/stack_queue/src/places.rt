@@ -20,6 +20,16 @@ pub(crate) fn put_place(places: &mut HeapCircularBuffer<u16>, at: u16)
     }
 }
 
+/// The first place goes.
+pub(crate) fn end_first(places: &mut HeapCircularBuffer<u16>)
+    requires { 0 < length places.old.items }
+    ensures { places.new ≡ buffer (drop 1 places.old.items) places.old.capacity }
+{
+    let Some(_at) = places.pop_front() else {
+        unreachable!();
+    };
+}
+
 /// The events behind those that have places were sent from one: each goes on to its neighbour.
 pub(crate) fn go_on(places: &mut HeapCircularBuffer<u16>, events: &Events, at: u16)
     requires place { (1 ≤ at) × (at ≤ 255) }

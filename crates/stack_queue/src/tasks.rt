@@ -4,7 +4,7 @@ ghost use Rattle.std.specs.Prelude.{◌≡◌, ◌+◌, ◌<◌, ◌≤◌, [], 
 ghost use Rattle.circular_buffer.specs.Buffer.{buffer};
 ghost use Rattle.stack_mean.specs.Acceptance.{largest_weight};
 
-use crate::places::{go_on, put_place};
+use crate::places::{end_first, go_on, put_place};
 use crate::sent::events_for;
 use circular_buffer::HeapCircularBuffer;
 use event_graph::Stack;
@@ -93,26 +93,15 @@ impl Tasks {
         self.places.front().copied()
     }
 
-    /// Takes the first task, if there is one.
-    pub fn pop(&mut self) -> Option<PoolTask>
-        ensures none { IfNone result (self.old.items ≡ []) }
-        ensures unchanged { IfNone result (self.new ≡ self.old) }
-        ensures some { IfSome result (λ task. self.old.items ≡ task ∷ self.new.items) }
-        ensures capacity { self.new.capacity ≡ self.old.capacity }
+    /// The event of the first task comes out, and the task goes.
+    pub(crate) fn leave(&mut self, out: &mut Events)
+        requires some { 0 < length self.old.items }
+        requires room { length out.old.items < out.old.capacity }
+        ensures rest { self.new ≡ buffer (drop 1 self.old.items) self.old.capacity }
+        ensures out { out.new ≡ buffer (out.old.items ++ ((first_task self.old.items).direction, (first_task self.old.items).event) ∷ []) out.old.capacity }
     {
-        match self.events.pop_front() {
-            Some((direction, event)) => {
-                let Some(at) = self.places.pop_front() else {
-                    unreachable!();
-                };
-                Some(PoolTask {
-                    at,
-                    direction,
-                    event,
-                })
-            }
-            None => None,
-        }
+        end_first(&mut self.places);
+        self.events.move_first(out);
     }
 
     /// A layer takes the event of the first task, which stands at a place, and what it sends becomes tasks behind the others.
@@ -145,9 +134,7 @@ impl Tasks {
         ensures place { S.place stage.new ≡ S.place stage.old }
         ensures layer { S.layer stage.new ≡ S.layer stage.old }
     {
-        let Some(_at) = self.places.pop_front() else {
-            unreachable!();
-        };
+        end_first(&mut self.places);
         let decided = stage.take(pool, &mut self.events);
         go_on(&mut self.places, &self.events, at);
         decided

@@ -1,8 +1,7 @@
 //! Runs.
 
-ghost use Rattle.std.specs.Prelude.{◌≡◌, ℕ, ◌+◌, ◌^◌, ◌<◌, ◌≤◌, not, List, [], ◌∷◌, ◌++◌, map, drop, length};
+ghost use Rattle.std.specs.Prelude.{◌≡◌, ℕ, ◌+◌, ◌^◌, ◌≤◌, not, List, [], ◌++◌, map, length};
 ghost use Rattle.std.specs.List.{flat_map};
-ghost use Rattle.circular_buffer.specs.Buffer.{buffer};
 ghost use Rattle.slot_pool.specs.Held.{Held, spare};
 ghost use Rattle.slot_pool.specs.References.{Moved, Covers};
 ghost use Rattle.weight_laws.specs.Visits.{task_weight, task_joins};
@@ -14,7 +13,7 @@ ghost use Rattle.layer_eval.specs.Did.{as_predicted};
 ghost use Rattle.pool_message.specs.Seen.{event_refs, EventLies};
 ghost use Rattle.pool_message.specs.Sent.{sent_refs, sent_seen, SentLie};
 ghost use Rattle.layer_stage.specs.Room.{CountsWithin};
-ghost use Rattle.stack_queue.specs.Pending.{first_task, task_seen};
+ghost use Rattle.stack_queue.specs.Pending.{task_seen};
 ghost use Rattle.stack_queue.specs.Stages.{Stand, most_at_first, run_of};
 
 use crate::tasks::{PoolTask, Tasks};
@@ -72,7 +71,7 @@ pub fn run<S: Stage>(
     let mut predicted = Predicted::usual();
     while let Some(at) = tasks.first() {
         if is_edge(stack.places(), at) {
-            leave(tasks, out);
+            tasks.leave(out);
             continue;
         }
         let stage = &mut stages[usize::from(at) - 1];
@@ -88,22 +87,4 @@ fn is_edge(places: u8, at: u16) -> bool
     ensures { result ≡ not (spec.is_place places at) }
 {
     at == 0 || at > u16::from(places)
-}
-
-/// The event of the first task comes out.
-fn leave(tasks: &mut Tasks, out: &mut Events)
-    requires some { 0 < length tasks.old.items }
-    requires room { length out.old.items < out.old.capacity }
-    ensures rest { tasks.new ≡ buffer (drop 1 tasks.old.items) tasks.old.capacity }
-    ensures out { out.new ≡ buffer (out.old.items ++ ((first_task tasks.old.items).direction, (first_task tasks.old.items).event) ∷ []) out.old.capacity }
-{
-    let Some(task) = tasks.pop() else {
-        unreachable!();
-    };
-    let PoolTask {
-        at: _,
-        direction,
-        event,
-    } = task;
-    out.push(direction, event);
 }

@@ -57,7 +57,7 @@ pub(crate) fn body_of<'p>(event: &'p PoolEvent, pool: &'p Pool) -> &'p [u8]
     ensures is { result.now ≡ (content (event_seen pool.now event.now)).body }
     ensures few { length result.now ≤ longest_body }
 {
-    match &event.message {
+    match event.message.get() {
         Some(message) => {
             let _count = message.len();
             message.body(pool)
@@ -86,7 +86,7 @@ pub(crate) fn keep_bytes(body: &[u8], bytes: &mut Vec<u8>) -> Span
 fn headers_of(event: &PoolEvent) -> Headers
     ensures { (p : List Held) → result ≡ (content (event_seen p event.now)).headers }
 {
-    match &event.message {
+    match event.message.get() {
         Some(message) => message.copied_headers(),
         None => Headers::none(),
     }
