@@ -3,4 +3,5 @@ pub mod Moves
 pub mod Lists
 pub mod Stays
 pub mod Piles
+pub mod Slots
 mod Chains

@@ -1,6 +1,6 @@
 -- Messages one behind the other: the last one is changed, or goes, and another takes the place of one.
 use Rattle.std.proofs.Common.{◌≡◌, ℕ, zero, suc, ◌+◌, ◌-◌, ◌<◌, ◌≤◌, List, [], ◌∷◌, ◌++◌, set, get_or, take, length, refl, sym, ap, ◌∙◌, arith}
-use Rattle.std.specs.Prelude.{slice_set, slice_get, None}
+use Rattle.std.specs.Prelude.{slice_get}
 use Rattle.std.proofs.Math.Seq.{take-set-lt}
 use Rattle.circular_buffer.specs.Buffer.{last_item}
 use Rattle.slot_pool.specs.Held.{Held}
@@ -8,19 +8,12 @@ use Rattle.slot_pool.specs.References.{Moved, Covers}
 use Rattle.slot_pool.specs.Times.{times}
 use Rattle.slot_pool.proofs.Times.{times-append}
 use Rattle.slot_pool.proofs.References.{moved-chain, moved-beside, moved-reordered}
-use Rattle.layer_ast.specs.declared.tokens.Dir.{Dir}
 use Rattle.msg_core.specs.declared.message.Header.{Header}
 use Rattle.pool_message.specs.Moves.{Returned}
 use Rattle.pool_message.specs.Piled.{pile_refs, without_last, with_header_last}
 use Rattle.pool_message.specs.Seen.{refs, refs_if}
-use Rattle.pool_message.specs.Sent.{first_sent, bared, with_header}
-use Rattle.pool_message.specs.declared.event.PoolEvent.{PoolEvent}
+use Rattle.pool_message.specs.Sent.{with_header}
 use Rattle.pool_message.specs.declared.message.PoolMessage.{PoolMessage}
-
--- an event that gave its message away has none
-pub first_bared : (xs : List (Dir × PoolEvent)) (x y : Dir × PoolEvent) → y ≡ bared x → 0 < length xs → (first_sent (slice_set xs 0 y)).1.message ≡ None
-first_bared [] x y is some = absurd (omega (arith, some))
-first_bared (z ∷ xs) x y is some = ap (λ (e : Dir × PoolEvent). e.1.message) is
 
 -- references are those of the last, and of the others
 parted_at : (ms : List PoolMessage) (n i : ℕ) → n + 1 ≡ length ms →

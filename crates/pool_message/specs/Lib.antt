@@ -2,3 +2,4 @@ pub mod Moves
 pub mod Piled
 pub mod Seen
 pub mod Sent
+pub mod Slots

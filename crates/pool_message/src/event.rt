@@ -2,7 +2,6 @@
 
 use crate::place::Place;
 use layer_ast::Kind;
-use slot_pool::Pool;
 
 /// What travels between adjacent layers. Numbers that its kind doesn't have are 0, and a Cast and a Send alone carry a message.
 pub struct PoolEvent {
@@ -16,23 +15,18 @@ pub struct PoolEvent {
 
 impl PoolEvent {
     ghost use Rattle.std.specs.Prelude.{◌≡◌, None};
-    ghost use Rattle.slot_pool.specs.References.{Covers};
-    ghost use Rattle.pool_message.specs.Seen.{event_refs};
-    ghost use Rattle.pool_message.specs.Moves.{Returned};
 
-    /// Gives the reference of its message back, if it has one.
-    pub fn give_back(self, pool: &mut Pool)
-        requires { Covers pool.old (event_refs self) }
-        ensures { Returned pool.old pool.new (event_refs self) }
+    /// Ends an event without a message.
+    pub(crate) fn close(self)
+        requires { self.message ≡ None }
     {
         let PoolEvent {
             kind: _,
             peer: _,
             a: _,
             b: _,
-            mut message,
+            message,
         } = self;
-        message.let_go(pool);
         message.close();
     }
 }

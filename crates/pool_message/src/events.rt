@@ -22,24 +22,30 @@ use std::marker::Model;
 pub const MOST_EVENTS: usize = 1_048_576;
 
 /// The events that were sent, in order, each with its direction. There is a number of places for them, at most `MOST_EVENTS`, which
-/// is chosen once. It can't be let go: it is emptied, and then closed.
+/// is chosen once. An event stays in its slot while the order moves on, and its slot is used again when it is gone, so few slots are ever
+/// touched. It can't be let go: it is emptied, and then closed.
 pub struct Events {
-    ring: HeapCircularBuffer<(Dir, PoolEvent)>,
+    slots: Vec<(Dir, PoolEvent)>,
+    /// The numbers of the slots in which events stand.
+    order: HeapCircularBuffer<u32>,
+    /// The numbers of the others.
+    free: Vec<u32>,
 }
 
 impl Model for Events {
-    ghost use Rattle.circular_buffer.specs.Buffer.{Buffer};
+    ghost use Rattle.std.specs.Prelude.{◌≤◌, length, vec_capacity};
+    ghost use Rattle.circular_buffer.specs.Buffer.{Buffer, buffer};
     ghost use Rattle.layer_ast.specs.declared.tokens.Dir.{Dir};
+    ghost use Rattle.pool_message.specs.Sent.{most_events};
+    ghost use Rattle.pool_message.specs.Slots.{standing, AreParted};
     ghost use Rattle.pool_message.specs.declared.event.PoolEvent.{PoolEvent};
 
     ghost Value = { Buffer (Dir × PoolEvent) };
 
-    ghost view = { λ e. e.ring };
+    ghost view = { λ e. buffer (standing e.slots.items e.order.items) e.order.capacity };
 
-    ghost use Rattle.std.specs.Prelude.{◌≤◌};
-    ghost use Rattle.pool_message.specs.Sent.{most_events};
-
-    ghost invariant = { λ e. e.ring.capacity ≤ most_events };
+    ghost invariant = { λ e. AreParted e.slots.items e.order.items e.free.items × (e.order.capacity ≤ most_events)
+        × (e.order.capacity ≤ vec_capacity e.slots) × (e.order.capacity ≤ vec_capacity e.free) × (length e.slots.items ≤ e.order.capacity) };
 }
 
 impl Events {
@@ -48,8 +54,10 @@ impl Events {
         requires { places ≤ most_events }
         ensures { IfOk result (λ e. e ≡ buffer [] places) }
     {
-        let ring = HeapCircularBuffer::with_capacity(alloc, places)?;
-        Ok(Events { ring })
+        let order = HeapCircularBuffer::with_capacity(alloc, places)?;
+        let free = Vec::with_capacity(alloc, places)?;
+        let slots = Vec::with_capacity(alloc, places)?;
+        Ok(Events { slots, order, free })
     }
 
     /// How many there are.
@@ -57,7 +65,7 @@ impl Events {
         ensures count { result ≡ length self.now.items }
         ensures within { result ≤ self.now.capacity }
     {
-        self.ring.len()
+        self.order.len()
     }
 
     /// How many there may be.
@@ -65,7 +73,7 @@ impl Events {
         ensures places { result ≡ self.now.capacity }
         ensures few { result ≤ most_events }
     {
-        self.ring.capacity()
+        self.order.capacity()
     }
 
     /// Puts one behind the others.
@@ -73,18 +81,26 @@ impl Events {
         requires { length self.old.items < self.old.capacity }
         ensures { self.new ≡ buffer (self.old.items ++ (direction, event) ∷ []) self.old.capacity }
     {
-        match self.ring.try_push_back((direction, event)) {
-            Ok(()) => {}
-            Err(_sent) => unreachable!(),
-        }
+        let PoolEvent {
+            kind,
+            peer,
+            a,
+            b,
+            mut message,
+        } = event;
+        self.push_from(direction, kind, peer, a, b, &mut message);
+        message.close();
     }
 
     /// The first one, if there is one.
     pub fn first(&self) -> Option<(Dir, &PoolEvent)>
         ensures { option_map (λ e. (e.0, e.1.now)) result ≡ slice_get self.now.items 0 }
     {
-        match self.ring.front() {
-            Some((direction, event)) => Some((*direction, event)),
+        match self.order.front() {
+            Some(k) => {
+                let sent = &self.slots[*k as usize];
+                Some((sent.0, &sent.1))
+            }
             None => None,
         }
     }
@@ -96,10 +112,10 @@ impl Events {
         requires room { CanPass (first_sent self.old.items).0 (first_sent self.old.items).1.message }
         ensures { self.new ≡ buffer (drop 1 self.old.items ++ event_passed header (first_sent self.old.items) ∷ []) self.old.capacity }
     {
-        let Some(sent) = self.ring.get_mut(0) else {
+        let Some(k) = self.order.front() else {
             unreachable!();
         };
-        pass_event(sent, header);
+        pass_event(&mut self.slots[*k as usize], header);
         self.go_round();
     }
 
@@ -108,13 +124,16 @@ impl Events {
         requires { 0 < length self.old.items }
         ensures { self.new ≡ buffer (drop 1 self.old.items ++ first_sent self.old.items ∷ []) self.old.capacity }
     {
-        if self.ring.len() == 1 {
+        if self.order.len() == 1 {
             return;
         }
-        let Some((direction, event)) = self.ring.pop_front() else {
+        let Some(k) = self.order.pop_front() else {
             unreachable!();
         };
-        self.push(direction, event);
+        match self.order.try_push_back(k) {
+            Ok(()) => {}
+            Err(_k) => unreachable!(),
+        }
     }
 
     /// Puts an event of this kind, with these numbers and with what lies in a place, behind the others. The place is empty then.
@@ -131,16 +150,11 @@ impl Events {
         ensures pushed { self.new ≡ buffer (self.old.items ++ (direction, record { kind = kind; peer = peer; a = a; b = b; message = message.old }) ∷ []) self.old.capacity }
         ensures left { message.new ≡ None }
     {
-        let mut own = Place::empty();
-        own.take_over(message);
-        let event = PoolEvent {
-            kind,
-            peer,
-            a,
-            b,
-            message: own,
+        self.push_bare(direction, kind, peer, a, b);
+        let Some(k) = self.order.back() else {
+            unreachable!();
         };
-        self.push(direction, event);
+        fill_from(&mut self.slots[*k as usize], message);
     }
 
     /// Puts an event of this kind, with these numbers and without a message, behind the others.
@@ -148,14 +162,29 @@ impl Events {
         requires { length self.old.items < self.old.capacity }
         ensures { self.new ≡ buffer (self.old.items ++ (direction, record { kind = kind; peer = peer; a = a; b = b; message = None }) ∷ []) self.old.capacity }
     {
-        let event = PoolEvent {
-            kind,
-            peer,
-            a,
-            b,
-            message: Place::empty(),
+        let k = match self.free.pop() {
+            Some(k) => {
+                begin_event(&mut self.slots[k as usize], direction, kind, peer, a, b);
+                k
+            }
+            None => {
+                let k = self.slots.len() as u32;
+                let message = Place::empty();
+                let event = PoolEvent {
+                    kind,
+                    peer,
+                    a,
+                    b,
+                    message,
+                };
+                self.slots.push_reserved((direction, event));
+                k
+            }
         };
-        self.push(direction, event);
+        match self.order.try_push_back(k) {
+            Ok(()) => {}
+            Err(_k) => unreachable!(),
+        }
     }
 
     /// Puts an event of this kind, with these numbers and with the last of some messages, if there is one, behind the others. That message is
@@ -173,18 +202,11 @@ impl Events {
         ensures pushed { self.new ≡ buffer (self.old.items ++ (direction, record { kind = kind; peer = peer; a = a; b = b; message = last_item messages.old.items }) ∷ []) self.old.capacity }
         ensures rest { messages.new ≡ buffer (without_last messages.old.items) messages.old.capacity }
     {
-        let message = match messages.pop() {
-            Some(message) => Place::of(message),
-            None => Place::empty(),
+        self.push_bare(direction, kind, peer, a, b);
+        let Some(k) = self.order.back() else {
+            unreachable!();
         };
-        let event = PoolEvent {
-            kind,
-            peer,
-            a,
-            b,
-            message,
-        };
-        self.push(direction, event);
+        fill_last(&mut self.slots[*k as usize], messages);
     }
 
     /// The first one goes, and its message to an empty place.
@@ -194,10 +216,10 @@ impl Events {
         ensures message { message.new ≡ (first_sent self.old.items).1.message }
         ensures rest { self.new ≡ buffer (drop 1 self.old.items) self.old.capacity }
     {
-        let Some(sent) = self.ring.get_mut(0) else {
+        let Some(k) = self.order.front() else {
             unreachable!();
         };
-        give_message(sent, message);
+        give_message(&mut self.slots[*k as usize], message);
         self.end_first();
     }
 
@@ -208,10 +230,11 @@ impl Events {
         ensures rest { self.new ≡ buffer (drop 1 self.old.items) self.old.capacity }
         ensures moved { to.new ≡ buffer (to.old.items ++ first_sent self.old.items ∷ []) to.old.capacity }
     {
-        let Some((direction, event)) = self.ring.pop_front() else {
+        let Some(k) = self.order.front() else {
             unreachable!();
         };
-        to.push(direction, event);
+        move_event(&mut self.slots[*k as usize], to);
+        self.end_first();
     }
 
     /// The first one goes, and the reference of its message back.
@@ -221,10 +244,11 @@ impl Events {
         ensures rest { self.new ≡ buffer (drop 1 self.old.items) self.old.capacity }
         ensures returned { Returned pool.old pool.new (event_refs (first_sent self.old.items).1) }
     {
-        let Some((_direction, event)) = self.ring.pop_front() else {
+        let Some(k) = self.order.front() else {
             unreachable!();
         };
-        event.give_back(pool);
+        drop_message(&mut self.slots[*k as usize], pool);
+        self.end_first();
     }
 
     /// The first one goes, which has no message.
@@ -233,17 +257,10 @@ impl Events {
         requires bare { (first_sent self.old.items).1.message ≡ None }
         ensures { self.new ≡ buffer (drop 1 self.old.items) self.old.capacity }
     {
-        let Some((_direction, event)) = self.ring.pop_front() else {
+        let Some(k) = self.order.pop_front() else {
             unreachable!();
         };
-        let PoolEvent {
-            kind: _,
-            peer: _,
-            a: _,
-            b: _,
-            message,
-        } = event;
-        message.close();
+        self.free.push_reserved(k);
     }
 
     /// The direction of event number `k`, which is one of those that there are.
@@ -251,8 +268,8 @@ impl Events {
         requires { k < length self.now.items }
         ensures { option_map (λ e. e.0) (slice_get self.now.items k) ≡ Some result }
     {
-        match self.ring.get(k) {
-            Some((direction, _)) => *direction,
+        match self.order.get(k) {
+            Some(slot) => self.slots[*slot as usize].0,
             None => unreachable!(),
         }
     }
@@ -272,8 +289,16 @@ impl Events {
     pub fn close(self)
         requires { self.items ≡ [] }
     {
-        let Events { ring } = self;
-        ring.destroy_empty();
+        let Events {
+            mut slots,
+            order,
+            free: _,
+        } = self;
+        while let Some((_direction, event)) = slots.pop() {
+            event.close();
+        }
+        slots.destroy_empty();
+        order.destroy_empty();
     }
 }
 
@@ -283,6 +308,62 @@ fn pass_event(sent: &mut (Dir, PoolEvent), header: Header)
     ensures { sent.new ≡ event_passed header sent.old }
 {
     pass_message(sent.0, header, &mut sent.1.message);
+}
+
+/// A slot without a message becomes that of an event.
+fn begin_event(sent: &mut (Dir, PoolEvent), direction: Dir, kind: Kind, peer: u32, a: u32, b: u32)
+    ensures { sent.new ≡ (direction, record { kind = kind; peer = peer; a = a; b = b; message = sent.old.1.message }) }
+{
+    sent.0 = direction;
+    sent.1.kind = kind;
+    sent.1.peer = peer;
+    sent.1.a = a;
+    sent.1.b = b;
+}
+
+/// An event without a message takes what lies in a place.
+fn fill_from(sent: &mut (Dir, PoolEvent), message: &mut Place)
+    requires { sent.old.1.message ≡ None }
+    ensures filled { sent.new ≡ (sent.old.0, record sent.old.1 { message = message.old }) }
+    ensures left { message.new ≡ None }
+{
+    sent.1.message.take_over(message);
+}
+
+/// An event without a message takes the last of some, if there is one.
+fn fill_last(sent: &mut (Dir, PoolEvent), messages: &mut Messages)
+    requires { sent.old.1.message ≡ None }
+    ensures filled { sent.new ≡ (sent.old.0, record sent.old.1 { message = last_item messages.old.items }) }
+    ensures rest { messages.new ≡ buffer (without_last messages.old.items) messages.old.capacity }
+{
+    messages.pop_to(&mut sent.1.message);
+}
+
+/// An event goes to others, and leaves its slot without a message.
+fn move_event(sent: &mut (Dir, PoolEvent), to: &mut Events)
+    requires { length to.old.items < to.old.capacity }
+    ensures moved { to.new ≡ buffer (to.old.items ++ sent.old ∷ []) to.old.capacity }
+    ensures left { sent.new ≡ bared sent.old }
+{
+    let direction = sent.0;
+    let event = &mut sent.1;
+    to.push_from(
+        direction,
+        event.kind,
+        event.peer,
+        event.a,
+        event.b,
+        &mut event.message,
+    );
+}
+
+/// An event lets its message go, whose reference goes back.
+fn drop_message(sent: &mut (Dir, PoolEvent), pool: &mut Pool)
+    requires { Covers pool.old (event_refs sent.old.1) }
+    ensures left { sent.new ≡ bared sent.old }
+    ensures returned { Returned pool.old pool.new (event_refs sent.old.1) }
+{
+    sent.1.message.let_go(pool);
 }
 
 /// An event gives its message to an empty place.

@@ -154,6 +154,18 @@ impl Messages {
         Some(self.places[self.count].take_out())
     }
 
+    /// Moves the last message to an empty place, if there is one.
+    pub fn pop_to(&mut self, place: &mut Place)
+        requires { place.old ≡ None }
+        ensures last { place.new ≡ last_item self.old.items }
+        ensures rest { self.new ≡ buffer (without_last self.old.items) self.old.capacity }
+    {
+        if self.count > 0 {
+            self.count -= 1;
+            place.fill(&mut self.places[self.count]);
+        }
+    }
+
     /// A message takes the place of the message number `k`, whose reference goes back; where there is none, its own goes back.
     pub fn replace(&mut self, k: usize, message: PoolMessage, pool: &mut Pool)
         requires { Covers pool.old (refs (slice_index_or self.old.items k message)) }

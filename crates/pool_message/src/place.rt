@@ -77,6 +77,16 @@ impl Place {
         }
     }
 
+    /// Becomes full of a message, which is then without headers and bytes. The place was empty.
+    pub fn fill(&mut self, message: &mut PoolMessage)
+        requires { self.old ≡ None }
+        ensures full { self.new ≡ Some message.old }
+        ensures left { message.new ≡ bodiless [] }
+    {
+        self.message.take_over(message);
+        self.is_full = true;
+    }
+
     /// Gives its message to another, which has no bytes, and is then empty. The place was full.
     pub fn hand_over(&mut self, message: &mut PoolMessage)
         requires full { is_some self.old ≡ true }

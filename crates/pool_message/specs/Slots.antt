@@ -1,0 +1,21 @@
+-- Slots in which events stand, in an order that is kept beside them.
+use Rattle.std.specs.Prelude.{◌≡◌, ℕ, ◌+◌, ◌<◌, ◌≤◌, List, [], map, length, get_or, None}
+use Rattle.slot_pool.specs.Times.{times}
+use Rattle.layer_ast.specs.declared.tokens.Dir.{Dir}
+use Rattle.pool_message.specs.Sent.{first_sent}
+use Rattle.pool_message.specs.declared.event.PoolEvent.{PoolEvent}
+
+-- What stands in a slot, and in slots in an order.
+abbrev pub slot_at : List (Dir × PoolEvent) → ℕ → Dir × PoolEvent
+slot_at slots k = get_or slots k (first_sent [])
+
+abbrev pub standing : List (Dir × PoolEvent) → List ℕ → List (Dir × PoolEvent)
+standing slots order = map (slot_at slots) order
+
+-- Each slot's number stands once, in the order or among those that are free; in a free one there is no message.
+pub record AreParted (slots : List (Dir × PoolEvent)) (order free : List ℕ) : Type 0 where
+  pub count : length slots ≡ length order + length free
+  pub once : (i : ℕ) → times i order + times i free ≤ 1
+  pub within : (i : ℕ) → 0 < times i order + times i free → i < length slots
+  pub each : (i : ℕ) → i < length slots → 0 < times i order + times i free
+  pub bare : (i : ℕ) → 0 < times i free → (slot_at slots i).1.message ≡ None
