@@ -34,13 +34,13 @@ fn script(alloc: Global) -> Result<Vec<u8>, AllocError> {
     Ok(script)
 }
 
-/// A packet that is sent for the cast, with its number.
-fn put_part(to: &mut Vec<u8>, number: u8) -> Result<(), AllocError> {
+/// A packet that is sent for the cast: its digit, and that of its place among the parts.
+fn put_part(to: &mut Vec<u8>, packet: u8, place: u8) -> Result<(), AllocError> {
     to.extend_from_slice(b"packet ")?;
-    to.extend_from_slice(&[b'1' + number])?;
+    to.extend_from_slice(&[packet])?;
     to.extend_from_slice(b" 0 all bottom.net(1)/mnak.num(")?;
-    to.extend_from_slice(&[b'0' + number])?;
-    let last: &[u8] = if number == 7 {
+    to.extend_from_slice(&[place])?;
+    let last: &[u8] = if place == b'7' {
         b")/frag.last() "
     } else {
         b")/frag.some() "
@@ -61,7 +61,7 @@ deliver 1 cast 0 ";
 fn report(alloc: Global) -> Result<Vec<u8>, AllocError> {
     let mut report = Vec::new(alloc);
     for number in 0..8 {
-        put_part(&mut report, number)?;
+        put_part(&mut report, b'1' + number, b'0' + number)?;
     }
     put_line(&mut report, REST, WHOLE)?;
     report.extend_from_slice(b"end 9\n")?;
