@@ -16,12 +16,11 @@ ghost use Rattle.bypass_member.specs.Judged.{entry_meant, Judges, LiesWithin};
 
 use entry_shapes::EntryOf;
 use event_graph::Stack;
-use msg_core::Stray;
+use msg_core::{LONGEST_BODY, Stray};
 use packet_full::Scan;
 use packet_mean::Here;
 use packet_plans::Plans;
 use packet_short::{fits_scan, scan_packet};
-use pool_message::LONGEST_BODY;
 use view_core::{Input, Refusal};
 
 /// An input that isn't refused.

@@ -8,11 +8,9 @@ ghost use Rattle.file_jobs.specs.Stack.{JudgesStack, Fetches};
 use event_graph::Stack;
 use file_judge::{FileError, judge};
 use job_ends::Ending;
+use layer_ast::LONGEST_FILE;
 use outside::{Got, Shelf, ShelfError};
 use std::alloc::Global;
-
-/// The most bytes of a stack file.
-const MOST_FILE: u64 = 1_048_576;
 
 /// Reads a stack file and judges it: its accepted stack, or how the job ends.
 pub fn fetch_stack<S: Shelf>(alloc: Global, file: &str, shelf: &mut S) -> Result<Stack, Ending>
@@ -20,7 +18,7 @@ pub fn fetch_stack<S: Shelf>(alloc: Global, file: &str, shelf: &mut S) -> Result
     ensures kept { S.told shelf.new ≡ option_map after_read (S.told shelf.old) }
 {
     let mut text = Vec::new(alloc);
-    match shelf.read(file, &mut text, MOST_FILE) {
+    match shelf.read(file, &mut text, u64::from(LONGEST_FILE)) {
         Ok(Got::Whole) => judged(alloc, &text),
         Ok(Got::TooLong) => Err(Ending::File(FileError::TooLarge)),
         Err(ShelfError::Failed) => Err(Ending::Read),

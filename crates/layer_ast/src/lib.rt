@@ -10,7 +10,7 @@ mod tokens;
 pub use names::{At, Name, Word};
 pub use syntax::{
     Argument, Arguments, Block, Built, Declaration, Ending, Expected, Expression, File, Function,
-    Given, Handler, Item, Items, Layer, Likely, MessageExpression, Names, Operator, Place, Popped,
-    Pushed, Queue, Shape, Size, Sort, Statement,
+    Given, Handler, Item, Items, LONGEST_FILE, Layer, Likely, MessageExpression, Names, Operator,
+    Place, Popped, Pushed, Queue, Shape, Size, Sort, Statement,
 };
 pub use tokens::{Dir, Kind, Lexed, Sign, Token};

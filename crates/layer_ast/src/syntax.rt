@@ -3,6 +3,9 @@
 use crate::names::{At, Name};
 use crate::tokens::{Dir, Kind};
 
+/// The most bytes of a file.
+pub const LONGEST_FILE: u32 = 1_048_576;
+
 /// `{ layer } "stack" "{" place { place } "}"`
 #[derive(Drop)]
 pub struct File {

@@ -25,21 +25,18 @@ mod statements;
 use apart::by_layers;
 pub use error::ParseError;
 use files::file;
-use layer_ast::File;
+use layer_ast::{File, LONGEST_FILE};
 use layer_lex::{Tokens, cut, end_of};
 use library::library;
 use readers::Fault;
 use std::alloc::Global;
-
-/// The most bytes that a text may have.
-const LONGEST: usize = 1_048_576;
 
 /// Reads the file that a text is: the file that it spells, with the layers of the library that its places name and it lacks. A
 /// refusal has the first place where the text stops being the beginning of a file.
 pub fn parse(alloc: Global, text: &[u8]) -> Result<File, ParseError>
     ensures { Answers text.now result }
 {
-    if text.len() > LONGEST {
+    if text.len() > LONGEST_FILE as usize {
         return Err(ParseError::TooLarge);
     }
     match by_layers(alloc, text)? {

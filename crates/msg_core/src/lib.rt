@@ -12,5 +12,5 @@ mod packet;
 
 pub use fields::Fields;
 pub use headers::{Headers, MOST_HEADERS};
-pub use message::{Header, Memory, Message};
+pub use message::{Header, LONGEST_BODY, Memory, Message};
 pub use packet::{Dest, Packet, Stray, View};

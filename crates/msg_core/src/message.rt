@@ -8,6 +8,9 @@ use std::marker::Model;
 use std::rc::RcSlice;
 use thiserror::Error;
 
+/// The most bytes of a body.
+pub const LONGEST_BODY: u32 = 8192;
+
 /// Memory ran out.
 #[derive(Debug, Drop, Error)]
 #[error("no memory")]

@@ -12,11 +12,8 @@ use crate::cursor::Cursor;
 use crate::front::{Preamble, is_form, meant_for};
 use crate::opened::Opened;
 use crate::scan::Scan;
-use msg_core::{Headers, Stray};
+use msg_core::{Headers, LONGEST_BODY, Stray};
 use packet_mean::Here;
-
-/// The most bytes of a body.
-const LONGEST_BODY: usize = 8192;
 
 /// What stands in front of a datagram of one of the two forms that is meant for a member; or the first cause for which it isn't one.
 #[tactic(auto, unfolding(crate::specs::Steps::opened))]
@@ -57,7 +54,7 @@ pub fn close(
     requires { length (left cursor.now) ≤ longest_body → IsBehind (left cursor.now) bytes.now }
     ensures { Closes bytes.now front.now headers (left cursor.now) result }
 {
-    if cursor.len() > LONGEST_BODY {
+    if cursor.len() > LONGEST_BODY as usize {
         return Err(Stray::Body);
     }
     Ok(Scan {

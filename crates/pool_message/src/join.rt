@@ -7,10 +7,8 @@ ghost use Rattle.pool_message.specs.Seen.{body_refs, BodyLies, LiesIn};
 ghost use Rattle.pool_message.specs.Moves.{BodiesJoined, PartsJoined};
 
 use crate::part::Part;
+use msg_core::LONGEST_BODY;
 use slot_pool::Pool;
-
-/// The most bytes of a body.
-pub const LONGEST_BODY: u32 = 8192;
 
 /// The bytes of `front` and, behind them, those of `back`.
 pub(crate) fn join_bodies(

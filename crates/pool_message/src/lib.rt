@@ -16,7 +16,6 @@ mod row;
 
 pub use event::PoolEvent;
 pub use events::{Events, MOST_EVENTS};
-pub use join::LONGEST_BODY;
 pub use laws::what_lies_stays;
 pub use message::PoolMessage;
 pub use messages::Messages;
