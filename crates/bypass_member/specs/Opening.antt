@@ -3,7 +3,7 @@ use Rattle.std.specs.Prelude.{◌≡◌, ℕ, ◌+◌, ◌<◌, ◌≤◌, List,
 use Rattle.msg_core.specs.View.{member_count}
 use Rattle.msg_core.specs.declared.packet.View.{View}
 use Rattle.layer_mean.specs.Tree.{LayerTree}
-use Rattle.stack_mean.specs.Acceptance.{rows_of}
+use Rattle.stack_mean.specs.Acceptance.{rows_of, most_rows}
 use Rattle.stack_mean.specs.Plan.{Plan}
 use Rattle.run_mean.specs.Member.{opened}
 use Rattle.file_layer.specs.Making.{Making}
@@ -20,10 +20,6 @@ pub record Asked : Type 0 where
   pub view : View
   pub id : ℕ
 
--- The most rows with messages that a member may keep.
-abbrev pub rows_limit : ℕ
-rows_limit = 8192
-
 abbrev pub rows_asked : Asked → ℕ
 rows_asked a = rows_of a.stack (member_count a.view)
 
@@ -36,7 +32,7 @@ pub record IsOpen (a : Asked) (before after : Making) (m : Placed) : Type 0 wher
   pub stamp : m.stamp ≡ a.stamp
   pub id : m.id ≡ a.id
   pub most : m.most ≡ member_count a.view
-  pub few : rows_asked a ≤ rows_limit
+  pub few : rows_asked a ≤ most_rows
   pub same : after.stack ≡ before.stack
   pub made : after.made ≡ before.made + length a.stack
 
@@ -48,5 +44,5 @@ pub record NoMemory (a : Asked) (before after : Making) : Type 0 where
 -- A member as it was asked for, or that its layers may keep too many rows, or want of memory.
 abbrev pub Opens : Asked → (before after : Making) → Result Placed OpenError → Type 0
 Opens a before after (Ok m) = IsOpen a before after m
-Opens a before after (Err TooLarge) = (rows_limit < rows_asked a) × (after ≡ before)
+Opens a before after (Err TooLarge) = (most_rows < rows_asked a) × (after ≡ before)
 Opens a before after (Err Memory) = NoMemory a before after

@@ -9,7 +9,7 @@ use Rattle.layer_mean.specs.declared.run.Event.{Event}
 use Rattle.layer_mean.specs.State.{State}
 use Rattle.layer_mean.specs.Tree.{LayerTree}
 use Rattle.layer_mean.specs.Queue.{Work, run}
-use Rattle.stack_mean.specs.Acceptance.{largest_weight, joins_limit, rows_of}
+use Rattle.stack_mean.specs.Acceptance.{largest_weight, joins_limit, rows_of, most_rows}
 use Rattle.packet_mean.specs.declared.here.Here.{Here}
 use Rattle.weight_laws.specs.Runs.{Enters}
 use Rattle.chain_laws.specs.Runs.{AreChainedStates, IsChainedTask}
@@ -23,7 +23,7 @@ use Rattle.stack_queue.specs.Pending.{task_seen}
 use Rattle.stack_queue.specs.Stages.{Stand, most_at_first}
 use Rattle.stack_queue.specs.declared.tasks.PoolTask.{PoolTask}
 use Rattle.run_mean.specs.Member.{Output, output_of, most_turns}
-use Rattle.row_laws.specs.Room.{most_rows, slots_beyond}
+use Rattle.row_laws.specs.Room.{slots_beyond}
 use Rattle.file_layer.specs.Layer.{place_of, tree_of, refs_of, IsInOrder, state_in}
 use Rattle.bypass_member.specs.declared.works.Works.{Works}
 

@@ -9,9 +9,8 @@ ghost use Rattle.file_layer.specs.Layer.{refs_of, IsInOrder};
 ghost use Rattle.file_layer.specs.Making.{making};
 ghost use Rattle.msg_core.specs.View as members;
 ghost use Rattle.slot_pool.specs.References.{Covers};
-ghost use Rattle.stack_mean.specs.Acceptance.{largest_weight, rows_of};
+ghost use Rattle.stack_mean.specs.Acceptance.{largest_weight, rows_of, most_rows};
 ghost use Rattle.bypass_member.specs.Making.{MakesAll, OpensWorks};
-ghost use Rattle.bypass_member.specs.Opening.{rows_limit};
 ghost use Rattle.bypass_member.specs.Working.{refs_in};
 
 use crate::works::Works;
@@ -114,7 +113,7 @@ pub(crate) fn open_works(
     requires made { (making maker.old).made ≤ 2 ^ 62 }
     requires member { is_some (members.rank view id) ≡ true }
     requires rows { rows ≡ rows_of (stack_tree stack.now) (members.member_count view) }
-    requires few { rows ≤ rows_limit }
+    requires few { rows ≤ most_rows }
     ensures { OpensWorks (stack_tree stack.now) view id (making maker.old) (making maker.new) result }
 {
     let me = match rank(view, id) {

@@ -9,13 +9,13 @@ use Rattle.layer_mean.specs.Tree.{LayerTree}
 use Rattle.script_mean.specs.Generate.{generate}
 use Rattle.script_mean.specs.Script.{IsRunnable, script_of}
 use Rattle.script_mean.specs.declared.script.Script.{Script}
-use Rattle.stack_mean.specs.Acceptance.{rows_of}
+use Rattle.stack_mean.specs.Acceptance.{rows_of, most_rows}
 use Rattle.stack_mean.specs.Plans.{plans_of}
 use Rattle.job_mean.specs.Job.{layered, replay, load}
 use Rattle.job_mean.specs.Status.{done, write_failed, no_memory, too_many_rows}
 use Rattle.run_mean.specs.Report.{output_in}
 use Rattle.run_mean.specs.Tally.{tally}
-use Rattle.program_mean.specs.Output.{most_rows, HasRoom}
+use Rattle.program_mean.specs.Output.{HasRoom}
 use Rattle.program_mean.specs.Second.{crowded, after_script}
 use Rattle.job_ends.specs.Comes.{Around, Good, Comes}
 use Rattle.job_ends.proofs.Comes.{written}

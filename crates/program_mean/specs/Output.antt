@@ -12,17 +12,13 @@ use Rattle.script_mean.specs.NodePlan.{node_plan}
 use Rattle.script_mean.specs.Script.{script_of}
 use Rattle.script_mean.specs.declared.plan.NodePlan.{NodePlan}
 use Rattle.script_mean.specs.declared.script.Script.{Script}
-use Rattle.stack_mean.specs.Acceptance.{rows_of}
+use Rattle.stack_mean.specs.Acceptance.{rows_of, most_rows}
 use Rattle.stack_mean.specs.Plans.{plans_of}
 use Rattle.job_mean.specs.Job.{Mode}
 use Rattle.run_mean.specs.Journal.{Heard, failure, Note, notes_of, node_run, note_lines, node_lines, Handed, handed}
 use Rattle.run_mean.specs.Report.{Moment, output_in}
 use Rattle.run_mean.specs.Tally.{tally, accepted_lines}
 use Rattle.program_mean.specs.Judged.{Means}
-
--- The most rows with messages that a member may have.
-abbrev pub most_rows : ℕ
-most_rows = 8192
 
 -- The rows of a member are few enough, in a group of so many members.
 abbrev pub HasRoom : List LayerTree → ℕ → Type 0

@@ -6,10 +6,9 @@ use Rattle.script_mean.specs.NodePlan.{node_plan}
 use Rattle.script_mean.specs.Script.{ScriptFault, no_member, script_of}
 use Rattle.script_mean.specs.declared.plan.NodePlan.{NodePlan}
 use Rattle.script_mean.specs.declared.script.Script.{Script}
-use Rattle.stack_mean.specs.Acceptance.{rows_of}
+use Rattle.stack_mean.specs.Acceptance.{rows_of, most_rows}
 use Rattle.job_mean.specs.Job.{Job, check, synth, replay, load, node, audit}
 use Rattle.job_mean.specs.Status.{SecondFault, misspelled, too_many_rows}
-use Rattle.program_mean.specs.Output.{most_rows}
 
 -- The members of a stack have too many rows, in a group of so many.
 abbrev pub crowded : List LayerTree → ℕ → Option SecondFault

@@ -5,15 +5,11 @@ use Rattle.slot_pool.specs.Held.{Held, spare, IsFull, Puts}
 use Rattle.slot_pool.specs.References.{Exact, Covers}
 use Rattle.layer_mean.specs.Tree.{LayerTree}
 use Rattle.layer_mean.specs.State.{State}
-use Rattle.stack_mean.specs.Acceptance.{rows_of, largest_weight, largest_joins, weight_limit, joins_limit, accepted}
+use Rattle.stack_mean.specs.Acceptance.{rows_of, most_rows, largest_weight, largest_joins, weight_limit, joins_limit, accepted}
 use Rattle.chain_laws.specs.Runs.{AreChainedStates}
 use Rattle.layer_stage.specs.Room.{CountsWithin}
 use Rattle.stack_queue.specs.Stages.{most_at_first}
 use Rattle.row_laws.specs.Rows.{AreWithin}
-
--- The most rows with messages of a member.
-abbrev pub most_rows : ℕ
-most_rows = 8192
 
 -- The slots that a pool has beyond one for each row: one for the body of the event that begins a run, and one for each of its joins.
 abbrev pub slots_beyond : ℕ

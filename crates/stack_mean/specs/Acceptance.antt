@@ -93,3 +93,7 @@ message_rows n (queues capacity items) = capacity_for items capacity * n
 -- How many rows with messages a member of a view of n keeps at most.
 abbrev pub rows_of : List LayerTree → ℕ → ℕ
 rows_of stack n = sum_by (λ layer. sum_by (λ cell. message_rows n cell.form) layer.cells) stack
+
+-- The most rows with messages that a member may keep.
+abbrev pub most_rows : ℕ
+most_rows = 8192

@@ -8,12 +8,12 @@ use Rattle.std.specs.List.{range_with_len}
 use Rattle.msg_core.specs.View.{member_count}
 use Rattle.msg_core.specs.declared.packet.View.{View}
 use Rattle.layer_mean.specs.Tree.{LayerTree}
-use Rattle.stack_mean.specs.Acceptance.{rows_of}
+use Rattle.stack_mean.specs.Acceptance.{rows_of, most_rows}
 use Rattle.stack_mean.specs.Plan.{Plan}
 use Rattle.run_mean.specs.Member.{opened}
 use Rattle.run_mean.specs.View.{first_view}
 use Rattle.file_layer.specs.Making.{Making}
-use Rattle.bypass_member.specs.Opening.{Asked, IsOpen, Opens, rows_limit}
+use Rattle.bypass_member.specs.Opening.{Asked, IsOpen, Opens}
 use Rattle.bypass_member.specs.Placed.{Placed}
 use Rattle.bypass_member.specs.declared.error.OpenError.{OpenError}
 use Rattle.bypass_member.specs.declared.error.OpenError.TheVariants.{TooLarge, Memory}
@@ -44,7 +44,7 @@ times_few k l few less = mul-le k l 32 24 few less
 pub record AreBelow (stack : List LayerTree) (plans : List Plan) (group stamp n id : ℕ) (before now : Making) (members : List Placed) : Type 0 where
   pub opened_are : map member_of members ≡ map (opened stack (first_view n)) (range_with_len 0 id)
   pub seated : map seat_of members ≡ map (seat stack plans group stamp) (range_with_len 0 id)
-  pub few : 0 < id → rows_of stack n ≤ rows_limit
+  pub few : 0 < id → rows_of stack n ≤ most_rows
   pub same : now.stack ≡ before.stack
   pub made : now.made ≡ before.made + id * length stack
 
@@ -67,15 +67,15 @@ module _ (stack : List LayerTree) (plans : List Plan) (group stamp n id : ℕ) (
         (is.member ∙ ap (λ v. opened stack v id) first) put;
     seated = told_next seat_of (seat stack plans group stamp) members more m id below.seated
         (λ i. record { stack = is.stack i; plans = is.plans i; group = is.group i; stamp = is.stamp i; id = is.id i }) put;
-    few = λ _. subst (λ r. r ≤ rows_limit) (rows_are first most) is.few;
+    few = λ _. subst (λ r. r ≤ most_rows) (rows_are first most) is.few;
     same = is.same ∙ below.same;
     made = let next = times_next id (length stack) in let one = is.made in let all = below.made in omega (arith, next, one, all);
   }
 
   -- there is no member where the first has too many rows
-  first_one : AreBelow stack plans group stamp n id before now members → rows_limit < rows_of stack n → id ≡ 0
+  first_one : AreBelow stack plans group stamp n id before now members → most_rows < rows_of stack n → id ≡ 0
   first_one below large = go id below.few where
-    go : (k : ℕ) → (0 < k → rows_of stack n ≤ rows_limit) → k ≡ 0
+    go : (k : ℕ) → (0 < k → rows_of stack n ≤ most_rows) → k ≡ 0
     go zero few = refl
     go (suc k) few = let le = few (omega arith) in absurd (omega arith)
 
@@ -83,7 +83,7 @@ module _ (stack : List LayerTree) (plans : List Plan) (group stamp n id : ℕ) (
   pub open_fails : (e : OpenError) → AreBelow stack plans group stamp n id before now members → id < n → view ≡ first_view n → n ≤ 32 →
       Opens (asked stack plans group stamp view id) now new (Err e) → OpensAll stack plans group stamp n before new (Err e)
   open_fails TooLarge below lt first most is =
-      let large : rows_limit < rows_of stack n = subst (λ r. rows_limit < r) (rows_are first most) is.0 in
+      let large : most_rows < rows_of stack n = subst (λ r. most_rows < r) (rows_are first most) is.0 in
       let none : id ≡ 0 = first_one below large in
       let made : now.made ≡ before.made = below.made ∙ ap (λ k. before.made + k * length stack) none ∙ omega arith in
       (large, is.1 ∙ same_making now before below.same made)
