@@ -1,4 +1,3 @@
-pub mod Ones
 pub mod Fields
 pub mod Walks
 pub mod Ways

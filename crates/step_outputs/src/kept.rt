@@ -1,6 +1,7 @@
 //! What is kept of an output.
 
-ghost use Rattle.std.specs.Prelude.{◌≡◌, ◌==◌, ◌&&◌, ◌+◌, ◌<◌, ◌≤◌, ◌++◌, ℕ, true, not, nat_lt, is_some, List, None, length, vec_len, vec_capacity};
+ghost use Rattle.std.specs.Prelude.{◌≡◌, [], ◌∷◌, ◌==◌, ◌&&◌, ◌+◌, ◌<◌, ◌≤◌, ◌++◌, ℕ, true, not, nat_lt, is_some, List, None, length, vec_len, vec_capacity};
+ghost use Rattle.circular_buffer.specs.Buffer.{buffer};
 ghost use Rattle.slot_pool.specs.Held.{Held};
 ghost use Rattle.msg_core.specs.Parts.{longest_body};
 ghost use Rattle.msg_core.specs.View.{member_count as members_of};
@@ -14,6 +15,7 @@ ghost use Rattle.run_mean.specs.Member.{content};
 ghost use Rattle.step_outputs.specs.Kept.{announced_by, bytes_in, LiesWithin, output_with, IsFor};
 ghost use Rattle.step_outputs.specs.Views.{output_meant, signal_meant};
 
+use crate::list::KeptList;
 use crate::view::{OutputView, PacketView, Signal};
 use layer_ast::{Dir, Kind};
 use msg_core::{Dest, Headers};
@@ -82,16 +84,6 @@ pub(crate) fn keep_bytes(body: &[u8], bytes: &mut Vec<u8>) -> Span
     }
 }
 
-/// The headers of an event's message; there is none where it has no message.
-fn headers_of(event: &PoolEvent) -> Headers
-    ensures { (p : List Held) → result ≡ (content (event_seen p event.now)).headers }
-{
-    match event.message.get() {
-        Some(message) => message.copied_headers(),
-        None => Headers::none(),
-    }
-}
-
 /// The numbers of an event.
 fn signal_of(event: &PoolEvent) -> Signal
     requires { event.now.message ≡ None }
@@ -152,7 +144,7 @@ fn below(here: &Here, event: &PoolEvent) -> What
 }
 
 /// What an event is at the edge at which it leaves.
-fn what_of(here: &Here, direction: Dir, event: &PoolEvent) -> What
+pub(crate) fn what_of(here: &Here, direction: Dir, event: &PoolEvent) -> What
     requires { is_some event.now.message ≡ carries event.now.kind }
     ensures { (p : List Held) → IsFor here.now direction (event_seen p event.now) result }
 {
@@ -162,17 +154,14 @@ fn what_of(here: &Here, direction: Dir, event: &PoolEvent) -> What
     }
 }
 
-/// What is kept of an event whose bytes are these.
-pub(crate) fn kept_of(here: &Here, direction: Dir, event: &PoolEvent, body: Span) -> Kept
-    requires { is_some event.now.message ≡ carries event.now.kind }
-    ensures what { (p : List Held) → IsFor here.now direction (event_seen p event.now) result.what }
-    ensures headers { (p : List Held) → result.headers ≡ (content (event_seen p event.now)).headers }
-    ensures body { result.body ≡ body }
+/// Puts what an event is behind the others, with the headers of its message; there is none where it has no message.
+pub(crate) fn keep(list: &mut KeptList, what: What, event: &PoolEvent, body: Span)
+    requires { length list.old.items < list.old.capacity }
+    ensures { (p : List Held) → list.new ≡ buffer (list.old.items ++ record { what = what; headers = (content (event_seen p event.now)).headers; body = body } ∷ []) list.old.capacity }
 {
-    Kept {
-        what: what_of(here, direction, event),
-        headers: headers_of(event),
-        body,
+    match event.message.get() {
+        Some(message) => list.push(what, message.headers(), body),
+        None => list.push_bare(what, body),
     }
 }
 

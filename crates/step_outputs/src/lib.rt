@@ -3,6 +3,7 @@
 
 mod kept;
 mod laws;
+mod list;
 mod outputs;
 mod view;
 
@@ -10,5 +11,7 @@ mod view;
 #[doc(hidden)]
 pub use kept::{Kept, Span, What};
 pub use laws::an_accepted_stack_is_light;
+#[doc(hidden)]
+pub use list::KeptList;
 pub use outputs::Outputs;
 pub use view::{OutputView, PacketView, Signal};

@@ -9,7 +9,8 @@ ghost use Rattle.pool_message.specs.Seen.{event_seen, EventLies};
 ghost use Rattle.run_mean.specs.Member.{announced, output_of};
 ghost use Rattle.step_outputs.specs.Views.{output_meant};
 
-use crate::kept::{Kept, announces, body_of, keep_bytes, kept_of, shown};
+use crate::kept::{announces, body_of, keep, keep_bytes, shown, what_of};
+use crate::list::KeptList;
 use crate::view::OutputView;
 use event_graph::Stack;
 use layer_ast::Dir;
@@ -25,7 +26,7 @@ use std::marker::Model;
 #[derive(Drop)]
 pub struct Outputs {
     here: Here,
-    list: Vec<Kept>,
+    list: KeptList,
     /// The bodies, one behind the other.
     bytes: Vec<u8>,
     places: usize,
@@ -44,7 +45,7 @@ impl Model for Outputs {
       places = o.places;
     } };
 
-    ghost invariant = { λ o. AreKept o.places (vec_capacity o.list) (vec_capacity o.bytes) o.bytes.items o.list.items };
+    ghost invariant = { λ o. AreKept o.places o.list.capacity (vec_capacity o.bytes) o.bytes.items o.list.items };
 }
 
 impl Outputs {
@@ -61,7 +62,7 @@ impl Outputs {
                 view: View { ltime: 0, mask: 0 },
                 rank: 0,
             },
-            list: Vec::with_capacity(alloc, places)?,
+            list: KeptList::fresh(alloc, places)?,
             bytes: Vec::with_capacity(alloc, places * LONGEST_BODY as usize)?,
             places,
         })
@@ -92,8 +93,8 @@ impl Outputs {
         ensures { self.new ≡ record self.old { outputs = self.old.outputs ++ (output_of self.old.here (direction, event_seen pool.now event.now), None) ∷ [] } }
     {
         let body = keep_bytes(body_of(event, pool), &mut self.bytes);
-        self.list
-            .push_reserved(kept_of(&self.here, direction, event, body));
+        let what = what_of(&self.here, direction, event);
+        keep(&mut self.list, what, event, body);
     }
 
     /// How many there are.
@@ -122,7 +123,7 @@ impl Outputs {
         requires { k < length self.now.outputs }
         ensures { slice_get self.now.outputs k ≡ Some (output_meant self.now.here result) }
     {
-        let kept = &self.list[k];
+        let kept = &self.list.slice()[k];
         let from = kept.body.from;
         shown(kept, &self.bytes[from..from + kept.body.len])
     }
@@ -131,7 +132,7 @@ impl Outputs {
     pub fn first_announced(&self) -> Option<u32>
         ensures { result ≡ slice_get (filter_map announced (map (λ o. o.0) self.now.outputs)) 0 }
     {
-        for kept in &self.list {
+        for kept in self.list.slice() {
             if let Some(ranks) = announces(kept) {
                 return Some(ranks);
             }

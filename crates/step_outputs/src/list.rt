@@ -1,0 +1,100 @@
+//! Outputs that are kept, one behind the other.
+
+ghost use Rattle.std.specs.Prelude.{◌≡◌};
+
+use crate::kept::{Kept, Span, What};
+use msg_core::{Headers, Memory};
+use std::alloc::Global;
+use std::marker::Model;
+
+/// Outputs in order, in as many places as are chosen once. Their places stay when they go, so that headers are copied to where they lie, and a
+/// place is first touched when it is used.
+#[derive(Drop)]
+pub struct KeptList {
+    places: Vec<Kept>,
+    count: usize,
+}
+
+impl Model for KeptList {
+    ghost use Rattle.std.specs.Prelude.{◌≤◌, take, length, vec_capacity};
+    ghost use Rattle.circular_buffer.specs.Buffer.{Buffer, buffer};
+    ghost use Rattle.step_outputs.specs.declared.kept.Kept.{Kept};
+
+    ghost Value = { Buffer Kept };
+
+    ghost view = { λ l. buffer (take l.count l.places.items) (vec_capacity l.places) };
+
+    ghost invariant = { λ l. l.count ≤ length l.places.items };
+}
+
+impl KeptList {
+    ghost use Rattle.std.specs.Prelude.{◌≡◌, ◌<◌, [], ◌∷◌, ◌++◌, length, IfOk};
+    ghost use Rattle.circular_buffer.specs.Buffer.{buffer};
+
+    /// No output, with so many places.
+    pub fn fresh(alloc: Global, places: usize) -> Result<KeptList, Memory>
+        ensures { IfOk result (λ l. l ≡ buffer [] places) }
+    {
+        Ok(KeptList {
+            places: Vec::with_capacity(alloc, places)?,
+            count: 0,
+        })
+    }
+
+    /// How many there are.
+    pub fn len(&self) -> usize
+        ensures { result ≡ length self.now.items }
+    {
+        self.count
+    }
+
+    pub fn slice(&self) -> &[Kept]
+        ensures { result.now ≡ self.now.items }
+    {
+        &self.places[..self.count]
+    }
+
+    /// Lets all go.
+    pub fn clear(&mut self)
+        ensures { self.new ≡ buffer [] self.old.capacity }
+    {
+        self.count = 0;
+    }
+
+    /// Puts one with these headers behind the others.
+    pub fn push(&mut self, what: What, headers: &Headers, body: Span)
+        requires { length self.old.items < self.old.capacity }
+        ensures { self.new ≡ buffer (self.old.items ++ record { what = what; headers = headers.now; body = body } ∷ []) self.old.capacity }
+    {
+        self.push_bare(what, body);
+        let last = self.count - 1;
+        self.places[last].headers.copy_from(headers);
+    }
+
+    /// Puts one without headers behind the others.
+    pub fn push_bare(&mut self, what: What, body: Span)
+        requires { length self.old.items < self.old.capacity }
+        ensures { self.new ≡ buffer (self.old.items ++ record { what = what; headers = []; body = body } ∷ []) self.old.capacity }
+    {
+        if self.count < self.places.len() {
+            become_bare(&mut self.places[self.count], what, body);
+        } else {
+            let headers = Headers::none();
+            self.places.push_reserved(Kept {
+                what,
+                headers,
+                body,
+            });
+        }
+        self.count += 1;
+    }
+}
+
+/// An output becomes another without headers.
+fn become_bare(kept: &mut Kept, what: What, body: Span)
+    ensures { kept.new ≡ record { what = what; headers = []; body = body } }
+{
+    kept.what = what;
+    kept.headers.clear();
+    kept.body = body;
+}
