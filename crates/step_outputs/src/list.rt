@@ -1,9 +1,10 @@
 //! Outputs that are kept, one behind the other.
 
-ghost use Rattle.std.specs.Prelude.{◌≡◌};
+ghost use Rattle.std.specs.Prelude.{◌≡◌, []};
 
 use crate::kept::{Kept, Span, What};
-use msg_core::{Headers, Memory};
+use msg_core::Headers;
+use slot_pool::Memory;
 use std::alloc::Global;
 use std::marker::Model;
 
