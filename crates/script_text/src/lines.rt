@@ -87,7 +87,8 @@ pub(crate) fn line_count(text: &[u8]) -> usize
     line_feeds(text) + usize::from(is_open(text))
 }
 
-/// How many lines end. The iterator's own `count` looks at each byte, and its search at many at a time.
+/// How many line feeds a text has. The search for the next passes many bytes at a time, and `count` of
+/// the same iterator wouldn't.
 fn line_feeds(text: &[u8]) -> usize
     ensures { result ≡ count_by spec.is_line_feed text.now }
 {

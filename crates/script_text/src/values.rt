@@ -1,5 +1,5 @@
 //! What a word spells.
-ghost use Rattle.std.specs.Prelude.{◌≡◌, ◌*◌, ◌≤◌, length, IfSome, IsTrue, if◌then◌else◌, Some, None};
+ghost use Rattle.std.specs.Prelude.{◌≡◌, ◌*◌, ◌≤◌, ◌&&◌, length, IfSome, if◌then◌else◌, Some, None};
 ghost use Rattle.std.specs.Char.{is_ascii_digit};
 ghost use Rattle.std.specs.List.{list_all};
 ghost use Rattle.std.specs.Option.{unwrap_or};
@@ -22,36 +22,34 @@ pub fn number_within(low: u32, high: u32, word: &[u8]) -> Option<u32>
     ensures value { result ≡ spec.number_within low high word.now }
     ensures bound { IfSome result (λ number. number ≤ high) }
 {
-    if !is_plain(word) {
+    if !begins_plainly(word) {
         return None;
     }
     value_within(low, high, word)
 }
 
-fn is_plain(word: &[u8]) -> bool
-    ensures { result ≡ spec.is_plain word.now }
+/// Whether a number may begin as the word does: with anything but a 0 that isn't alone.
+fn begins_plainly(word: &[u8]) -> bool
+    ensures { spec.is_plain word.now ≡ (result && list_all is_ascii_digit word.now) }
 {
     match word {
         [] => false,
-        [digit] => digit.is_ascii_digit(),
-        [first, ..] => *first != b'0' && are_digits(word),
+        [_] => true,
+        [first, ..] => *first != b'0',
     }
 }
 
-fn are_digits(word: &[u8]) -> bool
-    ensures { result ≡ list_all is_ascii_digit word.now }
-{
-    word.iter().all(|byte| byte.is_ascii_digit())
-}
-
-fn value_within(low: u32, high: u32, digits: &[u8]) -> Option<u32>
-    requires { IsTrue (list_all is_ascii_digit digits.now) }
-    ensures value { result ≡ spec.within low high (digits_value 10 digits.now) }
+/// The value of a word that is all digits, within bounds.
+fn value_within(low: u32, high: u32, word: &[u8]) -> Option<u32>
+    ensures value { result ≡ (if list_all is_ascii_digit word.now then spec.within low high (digits_value 10 word.now) else None) }
     ensures bound { IfSome result (λ number. number ≤ high) }
 {
     let mut value: u64 = 0;
-    for digit in digits {
-        value = value * 10 + u64::from(*digit - b'0');
+    for byte in word {
+        if !byte.is_ascii_digit() {
+            return None;
+        }
+        value = value * 10 + u64::from(*byte - b'0');
         if value > u64::from(high) {
             return None;
         }
@@ -88,8 +86,8 @@ fn hex_body(alloc: Global, word: &[u8]) -> Result<Bytes, LineError>
     Ok(Bytes::of(bytes))
 }
 
-/// Writes a byte for each two digits, and answers whether all of them are digits. No branch parts the
-/// bytes, so the compiler reads many at a time.
+/// Writes the byte of each two digits, and answers whether all are digits. Nothing is left early, so
+/// that many digits are read at a time.
 fn write_bytes(digits: &[u8], bytes: &mut [u8]) -> bool
     requires { length digits.now ≡ 2 * length bytes.old }
     ensures { spec.hex_bytes digits.now ≡ (if result then Some bytes.new else None) }
@@ -104,13 +102,15 @@ fn write_bytes(digits: &[u8], bytes: &mut [u8]) -> bool
     most < NO_DIGIT
 }
 
-/// The value of a digit, or `NO_DIGIT`.
+/// The value of a digit, or `NO_DIGIT`, without a branch.
 fn digit(byte: u8) -> u8
     ensures { result ≡ unwrap_or (spec.hex_digit byte) NO_DIGIT }
 {
-    match byte {
-        b'0'..=b'9' => byte - b'0',
-        b'a'..=b'f' => byte - b'a' + 10,
-        _ => NO_DIGIT,
+    let decimal = byte.wrapping_sub(b'0');
+    let letter = byte.wrapping_sub(b'a');
+    if decimal < 10 {
+        decimal
+    } else {
+        letter.min(NO_DIGIT - 10) + 10
     }
 }
