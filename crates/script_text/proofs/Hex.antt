@@ -1,94 +1,68 @@
--- Lower case hexadecimal digits, as the crate `hex` reads them.
-use Rattle.std.proofs.Common.{◌≡◌, ℕ, ◌+◌, ◌*◌, ◌%◌, Bool, true, false, cond, eqb, List, [], ◌∷◌, length, Option, Some, None, Result, Ok, Err, refl, sym, ap, ◌∙◌, arith, ◌⊎◌, inl, inr}
-use Rattle.std.specs.Prelude.{◌||◌}
-use Rattle.std.specs.List.{list_any}
-use Rattle.std.specs.Result.{result_ok}
-use Rattle.std.specs.Char.{is_ascii_uppercase}
-use Rattle.std.proofs.lemmas.Bool.{eqb-true}
+-- Lower case hexadecimal digits, two by two.
+use Rattle.std.proofs.Common.{◌≡◌, ◌≢◌, ℕ, ◌+◌, ◌*◌, ◌%◌, ◌<◌, ◌≤◌, Bool, true, false, List, [], ◌∷◌, ◌++◌, length, take, drop, slice_index, slice_set, Option, Some, None, refl, sym, ap, ◌∙◌, arith}
+use Rattle.std.specs.Prelude.{max, nat_lt, IfSome, option_map, if◌then◌else◌}
+use Rattle.std.specs.Option.{unwrap_or}
 use Rattle.std.proofs.lemmas.Bool.Decides.{nat_tests}
-use Rattle.hex.specs.Hex as kit
-use Rattle.hex.specs.Hex.{decode_pairs}
-use Rattle.hex.specs.declared.error.FromHexError.{FromHexError}
-use Rattle.hex.specs.declared.error.FromHexError.TheVariants.{InvalidHexCharacter, OddLength, InvalidStringLength, OutOfMemory}
+use Rattle.std.proofs.lemmas.List.{append_assoc, append-nil, drop_all, drop_more, take_all, take_more_set}
 use Rattle.script_mean.specs.Words.{◌>>=◌, hex_digit, hex_bytes}
-use Rattle.script_text.specs.Reading.{Spells, hex_error}
 
--- where no digit is in upper case, a digit is what the crate says
-digit_same : (byte : ℕ) → is_ascii_uppercase byte ≡ false → kit.hex_digit_value byte ≡ hex_digit byte
-digit_same byte lower = grind (arith, nat_tests)
+-- the value of a digit as the code has it
+abbrev pub value : ℕ → ℕ
+value byte = unwrap_or (hex_digit byte) 16
 
--- an upper case letter is no digit
-no_digit : (byte : ℕ) → is_ascii_uppercase byte ≡ true → hex_digit byte ≡ None
-no_digit byte upper = grind (arith, nat_tests)
+-- the bytes so far and those behind them, if all digits so far are some
+abbrev pub joined : Bool → List ℕ → Option (List ℕ) → Option (List ℕ)
+joined true front behind = option_map (λ bytes. front ++ bytes) behind
+joined false front behind = None
 
-neither : (a b : Bool) → (a || b) ≡ false → (a ≡ false) × (b ≡ false)
-neither true b e = absurd cc
-neither false b e = (refl, e)
+bounded : (byte : ℕ) → IfSome (hex_digit byte) (λ value. value < 16)
+bounded byte = grind (arith, nat_tests)
 
--- two digits and the bytes behind them
-joined : (i high low : ℕ) (h l : Option ℕ) (rest : Result (List ℕ) FromHexError) → result_ok (kit.◌>>=◌ (kit.◌>>=◌ (kit.digit_or_error high i h) (λ x. kit.◌>>=◌ (kit.digit_or_error low (i + 1) l) (λ y. Ok (x * 16 + y)))) (λ byte. kit.◌>>=◌ rest (λ bytes. Ok (byte ∷ bytes)))) ≡ (h >>= λ x. l >>= λ y. result_ok rest >>= λ bytes. Some ((x * 16 + y) ∷ bytes))
-joined i high low None l rest = refl
-joined i high low (Some x) None rest = refl
-joined i high low (Some x) (Some y) (Ok bytes) = refl
-joined i high low (Some x) (Some y) (Err e) = refl
+not_all : (all : Bool) (front : List ℕ) → joined all front None ≡ None
+not_all true front = refl
+not_all false front = refl
 
--- the bytes that the crate reads from pairs of digits
-pairs_same : (i : ℕ) (word : List ℕ) → list_any is_ascii_uppercase word ≡ false → result_ok (decode_pairs i word) ≡ hex_bytes word
-unfolding decode_pairs
-pairs_same i [] lower = refl
-pairs_same i (one ∷ []) lower = refl
-pairs_same i (high ∷ low ∷ more) lower =
-    let first = neither (is_ascii_uppercase high) _ lower in
-    let second = neither (is_ascii_uppercase low) _ first.1 in
-    rw (digit_same high first.0, digit_same low second.0, joined i high low (hex_digit high) (hex_digit low) (decode_pairs (i + 2) more), pairs_same (i + 2) more second.1) refl
+one_more : (all : Bool) (front : List ℕ) (byte : ℕ) (rest : Option (List ℕ)) → joined all front (rest >>= λ bytes. Some (byte ∷ bytes)) ≡ joined all (front ++ byte ∷ []) rest
+one_more true front byte None = refl
+one_more true front byte (Some bytes) = ap Some (sym (append_assoc front (byte ∷ []) bytes))
+one_more false front byte rest = refl
 
-nothing_behind : (high low : Option ℕ) (rest : Option (List ℕ)) → rest ≡ None → (high >>= λ x. low >>= λ y. rest >>= λ bytes. Some ((x * 16 + y) ∷ bytes)) ≡ None
-nothing_behind None low rest e = refl
-nothing_behind (Some x) None rest e = refl
-nothing_behind (Some x) (Some y) rest e = rw e refl
+most_above : (most high low : ℕ) → 16 ≤ max high low → nat_lt (max most (max high low)) 16 ≡ false
+most_above most high low above = grind (arith, nat_tests)
 
-no_second : (high low : Option ℕ) (rest : ℕ → ℕ → Option (List ℕ)) → low ≡ None → (high >>= λ x. low >>= λ y. rest x y) ≡ None
-no_second None low rest e = refl
-no_second (Some x) low rest e = rw e refl
+most_within : (most high low : ℕ) → high < 16 → low < 16 → nat_lt (max most (max high low)) 16 ≡ nat_lt most 16
+most_within most high low first second = grind (arith, nat_tests)
 
--- no bytes are spelled with an upper case letter
-pub upper_none : (word : List ℕ) → list_any is_ascii_uppercase word ≡ true → hex_bytes word ≡ None
-upper_none [] upper = absurd cc
-upper_none (one ∷ []) upper = refl
-upper_none (high ∷ low ∷ more) upper =
-    elim (is_ascii_uppercase high) as (λ b. (b || (is_ascii_uppercase low || list_any is_ascii_uppercase more)) ≡ true → (is_ascii_uppercase high ≡ b) → hex_bytes (high ∷ low ∷ more) ≡ None) [
-      | true ↦ λ _ here. rw (no_digit high here) refl
-      | false ↦ λ behind _.
-          elim (is_ascii_uppercase low) as (λ b. (b || list_any is_ascii_uppercase more) ≡ true → (is_ascii_uppercase low ≡ b) → hex_bytes (high ∷ low ∷ more) ≡ None) [
-            | true ↦ λ _ here. no_second (hex_digit high) (hex_digit low) (λ x y. hex_bytes more >>= λ bytes. Some ((x * 16 + y) ∷ bytes)) (no_digit low here)
-            | false ↦ λ last _. nothing_behind (hex_digit high) (hex_digit low) (hex_bytes more) (upper_none more last)
-          ] behind refl
-    ] upper refl
+pair : (most : ℕ) (front : List ℕ) (high low : Option ℕ) (rest : Option (List ℕ)) → IfSome high (λ value. value < 16) → IfSome low (λ value. value < 16) → joined (nat_lt most 16) front (high >>= λ h. low >>= λ l. rest >>= λ bytes. Some ((h * 16 + l) ∷ bytes)) ≡ joined (nat_lt (max most (max (unwrap_or high 16) (unwrap_or low 16))) 16) (front ++ ((unwrap_or high 16 * 16 % 256 + unwrap_or low 16) % 256) ∷ []) rest
+pair most front None low rest first second = not_all (nat_lt most 16) front ∙ rw (most_above most 16 (unwrap_or low 16) (omega arith)) refl
+pair most front (Some h) None rest first second = not_all (nat_lt most 16) front ∙ rw (most_above most h 16 (omega arith)) refl
+pair most front (Some h) (Some l) rest first second =
+    let byte : h * 16 + l ≡ (h * 16 % 256 + l) % 256 = omega (arith, first, second) in
+    rw (most_within most h l first second, ← byte) (one_more (nat_lt most 16) front (h * 16 + l) rest)
+
+-- one byte more is written
+pub goes_on : (digits bytes : List ℕ) (i most high low above next : ℕ) (whole : Option (List ℕ)) → i < length bytes → length digits ≡ 2 * length bytes → high ≡ value (slice_index digits (2 * i)) → low ≡ value (slice_index digits (2 * i + 1)) → above ≡ max high low → next ≡ max most above → whole ≡ joined (nat_lt most 16) (take i bytes) (hex_bytes (drop (2 * i) digits)) → whole ≡ joined (nat_lt next 16) (take (i + 1) (slice_set bytes i ((high * 16 % 256 + low) % 256))) (hex_bytes (drop (2 * (i + 1)) digits))
+goes_on digits bytes i most high low above next whole within double high_is low_is above_is next_is so_far =
+    let one = drop_more digits (2 * i) 0 (omega arith) in
+    let two = drop_more digits (2 * i + 1) 0 (omega arith) in
+    let behind : 2 * (i + 1) ≡ 2 * i + 1 + 1 = omega arith in
+    let a = slice_index digits (2 * i) in
+    let b = slice_index digits (2 * i + 1) in
+    let step = pair most (take i bytes) (hex_digit a) (hex_digit b) (hex_bytes (drop (2 * i + 1 + 1) digits)) (bounded a) (bounded b) in
+    rw (one, two) at so_far ∙ rw (next_is, above_is, high_is, low_is, behind, take_more_set bytes i ((value a * 16 % 256 + value b) % 256) within) step
+
+-- all are written
+pub done : (all : Bool) (digits bytes : List ℕ) (i : ℕ) → length bytes ≤ i → length digits ≡ 2 * length bytes → hex_bytes digits ≡ joined all (take i bytes) (hex_bytes (drop (2 * i) digits)) → hex_bytes digits ≡ (if all then Some bytes else None)
+done true digits bytes i end double so_far = so_far ∙ rw (drop_all (2 * i) digits (omega arith), take_all i bytes end) (ap Some (append-nil bytes))
+done false digits bytes i end double so_far = so_far
 
 -- no bytes are spelled by an odd number of digits
-odd_none : (word : List ℕ) → length word % 2 ≡ 1 → hex_bytes word ≡ None
-odd_none [] odd = absurd (omega arith)
+pub odd_none : (word : List ℕ) → length word % 2 ≢ 0 → hex_bytes word ≡ None
+odd_none [] odd = absurd (odd (omega arith))
 odd_none (one ∷ []) odd = refl
-odd_none (high ∷ low ∷ more) odd = nothing_behind (hex_digit high) (hex_digit low) (hex_bytes more) (odd_none more (omega arith))
-
-by_parity : (odd : Bool) (word : List ℕ) → eqb (length word % 2) 1 ≡ odd → list_any is_ascii_uppercase word ≡ false → result_ok (cond odd (Err OddLength) (decode_pairs 0 word)) ≡ hex_bytes word
-by_parity true word e lower = sym (odd_none word (eqb-true _ _ e))
-by_parity false word e lower = pairs_same 0 word lower
-
-decode_same : (word : List ℕ) → list_any is_ascii_uppercase word ≡ false → result_ok (kit.decode_of word) ≡ hex_bytes word
-decode_same word lower = by_parity (eqb (length word % 2) 1) word refl lower
-
--- where no digit is in upper case, the crate reads the bytes that the word spells
-pub decoded : (word bytes : List ℕ) → list_any is_ascii_uppercase word ≡ false → kit.decode_of word ≡ Ok bytes → hex_bytes word ≡ Some bytes
-decoded word bytes lower read = sym (decode_same word lower) ∙ ap result_ok read
-
-refused : (word : List ℕ) (error : FromHexError) → hex_bytes word ≡ None → Spells {A = List ℕ} (hex_bytes word) (Err (hex_error error))
-refused word OutOfMemory none = tt
-refused word (InvalidHexCharacter byte index) none = none
-refused word OddLength none = none
-refused word InvalidStringLength none = none
-
--- and refuses those that spell none, unless memory runs out
-pub undecoded : (word : List ℕ) (error : FromHexError) → list_any is_ascii_uppercase word ≡ false → (error ≡ OutOfMemory) ⊎ (kit.decode_of word ≡ Err error) → Spells {A = List ℕ} (hex_bytes word) (Err (hex_error error))
-undecoded word error lower (inl memory) = rw memory tt
-undecoded word error lower (inr read) = refused word error (sym (decode_same word lower) ∙ ap result_ok read)
+odd_none (high ∷ low ∷ more) odd = nothing_behind (hex_digit high) (hex_digit low) (hex_bytes more) (odd_none more (λ even. odd (omega arith)))
+  where
+    nothing_behind : (h l : Option ℕ) (rest : Option (List ℕ)) → rest ≡ None → (h >>= λ x. l >>= λ y. rest >>= λ bytes. Some ((x * 16 + y) ∷ bytes)) ≡ None
+    nothing_behind None l rest e = refl
+    nothing_behind (Some x) None rest e = refl
+    nothing_behind (Some x) (Some y) rest e = rw e refl

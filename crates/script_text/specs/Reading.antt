@@ -1,8 +1,6 @@
 -- What the readers of lines and words answer.
 use Rattle.std.specs.Prelude.{◌≡◌, ◌≤◌, ◌<◌, ℕ, List, Option, Some, None, option_map, Result, Ok, Err, IsSomeAnd}
 use Rattle.std.specs.List.{enumerate_from}
-use Rattle.hex.specs.declared.error.FromHexError.{FromHexError}
-use Rattle.hex.specs.declared.error.FromHexError.TheVariants.{InvalidHexCharacter, OddLength, InvalidStringLength, OutOfMemory}
 use Rattle.script_mean.specs.Lines.{said}
 use Rattle.script_mean.specs.Words.{Word}
 use Rattle.script_mean.specs.Event.{member_of}
@@ -37,13 +35,6 @@ abbrev pub error_at : ℕ → LineError → ScriptError
 error_at line Form = script.BadLine line
 error_at line NoMember = script.NoMember line
 error_at line Memory = script.Memory
-
--- what a refusal of the crate `hex` says of the line
-abbrev pub hex_error : FromHexError → LineError
-hex_error OutOfMemory = Memory
-hex_error (InvalidHexCharacter byte index) = Form
-hex_error OddLength = Form
-hex_error InvalidStringLength = Form
 
 -- what was spelled, or memory was wanted
 abbrev pub Spells : {A : Type 0} → Option A → Result A LineError → Type 0

@@ -1,8 +1,7 @@
 //! Why a script could not be read.
 ghost use Rattle.std.specs.Prelude.{◌≡◌};
 
-use hex::FromHexError;
-use std::alloc::AllocFailed;
+use std::alloc::{AllocError, AllocFailed};
 use thiserror::Error;
 
 /// The first fault of a text, or want of memory.
@@ -39,16 +38,13 @@ pub(crate) enum LineError {
     Memory,
 }
 
-impl From<FromHexError> for LineError {
-    ghost use Rattle.script_text.specs.Reading.{hex_error};
+impl From<AllocError> for LineError {
+    ghost use Rattle.script_text.specs.declared.error.LineError.TheVariants.{Memory};
 
-    ghost from_gives = { λ e r. r ≡ hex_error e };
+    ghost from_gives = { λ _ e. e ≡ Memory };
 
-    fn from(error: FromHexError) -> LineError {
-        match error {
-            FromHexError::OutOfMemory => LineError::Memory,
-            _ => LineError::Form,
-        }
+    fn from(_error: AllocError) -> LineError {
+        LineError::Memory
     }
 }
 

@@ -1,7 +1,8 @@
 //! What a word spells.
-ghost use Rattle.std.specs.Prelude.{◌≡◌, ◌≤◌, IfSome, IsTrue};
-ghost use Rattle.std.specs.Char.{is_ascii_digit, is_ascii_uppercase};
-ghost use Rattle.std.specs.List.{list_all, list_any};
+ghost use Rattle.std.specs.Prelude.{◌≡◌, ◌*◌, ◌≤◌, ◌&&◌, length, IfSome, if◌then◌else◌, Some, None};
+ghost use Rattle.std.specs.Char.{is_ascii_digit};
+ghost use Rattle.std.specs.List.{list_all};
+ghost use Rattle.std.specs.Option.{unwrap_or};
 ghost use Rattle.std.specs.Str.Parse.{digits_value};
 ghost use Rattle.script_mean.specs.Words as spec;
 ghost use Rattle.script_text.specs.Reading.{Spells};
@@ -13,41 +14,42 @@ use std::alloc::Global;
 /// The most digits of a body: two for each of 65,507 bytes.
 const MOST_DIGITS: usize = 131_014;
 
+/// More than the value of any digit.
+const NO_DIGIT: u8 = 16;
+
 /// A number of plain decimal digits, within bounds.
 pub fn number_within(low: u32, high: u32, word: &[u8]) -> Option<u32>
     ensures value { result ≡ spec.number_within low high word.now }
     ensures bound { IfSome result (λ number. number ≤ high) }
 {
-    if !is_plain(word) {
+    if !begins_plainly(word) {
         return None;
     }
     value_within(low, high, word)
 }
 
-fn is_plain(word: &[u8]) -> bool
-    ensures { result ≡ spec.is_plain word.now }
+/// Whether a number may begin as the word does: with anything but a 0 that isn't alone.
+fn begins_plainly(word: &[u8]) -> bool
+    ensures { spec.is_plain word.now ≡ (result && list_all is_ascii_digit word.now) }
 {
     match word {
         [] => false,
-        [digit] => digit.is_ascii_digit(),
-        [first, ..] => *first != b'0' && are_digits(word),
+        [_] => true,
+        [first, ..] => *first != b'0',
     }
 }
 
-fn are_digits(word: &[u8]) -> bool
-    ensures { result ≡ list_all is_ascii_digit word.now }
-{
-    word.iter().all(|byte| byte.is_ascii_digit())
-}
-
-fn value_within(low: u32, high: u32, digits: &[u8]) -> Option<u32>
-    requires { IsTrue (list_all is_ascii_digit digits.now) }
-    ensures value { result ≡ spec.within low high (digits_value 10 digits.now) }
+/// The value of a word that is all digits, within bounds.
+fn value_within(low: u32, high: u32, word: &[u8]) -> Option<u32>
+    ensures value { result ≡ (if list_all is_ascii_digit word.now then spec.within low high (digits_value 10 word.now) else None) }
     ensures bound { IfSome result (λ number. number ≤ high) }
 {
     let mut value: u64 = 0;
-    for digit in digits {
-        value = value * 10 + u64::from(*digit - b'0');
+    for byte in word {
+        if !byte.is_ascii_digit() {
+            return None;
+        }
+        value = value * 10 + u64::from(*byte - b'0');
         if value > u64::from(high) {
             return None;
         }
@@ -74,14 +76,41 @@ pub(crate) fn body(alloc: Global, word: &[u8]) -> Result<Bytes, LineError>
 fn hex_body(alloc: Global, word: &[u8]) -> Result<Bytes, LineError>
     ensures { Spells (spec.hex_bytes word.now) result }
 {
-    if has_upper_case(word) {
+    if word.len() % 2 != 0 {
         return Err(LineError::Form);
     }
-    Ok(Bytes::of(hex::decode(alloc, word)?))
+    let mut bytes = vec![in alloc; 0; word.len() / 2]?;
+    if !write_bytes(word, bytes.as_mut_slice()) {
+        return Err(LineError::Form);
+    }
+    Ok(Bytes::of(bytes))
 }
 
-fn has_upper_case(word: &[u8]) -> bool
-    ensures { result ≡ list_any is_ascii_uppercase word.now }
+/// Writes the byte of each two digits, and answers whether all are digits. Nothing is left early, so
+/// that many digits are read at a time.
+fn write_bytes(digits: &[u8], bytes: &mut [u8]) -> bool
+    requires { length digits.now ≡ 2 * length bytes.old }
+    ensures { spec.hex_bytes digits.now ≡ (if result then Some bytes.new else None) }
 {
-    word.iter().any(|byte| byte.is_ascii_uppercase())
+    let mut most: u8 = 0;
+    for i in 0..bytes.len() {
+        let high = digit(digits[2 * i]);
+        let low = digit(digits[2 * i + 1]);
+        most = most.max(high.max(low));
+        bytes[i] = high.wrapping_mul(16).wrapping_add(low);
+    }
+    most < NO_DIGIT
+}
+
+/// The value of a digit, or `NO_DIGIT`, without a branch.
+fn digit(byte: u8) -> u8
+    ensures { result ≡ unwrap_or (spec.hex_digit byte) NO_DIGIT }
+{
+    let decimal = byte.wrapping_sub(b'0');
+    let letter = byte.wrapping_sub(b'a');
+    if decimal < 10 {
+        decimal
+    } else {
+        letter.min(NO_DIGIT - 10) + 10
+    }
 }

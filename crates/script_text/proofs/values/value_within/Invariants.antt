@@ -1,6 +1,8 @@
-use Rattle.std.proofs.Common.{◌≡◌, ◌≤◌, take}
+use Rattle.std.proofs.Common.{◌≡◌, ◌≤◌, true, take}
+use Rattle.std.specs.List.{list_all}
+use Rattle.std.specs.Char.{is_ascii_digit}
 use Rattle.std.specs.Str.Parse.{digits_value}
 use Rattle.script_text.proofs.values.value_within.Given as goal
 
-abbrev pub invariant-loop-digit : goal.invariant-loop-digit
-invariant-loop-digit l = (l.value ≡ digits_value 10 (take l.digit-index l.digits)) × (l.value ≤ l.high)
+abbrev pub invariant-loop-byte : goal.invariant-loop-byte
+invariant-loop-byte l = (list_all is_ascii_digit (take l.byte-index l.word) ≡ true) × (l.value ≡ digits_value 10 (take l.byte-index l.word)) × (l.value ≤ l.high)
