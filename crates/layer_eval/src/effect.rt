@@ -18,7 +18,7 @@ use layer_ast::Kind;
 use layer_desk::{Desk, Envelope, NoRoom, Start};
 use msg_core::{Fields, Header};
 use slot_pool::Pool;
-use typed_layer::{Block, Emission, Row, Statement};
+use typed_layer::{Block, Emission, MessageExpression, Row, Statement};
 
 /// Runs the statements of a block of the layer at a place, and says how its decisions went.
 #[cycle(effect)]
@@ -202,6 +202,9 @@ fn emit<K: Start, D: Desk>(
                 tag: content.tag,
                 fields: fields::<K, D>(&content.fields, desk, pool),
             };
+            if let MessageExpression::Local(slot) = &content.message {
+                return desk.send_local::<K>(pool, emission.direction, envelope, header, *slot);
+            }
             make::<K, D>(&content.message, desk, pool)?;
             desk.send_first::<K>(pool, emission.direction, envelope, header)
         }
