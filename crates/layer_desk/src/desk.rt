@@ -8,6 +8,7 @@ ghost use Rattle.msg_core.specs.Parts as parts;
 ghost use Rattle.layer_ast.specs.declared.syntax.Shape.{Shape};
 ghost use Rattle.layer_mean.specs.State.{number_at, flat_index, rows_at, row_at, has_room};
 ghost use Rattle.layer_mean.specs.Value.{number_in, message_in};
+ghost use Rattle.layer_mean.specs.Effect.{sent_as};
 ghost use Rattle.typed_layer.specs.View.{carried_tree, taken_tree};
 ghost use Rattle.layer_desk.specs.Laid.{Laid, bound, assigned, assigned_square, lifted, changed, joined, queued, queued_first, is_found, taken_row, event_in, sends, sends_first, first_header, header_popped, enters, passes_on, left};
 ghost use Rattle.layer_desk.specs.Need.{Layout, Room, nothing_needed, one_slot, one_place, one_in_hand, held_need, room_need, taken_need, entry_need, passing_need};
@@ -263,6 +264,22 @@ pub trait Desk {
         ensures ready { ready K.begun pool.now self.new }
         ensures shown { OnOk result (shown pool.now self.new ≡ sends_first direction envelope header (shown pool.now self.old)) }
         ensures spent { Spent (free pool.now self.old) (free pool.now self.new) one_place result };
+
+    /// Sends an event with a message of the scope, which the scope keeps, going down behind a header. It doesn't go through the hand.
+    fn send_local<K: Start>(
+        &mut self,
+        pool: &mut Pool,
+        direction: Dir,
+        envelope: Envelope,
+        header: Header,
+        slot: u8,
+    ) -> Result<(), NoRoom>
+        requires { ready K.begun pool.old self.old }
+        ensures ready { ready K.begun pool.new self.new }
+        ensures shown { OnOk result (shown pool.new self.new ≡ sends direction
+            (event_in envelope (Some (sent_as direction header (slice_index_or (shown pool.old self.old).scope.messages slot (plain [])))))
+            (shown pool.old self.old)) }
+        ensures spent { Spent (free pool.old self.old) (free pool.new self.new) one_place result };
 
     /// Takes the first header off the message that arrived.
     fn pop_header<K: Start>(&mut self, pool: &Pool) -> Option<Header>

@@ -1,5 +1,5 @@
 -- What one more statement or turn does behind others.
-use Rattle.std.proofs.Common.{◌≡◌, ◌≢◌, ℕ, suc, zero, ◌+◌, ◌<◌, true, List, [], ◌∷◌, ◌++◌, length, map, take, get_or, add-one, take-suc, refl, sym, ap, ◌∙◌, subst, append_assoc, arith}
+use Rattle.std.proofs.Common.{◌≡◌, ◌≢◌, ℕ, suc, zero, ◌+◌, ◌<◌, Bool, true, false, ◌&&◌, List, [], ◌∷◌, ◌++◌, length, map, take, get_or, add-one, take-suc, refl, sym, ap, ◌∙◌, subst, append_assoc, arith}
 use Rattle.std.proofs.lemmas.List.{map-append}
 use Rattle.std.proofs.lemmas.List.Folds.{list_all-append}
 use Rattle.std.proofs.lemmas.List.Sums.{fold-append}
@@ -20,19 +20,38 @@ use Rattle.layer_eval.specs.declared.predicted.Predicted.{Predicted}
 pub predicted_behind : (ds es : List Decision) → as_predicted (ds ++ es) ≡ both (as_predicted ds) (as_predicted es)
 predicted_behind ds es i = record { first = list_all-append (went_as First) ds es i; second = list_all-append (went_as Second) ds es i }
 
+and_assoc : (a b c : Bool) → (a && b) && c ≡ a && (b && c)
+and_assoc true b c = refl
+and_assoc false b c = refl
+
+and_turned : (a b : Bool) → a && b ≡ b && a
+and_turned true true = refl
+and_turned true false = refl
+and_turned false true = refl
+and_turned false false = refl
+
+both_assoc : (p q r : Predicted) → both (both p q) r ≡ both p (both q r)
+both_assoc p q r i = record { first = and_assoc p.first q.first r.first i; second = and_assoc p.second q.second r.second i }
+
+pub both_turned : (p q : Predicted) → both p q ≡ both q p
+both_turned p q i = record { first = and_turned p.first q.first i; second = and_turned p.second q.second i }
+
 -- an act behind an outcome
-pub did_after : (o : Outcome) (act : Act) (old mid new : Laid) (p q : Predicted) → Did o old mid p → Did (act mid.state mid.scope) mid new q →
-    Did (after o act) old new (both p q)
-did_after o act old mid new p q first second =
-    let behind : Did (act o.state o.scope) mid new q = subst (λ (z : Outcome). Did z mid new q) (λ i. act (first.state i) (first.scope i)) second in
+pub did_after : (o : Outcome) (act : Act) (old mid new : Laid) (b p q : Predicted) → Did o old mid b p → Did (act mid.state mid.scope) mid new p q →
+    Did (after o act) old new b q
+did_after o act old mid new b p q first second =
+    let behind : Did (act o.state o.scope) mid new p q = subst (λ (z : Outcome). Did z mid new p q) (λ i. act (first.state i) (first.scope i)) second in
     let more = act o.state o.scope in
+    let here = as_predicted o.decided in
+    let there = as_predicted more.decided in
     record {
       state = behind.state;
       scope = behind.scope;
       arrived = behind.arrived ∙ first.arrived;
       hand = behind.hand ∙ first.hand;
       sent = behind.sent ∙ ap (λ s. s ++ more.sent) first.sent ∙ append_assoc old.sent o.sent more.sent;
-      predicted = (λ i. both (first.predicted i) (behind.predicted i)) ∙ sym (predicted_behind o.decided more.decided);
+      predicted = behind.predicted ∙ ap (both there) first.predicted ∙ sym (both_assoc there here b)
+          ∙ ap (λ z. both z b) (both_turned there here ∙ sym (predicted_behind o.decided more.decided));
     }
 
 acts_more : (place : ℕ) (xs : List StatementTree) (x : StatementTree) → acts place (trees (xs ++ x ∷ [])) ≡ acts place (trees xs) ++ does place x ∷ []
@@ -55,39 +74,37 @@ one_more place xs i x p within is =
     ∙ fold-append after (done p.state p.scope) (acts place (trees (map statement_tree (take i xs)))) (does place (statement_tree x) ∷ [])
 
 -- one more statement of a block
-pub block_step : (place : ℕ) (xs : List Statement) (i : ℕ) (x : Statement) (old mid new : Laid) (p q r : Predicted) →
-    i < length xs → x ≡ get_or xs i x → Did (block_does place (trees (map statement_tree (take i xs))) old) old mid p →
-    Did (statement_does place (statement_tree x) mid) mid new q → r ≡ both p q →
-    Did (block_does place (trees (map statement_tree (take (i + 1) xs))) old) old new r
-block_step place xs i x old mid new p q r within is first second behind =
-    subst (λ z. Did z old new r) (sym (one_more place xs i x old within is))
-    (subst (Did (after (block_does place (trees (map statement_tree (take i xs))) old) (does place (statement_tree x))) old new)
-    (sym behind) (did_after _ (does place (statement_tree x)) old mid new p q first second))
+pub block_step : (place : ℕ) (xs : List Statement) (i : ℕ) (x : Statement) (old mid new : Laid) (b p q : Predicted) →
+    i < length xs → x ≡ get_or xs i x → Did (block_does place (trees (map statement_tree (take i xs))) old) old mid b p →
+    Did (statement_does place (statement_tree x) mid) mid new p q →
+    Did (block_does place (trees (map statement_tree (take (i + 1) xs))) old) old new b q
+block_step place xs i x old mid new b p q within is first second =
+    subst (λ z. Did z old new b q) (sym (one_more place xs i x old within is))
+    (did_after _ (does place (statement_tree x)) old mid new b p q first second)
 
 -- one more turn
-pub turn_step : (k slot : ℕ) (act : Act) (old mid at new : Laid) (q : Predicted) →
+pub turn_step : (k slot : ℕ) (act : Act) (old mid at new : Laid) (b p q : Predicted) →
     let o = turns k slot act old.state old.scope in let next = turns (k + 1) slot act old.state old.scope in
-    Did o old mid (as_predicted o.decided) → at ≡ bound slot k mid → Did (act at.state at.scope) at new q → Did next old new (as_predicted next.decided)
-turn_step k slot act old mid at new q first is second =
+    Did o old mid b p → at ≡ bound slot k mid → Did (act at.state at.scope) at new p q → Did next old new b q
+turn_step k slot act old mid at new b p q first is second =
     let o = turns k slot act old.state old.scope in
-    let next = turns (suc k) slot act old.state old.scope in
-    let body : Did (act mid.state (with_slot slot k mid.scope)) (bound slot k mid) new q = subst (λ (z : Laid). Did (act z.state z.scope) z new q) is second in
-    let behind : Did (act mid.state (with_slot slot k mid.scope)) mid new q =
+    let body : Did (act mid.state (with_slot slot k mid.scope)) (bound slot k mid) new p q = subst (λ (z : Laid). Did (act z.state z.scope) z new p q) is second in
+    let behind : Did (act mid.state (with_slot slot k mid.scope)) mid new p q =
     record { state = body.state; scope = body.scope; arrived = body.arrived; hand = body.hand; sent = body.sent; predicted = body.predicted } in
-    let all = did_after o (λ t m. act t (with_slot slot k m)) old mid new (as_predicted o.decided) q first behind in
-    let suc_turn : Did next old new (as_predicted next.decided) =
-    record { state = all.state; scope = all.scope; arrived = all.arrived; hand = all.hand; sent = all.sent; predicted = refl } in
-    subst (λ n. Did (turns n slot act old.state old.scope) old new (as_predicted (turns n slot act old.state old.scope).decided)) (sym (add-one k)) suc_turn
+    subst (λ n. Did (turns n slot act old.state old.scope) old new b q) (sym (add-one k))
+    (did_after o (λ t m. act t (with_slot slot k m)) old mid new b p q first behind)
 
 -- a decision in front of an outcome
-decided_did : (d : Decision) (o : Outcome) (old new : Laid) (q r : Predicted) → Did o old new q → r ≡ both (as_predicted (d ∷ [])) q → Did (decides d o) old new r
-decided_did d o old new q r did is = record {
+decided_did : (d : Decision) (o : Outcome) (old new : Laid) (b q r : Predicted) → Did o old new b q → r ≡ both (as_predicted (d ∷ [])) q →
+    Did (decides d o) old new b r
+decided_did d o old new b q r did is = record {
   state = did.state;
   scope = did.scope;
   arrived = did.arrived;
   hand = did.hand;
   sent = did.sent;
-  predicted = is ∙ (λ i. both (as_predicted (d ∷ [])) (did.predicted i)) ∙ sym (predicted_behind (d ∷ []) o.decided);
+  predicted = is ∙ ap (both (as_predicted (d ∷ []))) did.predicted ∙ sym (both_assoc (as_predicted (d ∷ [])) (as_predicted o.decided) b)
+      ∙ ap (λ z. both z b) (sym (predicted_behind (d ∷ []) o.decided));
 }
 
 -- a condition that holds
@@ -102,11 +119,11 @@ is_true_of (suc n) not_zero = grind arith
 
 -- a statement that is a choice, of which the condition holds
 pub branch_first : (place : ℕ) (x : Likely) (e : ExpressionTree) (block otherwise : StatementTrees) (tree : StatementTree) (old new : Laid)
-    (n : ℕ) (q r : Predicted) → tree ≡ branch x e block otherwise → n ≡ number_of e old → n ≢ 0 → Did (block_does place block old) old new q →
-    r ≡ both (as_predicted (decision true x ∷ [])) q → Did (statement_does place tree old) old new r
-branch_first place x e block otherwise tree old new n q r same is holds did behind =
+    (n : ℕ) (b q r : Predicted) → tree ≡ branch x e block otherwise → n ≡ number_of e old → n ≢ 0 → Did (block_does place block old) old new b q →
+    r ≡ both (as_predicted (decision true x ∷ [])) q → Did (statement_does place tree old) old new b r
+branch_first place x e block otherwise tree old new n b q r same is holds did behind =
     let true_is : is_true (number_of e old) ≡ true = ap is_true (sym is) ∙ is_true_of n holds in
-    subst (λ t. Did (statement_does place t old) old new r) (sym same)
-    (subst (λ b. Did (chosen b x (block_does place block old) (block_does place otherwise old)) old new r) (sym true_is)
-    (subst (λ o. Did o old new r) (sym (chosen_first x (block_does place block old) (block_does place otherwise old)))
-    (decided_did (decision true x) (block_does place block old) old new q r did behind)))
+    subst (λ t. Did (statement_does place t old) old new b r) (sym same)
+    (subst (λ z. Did (chosen z x (block_does place block old) (block_does place otherwise old)) old new b r) (sym true_is)
+    (subst (λ o. Did o old new b r) (sym (chosen_first x (block_does place block old) (block_does place otherwise old)))
+    (decided_did (decision true x) (block_does place block old) old new b q r did behind)))

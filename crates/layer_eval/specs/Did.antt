@@ -12,7 +12,7 @@ use Rattle.layer_eval.specs.declared.predicted.Predicted.{Predicted}
 abbrev pub as_predicted : List Decision → Predicted
 as_predicted ds = record { first = all_as First ds; second = all_as Second ds }
 
--- What was decided before, and what was decided behind it.
+-- Whether decisions here and decisions there went as predicted.
 abbrev pub both : Predicted → Predicted → Predicted
 both p q = record { first = p.first && q.first; second = p.second && q.second }
 
@@ -32,12 +32,12 @@ statement_does place x p = does place x p.state p.scope
 abbrev pub block_does : ℕ → StatementTrees → Laid → Outcome
 block_does place b p = in_order (acts place b) p.state p.scope
 
--- An outcome came about: its state and its scope lie there, its events were sent behind the others, the hand is as before, and its
--- decisions went as predicted or not.
-pub record Did (o : Outcome) (old new : Laid) (p : Predicted) : Type 0 where
+-- An outcome came about: its state and its scope lie there, its events were sent behind the others, the hand is as before, and whether all
+-- went as predicted is now known of its decisions, too.
+pub record Did (o : Outcome) (old new : Laid) (before now : Predicted) : Type 0 where
   pub state : new.state ≡ o.state
   pub scope : new.scope ≡ o.scope
   pub arrived : new.arrived ≡ old.arrived
   pub hand : new.hand ≡ old.hand
   pub sent : new.sent ≡ old.sent ++ o.sent
-  pub predicted : p ≡ as_predicted o.decided
+  pub predicted : now ≡ both (as_predicted o.decided) before

@@ -1,6 +1,6 @@
 //! What statements do.
 
-ghost use Rattle.std.specs.Prelude.{◌≡◌, true, Option, IfOk, OnOk};
+ghost use Rattle.std.specs.Prelude.{◌≡◌, true, Option, OnOk};
 ghost use Rattle.msg_core.specs.Chain.{Content as Bytes};
 ghost use Rattle.layer_mean.specs.Event.{event_of};
 ghost use Rattle.layer_mean.specs.State.{has_room};
@@ -18,42 +18,43 @@ use layer_ast::Kind;
 use layer_desk::{Desk, Envelope, NoRoom, Start};
 use msg_core::{Fields, Header};
 use slot_pool::Pool;
-use typed_layer::{Block, Emission, Row, Statement};
+use typed_layer::{Block, Emission, MessageExpression, Row, Statement};
 
-/// Runs the statements of a block of the layer at a place, and says how its decisions went.
+/// Runs the statements of a block of the layer at a place. Whether all went as predicted is kept where their decisions didn't change it.
 #[cycle(effect)]
 pub fn run_block<K: Start, D: Desk>(
     place: u8,
     block: &Block,
     desk: &mut D,
     pool: &mut Pool,
-) -> Result<Predicted, NoRoom>
+    predicted: &mut Predicted,
+) -> Result<(), NoRoom>
     requires { D.ready K.begun pool.old desk.old }
     ensures ready { D.ready K.begun pool.new desk.new }
-    ensures did { IfOk result (Did (block_does place (block_tree block.now) (D.shown pool.old desk.old))
-        (D.shown pool.old desk.old) (D.shown pool.new desk.new)) }
+    ensures did { OnOk result (Did (block_does place (block_tree block.now) (D.shown pool.old desk.old))
+        (D.shown pool.old desk.old) (D.shown pool.new desk.new) predicted.old predicted.new) }
     ensures spent { Spent (D.free pool.old desk.old) (D.free pool.new desk.new)
         (block_need K.begun.layout (block_tree block.now)) result }
 {
-    let mut predicted = Predicted::usual();
     for statement in block.statements.as_slice() {
-        let own = run_statement::<K, D>(place, statement, desk, pool)?;
-        predicted = predicted.and(own);
+        run_statement::<K, D>(place, statement, desk, pool, predicted)?;
     }
-    Ok(predicted)
+    Ok(())
 }
 
 #[cycle(effect)]
+#[inline(always)]
 fn run_statement<K: Start, D: Desk>(
     place: u8,
     statement: &Statement,
     desk: &mut D,
     pool: &mut Pool,
-) -> Result<Predicted, NoRoom>
+    predicted: &mut Predicted,
+) -> Result<(), NoRoom>
     requires { D.ready K.begun pool.old desk.old }
     ensures ready { D.ready K.begun pool.new desk.new }
-    ensures did { IfOk result (Did (statement_does place (statement_tree statement.now) (D.shown pool.old desk.old))
-        (D.shown pool.old desk.old) (D.shown pool.new desk.new)) }
+    ensures did { OnOk result (Did (statement_does place (statement_tree statement.now) (D.shown pool.old desk.old))
+        (D.shown pool.old desk.old) (D.shown pool.new desk.new) predicted.old predicted.new) }
     ensures spent { Spent (D.free pool.old desk.old) (D.free pool.new desk.new)
         (statement_need K.begun.layout (statement_tree statement.now)) result }
 {
@@ -61,18 +62,18 @@ fn run_statement<K: Start, D: Desk>(
         Statement::Bind { slot, value } => {
             let value = number::<K, D>(value, desk, pool);
             desk.bind::<K>(pool, *slot, value);
-            Ok(Predicted::usual())
+            Ok(())
         }
         Statement::Set { cell, value } => {
             let value = number::<K, D>(value, desk, pool);
             desk.assign::<K>(pool, *cell, 0, value);
-            Ok(Predicted::usual())
+            Ok(())
         }
         Statement::SetElement { cell, index, value } => {
             let index = number::<K, D>(index, desk, pool);
             let value = number::<K, D>(value, desk, pool);
             desk.assign::<K>(pool, *cell, index, value);
-            Ok(Predicted::usual())
+            Ok(())
         }
         Statement::SetSquare {
             cell,
@@ -84,7 +85,7 @@ fn run_statement<K: Start, D: Desk>(
             let column = number::<K, D>(column, desk, pool);
             let value = number::<K, D>(value, desk, pool);
             desk.assign_square::<K>(pool, *cell, row, column, value);
-            Ok(Predicted::usual())
+            Ok(())
         }
         Statement::Push {
             cell,
@@ -95,11 +96,11 @@ fn run_statement<K: Start, D: Desk>(
         } => {
             let index = number::<K, D>(index, desk, pool);
             if desk.has_room::<K>(pool, *cell, index, *capacity) {
-                push::<K, D>(*cell, index, *capacity, row, desk, pool)?;
-                Ok(Predicted::usual())
+                push::<K, D>(*cell, index, *capacity, row, desk, pool)
             } else {
-                run_block::<K, D>(place, otherwise, desk, pool)?;
-                Ok(Predicted::unusual())
+                run_block::<K, D>(place, otherwise, desk, pool, predicted)?;
+                *predicted = Predicted::unusual();
+                Ok(())
             }
         }
         Statement::Take {
@@ -111,10 +112,11 @@ fn run_statement<K: Start, D: Desk>(
         } => {
             let index = number::<K, D>(index, desk, pool);
             if desk.take::<K>(pool, *cell, index, taken)? {
-                run_block::<K, D>(place, block, desk, pool)
+                run_block::<K, D>(place, block, desk, pool, predicted)
             } else {
-                run_block::<K, D>(place, otherwise, desk, pool)?;
-                Ok(Predicted::unusual())
+                run_block::<K, D>(place, otherwise, desk, pool, predicted)?;
+                *predicted = Predicted::unusual();
+                Ok(())
             }
         }
         Statement::Branch {
@@ -124,11 +126,13 @@ fn run_statement<K: Start, D: Desk>(
             otherwise,
         } => {
             if number::<K, D>(condition, desk, pool) != 0 {
-                let behind = run_block::<K, D>(place, block, desk, pool)?;
-                Ok(Predicted::chosen(true, *likely).and(behind))
+                run_block::<K, D>(place, block, desk, pool, predicted)?;
+                *predicted = Predicted::chosen(true, *likely).and(*predicted);
+                Ok(())
             } else {
-                let behind = run_block::<K, D>(place, otherwise, desk, pool)?;
-                Ok(Predicted::chosen(false, *likely).and(behind))
+                run_block::<K, D>(place, otherwise, desk, pool, predicted)?;
+                *predicted = Predicted::chosen(false, *likely).and(*predicted);
+                Ok(())
             }
         }
         Statement::Each {
@@ -140,18 +144,17 @@ fn run_statement<K: Start, D: Desk>(
             let turns = number::<K, D>(below, desk, pool).min(u32::from(*most));
             for turn in 0..turns {
                 desk.bind::<K>(pool, *slot, turn);
-                run_block::<K, D>(place, block, desk, pool)?;
+                run_block::<K, D>(place, block, desk, pool, predicted)?;
             }
-            Ok(Predicted::unusual())
+            *predicted = Predicted::unusual();
+            Ok(())
         }
-        Statement::Emit(emission) => {
-            emit::<K, D>(place, emission, desk, pool)?;
-            Ok(Predicted::usual())
-        }
+        Statement::Emit(emission) => { emit::<K, D>(place, emission, desk, pool) }
     }
 }
 
 /// Puts a row at the back of a queue that has room for it.
+#[inline(never)]
 fn push<K: Start, D: Desk>(
     cell: u8,
     index: u32,
@@ -179,6 +182,7 @@ fn push<K: Start, D: Desk>(
 }
 
 /// Sends an event, whose arguments are evaluated at once.
+#[inline(never)]
 fn emit<K: Start, D: Desk>(
     place: u8,
     emission: &Emission,
@@ -202,6 +206,9 @@ fn emit<K: Start, D: Desk>(
                 tag: content.tag,
                 fields: fields::<K, D>(&content.fields, desk, pool),
             };
+            if let MessageExpression::Local(slot) = &content.message {
+                return desk.send_local::<K>(pool, emission.direction, envelope, header, *slot);
+            }
             make::<K, D>(&content.message, desk, pool)?;
             desk.send_first::<K>(pool, emission.direction, envelope, header)
         }

@@ -110,6 +110,7 @@ fn meet<K: Start, D: Desk>(direction: Dir, desk: &mut D, pool: &Pool) -> Popped
 }
 
 /// Enters a handler's block and runs it.
+#[tactic(auto, using(crate::proofs::Acts::both_turned))]
 fn run_handler<K: Start, D: Desk>(
     place: u8,
     handler: &Handler,
@@ -126,10 +127,10 @@ fn run_handler<K: Start, D: Desk>(
         (handler_need K.begun.layout (handler_tree handler.now) (D.shown pool.old desk.old).arrived) result }
 {
     desk.enter::<K>(pool, envelope, fields, handler.numbers, handler.messages)?;
-    let expected = expect::<K, D>(&handler.expected, desk, pool);
-    let behind = run_block::<K, D>(place, &handler.block, desk, pool)?;
+    let mut predicted = expect::<K, D>(&handler.expected, desk, pool);
+    run_block::<K, D>(place, &handler.block, desk, pool, &mut predicted)?;
     desk.leave::<K>(pool);
-    Ok(expected.and(behind))
+    Ok(predicted)
 }
 
 /// Whether a handler is as expected at its entry.

@@ -7,26 +7,26 @@ use Rattle.layer_eval.proofs.Needs.{item_lacks, item_spent, turns_lack, turns_sp
 use Rattle.layer_eval.proofs.Trees.{branch_tree, each_tree}
 use Rattle.layer_eval.proofs.effect.+effect.Goals as goal
 
-pub run_block-returns-in_err-own-clause-spent : goal.run_block-returns-in_err-own-clause-spent
-run_block-returns-in_err-own-clause-spent g t c =
+pub run_block-returns-in_err-run_statement-clause-spent : goal.run_block-returns-in_err-run_statement-clause-spent
+run_block-returns-in_err-run_statement-clause-spent g t c =
     let p = err_from_is_err_and c.from_residual.result c.from_residual.ensures.1 in
     rw (p.1, p.2)
     (item_lacks g.K.Start.begun.layout c.as_slice-statement-items.result.now c.args.block.now.statements.items c.loop-statement.statement-index
     c.statement-item.result (g.D.Desk.free c.args.pool.now c.args.desk.now) (g.D.Desk.free c.loop-statement.pool c.loop-statement.desk)
-    c.in_err-own.field-0.0 c.as_slice-statement-items.ensures.value c.loop-statement-test.true c.statement-item.is
-    c.loop-statement.invariant.2 c.in_err-own.ensures.spent)
+    c.in_err-run_statement.field-0.0 c.as_slice-statement-items.ensures.value c.loop-statement-test.true c.statement-item.is
+    c.loop-statement.invariant.2 c.in_err-run_statement.ensures.spent)
 
 pub run_block-loop-statement-preserved : goal.run_block-loop-statement-preserved
 run_block-loop-statement-preserved g t c = (
   c.run_statement.ensures.ready,
   block_step c.args.place c.as_slice-statement-items.result.now c.loop-statement.statement-index c.statement-item.result
       (g.D.Desk.shown c.args.pool.now c.args.desk.now) (g.D.Desk.shown c.loop-statement.pool c.loop-statement.desk)
-      (g.D.Desk.shown c.run_statement.new.pool c.run_statement.new.desk) c.loop-statement.predicted c.in_ok-own.own c.and-predicted.result
-      c.loop-statement-test.true c.statement-item.is c.loop-statement.invariant.1 c.in_ok-own.ensures.did c.and-predicted.ensures,
+      (g.D.Desk.shown c.run_statement.new.pool c.run_statement.new.desk) c.args.predicted.now c.loop-statement.predicted c.run_statement.new.predicted
+      c.loop-statement-test.true c.statement-item.is c.loop-statement.invariant.1 c.in_ok-run_statement.ensures.did,
   item_spent g.K.Start.begun.layout c.as_slice-statement-items.result.now c.loop-statement.statement-index c.statement-item.result
       (g.D.Desk.free c.args.pool.now c.args.desk.now) (g.D.Desk.free c.loop-statement.pool c.loop-statement.desk)
       (g.D.Desk.free c.run_statement.new.pool c.run_statement.new.desk)
-      c.loop-statement-test.true c.statement-item.is c.loop-statement.invariant.2 c.in_ok-own.ensures.spent,
+      c.loop-statement-test.true c.statement-item.is c.loop-statement.invariant.2 c.in_ok-run_statement.ensures.spent,
 )
 
 pub run_statement-returns-in_err-run_block-in-Each-clause-spent : goal.run_statement-returns-in_err-run_block-in-Each-clause-spent
@@ -46,7 +46,8 @@ run_statement-loop-turn-preserved g t c = (
   turn_step c.loop-turn.turn c.in-Each.slot (in_order (acts c.args.place (block_tree c.in-Each.block)))
       (g.D.Desk.shown c.args.pool.now c.args.desk.now) (g.D.Desk.shown c.loop-turn.pool c.loop-turn.desk)
       (g.D.Desk.shown c.loop-turn.pool c.bind-in-loop-turn.new.self)
-      (g.D.Desk.shown c.run_block-in-loop-turn.new.pool c.run_block-in-loop-turn.new.desk) c.in_ok-run_block-in-Each.field-0
+      (g.D.Desk.shown c.run_block-in-loop-turn.new.pool c.run_block-in-loop-turn.new.desk)
+      c.args.predicted.now c.loop-turn.predicted c.run_block-in-loop-turn.new.predicted
       c.loop-turn.invariant.1 c.bind-in-loop-turn.ensures.shown c.in_ok-run_block-in-Each.ensures.did,
   turn_spent g.K.Start.begun.layout (g.D.Desk.free c.args.pool.now c.args.desk.now) (g.D.Desk.free c.loop-turn.pool c.loop-turn.desk)
       (g.D.Desk.free c.loop-turn.pool c.bind-in-loop-turn.new.self)
@@ -54,14 +55,14 @@ run_statement-loop-turn-preserved g t c = (
       c.loop-turn.invariant.2 c.bind-in-loop-turn.ensures.free c.in_ok-run_block-in-Each.ensures.spent,
 )
 
-pub run_statement-returns-in_ok-behind-in-Branch-clause-did : goal.run_statement-returns-in_ok-behind-in-Branch-clause-did
-run_statement-returns-in_ok-behind-in-Branch-clause-did g t c =
+pub run_statement-returns-in_ok-run_block-in-Branch-clause-did : goal.run_statement-returns-in_ok-run_block-in-Branch-clause-did
+run_statement-returns-in_ok-run_block-in-Branch-clause-did g t c =
     branch_first c.args.place c.in-Branch.likely (expression_tree c.in-Branch.condition) (block_tree c.in-Branch.block)
     (block_tree c.in-Branch.otherwise) (statement_tree c.args.statement.now) (g.D.Desk.shown c.args.pool.now c.args.desk.now)
     (g.D.Desk.shown c.run_block-then-number-ne0.new.pool c.run_block-then-number-ne0.new.desk) c.number.result
-    c.in_ok-behind-in-Branch.behind c.and.result
+    c.args.predicted.now c.run_block-then-number-ne0.new.predicted c.and.result
     (ap statement_tree c.in-Branch.is ∙ branch_tree c.in-Branch.likely c.in-Branch.condition c.in-Branch.block c.in-Branch.otherwise)
-    c.number.ensures (search rules) c.in_ok-behind-in-Branch.ensures.did (search rules)
+    c.number.ensures (search rules) c.in_ok-run_block-in-Branch.ensures.did (search rules)
 
 pub run_statement-returns-after-loop-turn-clause-spent : goal.run_statement-returns-after-loop-turn-clause-spent
 run_statement-returns-after-loop-turn-clause-spent g t c =
