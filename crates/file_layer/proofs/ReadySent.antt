@@ -1,27 +1,30 @@
 -- Sending at a desk that has no more than it is made for.
-use Rattle.std.proofs.Common.{◌≡◌, ℕ, ◌+◌, ◌≤◌, List, [], ◌∷◌, ◌++◌, Option, Some, None, option_map, length, sym, ap, subst, ◌∙◌, arith}
+use Rattle.std.proofs.Common.{◌≡◌, ℕ, ◌+◌, ◌≤◌, List, [], ◌∷◌, ◌++◌, Option, Some, None, option_map, map, slice_get, get_or, length, sym, ap, subst, ◌∙◌, arith}
 use Rattle.std.specs.List.{AllByRecursion}
 use Rattle.std.proofs.lemmas.List.{length-append, take-append-le}
 use Rattle.circular_buffer.specs.Buffer.{Buffer, buffer}
 use Rattle.slot_pool.specs.Held.{Held}
 use Rattle.slot_pool.specs.Times.{times}
+use Rattle.msg_core.specs.Chain.{plain}
 use Rattle.msg_core.specs.declared.message.Header.{Header}
 use Rattle.layer_ast.specs.declared.tokens.Dir.{Dir}
 use Rattle.layer_mean.specs.Effect.{sent_as}
-use Rattle.layer_desk.specs.Laid.{sends_first}
+use Rattle.layer_desk.specs.Laid.{event_in, sends, sends_first}
 use Rattle.layer_desk.specs.Need.{Layout}
 use Rattle.layer_desk.specs.Spent.{Begun}
 use Rattle.layer_desk.specs.declared.envelope.Envelope.{Envelope}
-use Rattle.pool_message.specs.Moves.{Derived}
+use Rattle.pool_message.specs.Moves.{Kept, Derived}
+use Rattle.pool_message.specs.Seen.{bodiless, refs, seen}
 use Rattle.pool_message.specs.declared.event.PoolEvent.{PoolEvent}
 use Rattle.pool_message.specs.declared.message.PoolMessage.{PoolMessage}
-use Rattle.pool_message.specs.Sent.{sent_refs}
-use Rattle.file_layer.specs.Sent.{sent_behind, TakesLast}
+use Rattle.pool_message.specs.Sent.{sent_refs, sent_behind}
+use Rattle.file_layer.specs.Sent.{TakesLast}
 use Rattle.file_layer.specs.Stock.{Stock, laid, pool_event}
 use Rattle.file_layer.specs.Steps.{InPool}
 use Rattle.file_layer.specs.Fits.{IsShort, StockFits, SentGrows}
-use Rattle.file_layer.proofs.Lists.{all-front}
-use Rattle.file_layer.proofs.Sending.{sent_first, passed_on}
+use Rattle.file_layer.proofs.Lists.{all-front, seen_at, seen_none}
+use Rattle.file_layer.proofs.Ready.{scope_there}
+use Rattle.file_layer.proofs.Sending.{bare_sent, kept_sent, sent_first, passed_on}
 use Rattle.file_layer.proofs.Sent.{is_derived, same_refs, still_lies, shows_sent}
 
 -- One event more.
@@ -81,6 +84,10 @@ module _ (b : Begun) (p : List Held) (s : Stock) (is : InPool b p s) (fits : Sto
         ap (λ sent. laid p (record s { hand = rest; sent = sent })) whole ∙ step.3,
       )
 
+  longer_fits : (x : PoolEvent) → sent ≡ s.sent ++ (dir, x) ∷ [] → StockFits b.layout (record s { sent = sent })
+  longer_fits x whole =
+      fits_sent b.layout s s.hand s.arrived sent fits fits.hand fits.hand_short (omega (arith, ap length whole, places, length-append s.sent ((dir, x) ∷ [])))
+
   pub on_fits : (left m : Option PoolMessage) → m ≡ option_map (sent_behind dir header) s.arrived → event ≡ pool_event e m → left ≡ None →
       InPool b p (record s { arrived = left; sent = sent }) × StockFits b.layout (record s { arrived = left; sent = sent })
   on_fits left m made is_event none =
@@ -91,4 +98,30 @@ module _ (b : Begun) (p : List Held) (s : Stock) (is : InPool b p s) (fits : Sto
         subst (λ sent. InPool b p (record s { arrived = None; sent = sent })) (sym whole) step.0,
         fits_sent b.layout s s.hand None sent fits fits.hand fits.hand_short
             (omega (arith, ap length whole, places, length-append s.sent ((dir, pool_event e (option_map (sent_behind dir header) s.arrived)) ∷ []))),
+      )
+
+  -- A message of the scope is sent once more; where there is none, one without bytes.
+  pub local_fits : (q : List Held) (k : ℕ) (m : PoolMessage) → slice_get s.messages k ≡ Some m → event ≡ pool_event e (Some (sent_behind dir header m)) →
+      Kept p q (refs m) → InPool b q (record s { sent = sent }) × StockFits b.layout (record s { sent = sent }) ×
+      (laid q (record s { sent = sent }) ≡ sends dir (event_in e (Some (sent_as dir header (get_or (map (seen p) s.messages) k (plain []))))) (laid p s))
+  local_fits q k m there is_event kept =
+      let whole = new ∙ ap (λ ev. s.sent ++ (dir, ev) ∷ []) is_event in
+      let own = scope_there b p q s is fits k m there in
+      let step = kept_sent b p s is q dir e header m own.0 own.1 kept in (
+        subst (λ sent. InPool b q (record s { sent = sent })) (sym whole) step.0,
+        longer_fits (pool_event e (Some (sent_behind dir header m))) whole,
+        ap (λ sent. laid q (record s { sent = sent })) whole ∙ step.1 ∙
+            ap (λ c. sends dir (event_in e (Some (sent_as dir header c))) (laid p s)) (sym (seen_at (seen p) s.messages k m (plain []) there)),
+      )
+
+  pub nothing_fits : (k : ℕ) → slice_get s.messages k ≡ None → event ≡ pool_event e (Some (sent_behind dir header (bodiless []))) →
+      InPool b p (record s { sent = sent }) × StockFits b.layout (record s { sent = sent }) ×
+      (laid p (record s { sent = sent }) ≡ sends dir (event_in e (Some (sent_as dir header (get_or (map (seen p) s.messages) k (plain []))))) (laid p s))
+  nothing_fits k there is_event =
+      let whole = new ∙ ap (λ ev. s.sent ++ (dir, ev) ∷ []) is_event in
+      let step = bare_sent b p s is dir e header in (
+        subst (λ sent. InPool b p (record s { sent = sent })) (sym whole) step.0,
+        longer_fits (pool_event e (Some (sent_behind dir header (bodiless [])))) whole,
+        ap (λ sent. laid p (record s { sent = sent })) whole ∙ step.1 ∙
+            ap (λ c. sends dir (event_in e (Some (sent_as dir header c))) (laid p s)) (sym (seen_none (seen p) s.messages k (plain []) there)),
       )

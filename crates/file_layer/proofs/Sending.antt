@@ -3,23 +3,28 @@ use Rattle.std.proofs.Common.{◌≡◌, ℕ, List, [], ◌∷◌, ◌++◌, Opt
 use Rattle.std.specs.List.{AllByRecursion}
 use Rattle.std.proofs.lemmas.List.{append-nil, map-append}
 use Rattle.slot_pool.specs.Held.{Held}
+use Rattle.slot_pool.specs.References.{Covers}
 use Rattle.slot_pool.proofs.References.{moved-same}
+use Rattle.msg_core.specs.Chain.{plain}
 use Rattle.msg_core.specs.declared.message.Header.{Header}
 use Rattle.layer_ast.specs.declared.tokens.Dir.{Dir}
 use Rattle.layer_mean.specs.Effect.{sent_as}
 use Rattle.layer_desk.specs.Laid.{lifted, event_in, sends, sends_first, passes_on}
 use Rattle.layer_desk.specs.Spent.{Begun}
 use Rattle.layer_desk.specs.declared.envelope.Envelope.{Envelope}
-use Rattle.pool_message.specs.Seen.{refs, seen, Lies, refs_if, seen_if, LiesIf, event_refs, event_seen, EventLies}
-use Rattle.pool_message.specs.Moves.{Derived}
+use Rattle.pool_message.specs.Seen.{bodiless, refs, seen, Lies, refs_if, seen_if, LiesIf, event_refs, event_seen, EventLies}
+use Rattle.pool_message.specs.Moves.{Kept, Derived}
+use Rattle.pool_message.specs.Sent.{sent_behind}
 use Rattle.pool_message.specs.declared.event.PoolEvent.{PoolEvent}
 use Rattle.pool_message.specs.declared.message.PoolMessage.{PoolMessage}
+use Rattle.pool_message.proofs.Stays.{message_stays}
 use Rattle.file_layer.specs.Stock.{Stock, laid, StockLies, pool_event}
 use Rattle.file_layer.specs.Steps.{InPool, TakesOut}
 use Rattle.file_layer.proofs.Hand.{laid_top}
 use Rattle.file_layer.proofs.Lists.{all-append, all-front, all-behind}
 use Rattle.file_layer.proofs.Parts.{none_out, hand_out, arrived_out, sent_out}
-use Rattle.file_layer.proofs.Steps.{stepped}
+use Rattle.file_layer.proofs.Sent.{is_derived}
+use Rattle.file_layer.proofs.Steps.{rest_stays, stepped}
 
 -- What was sent with one more.
 laid_sent : (p : List Held) (s : Stock) (dir : Dir) (event : PoolEvent) →
@@ -50,6 +55,39 @@ module _ (b : Begun) (p : List Held) (s : Stock) (is : InPool b p s) where
       InPool b p (record s { sent = s.sent ++ (dir, pool_event e None) ∷ [] }) ×
       (laid p (record s { sent = s.sent ++ (dir, pool_event e None) ∷ [] }) ≡ sends dir (event_in e None) (laid p s))
   sent_alone dir e = sent_step s [] (none_out s) is.lies dir (pool_event e None) refl tt
+
+  -- An event is sent with a message without bytes.
+  pub bare_sent : (dir : Dir) (e : Envelope) (header : Header) →
+      InPool b p (record s { sent = s.sent ++ (dir, pool_event e (Some (sent_behind dir header (bodiless [])))) ∷ [] }) ×
+      (laid p (record s { sent = s.sent ++ (dir, pool_event e (Some (sent_behind dir header (bodiless [])))) ∷ [] }) ≡
+      sends dir (event_in e (Some (sent_as dir header (plain [])))) (laid p s))
+  bare_sent dir e header =
+      let made : Derived (sent_as dir header) (bodiless []) (sent_behind dir header (bodiless [])) = is_derived dir header (bodiless []) in
+      let step = sent_step s [] (none_out s) is.lies dir (pool_event e (Some (sent_behind dir header (bodiless [])))) made.slots (made.lies p tt) in
+      (step.0, step.1 ∙ ap (λ c. sends dir (event_in e (Some c)) (laid p s)) (made.shows p))
+
+  -- An event is sent with a message that lies in the pool, and is kept.
+  pub kept_sent : (q : List Held) (dir : Dir) (e : Envelope) (header : Header) (m : PoolMessage) → Covers p (refs m) → Lies p m → Kept p q (refs m) →
+      InPool b q (record s { sent = s.sent ++ (dir, pool_event e (Some (sent_behind dir header m))) ∷ [] }) ×
+      (laid q (record s { sent = s.sent ++ (dir, pool_event e (Some (sent_behind dir header m))) ∷ [] }) ≡
+      sends dir (event_in e (Some (sent_as dir header (seen p m)))) (laid p s))
+  kept_sent q dir e header m covers lies kept =
+      let made : Derived (sent_as dir header) m (sent_behind dir header m) = is_derived dir header m in
+      let event : PoolEvent = pool_event e (Some (sent_behind dir header m)) in
+      let stays = message_stays p q [] (refs m) kept.moved m covers lies in
+      let rest = rest_stays b p q s s [] (refs m) is (none_out s) is.lies kept.moved in (
+        stepped b p q s s (record s { sent = s.sent ++ (dir, event) ∷ [] }) [] (refs m) is (none_out s)
+            (subst (TakesOut (record s { sent = s.sent ++ (dir, event) ∷ [] }) s) made.slots (sent_out s dir event)) kept.moved
+            (record {
+              kept = rest.0.kept;
+              messages = rest.0.messages;
+              arrived = rest.0.arrived;
+              hand = rest.0.hand;
+              sent = all-append (λ (e : Dir × PoolEvent). EventLies q e.1) s.sent ((dir, event) ∷ []) rest.0.sent (made.lies q stays.0, tt);
+            }),
+        laid_sent q s dir event ∙ ap (λ c. sends dir (event_in e (Some c)) (laid q s)) (made.shows q ∙ ap (sent_as dir header) stays.1) ∙
+            ap (sends dir (event_in e (Some (sent_as dir header (seen p m))))) rest.1,
+      )
 
   -- An event is sent with the message in front of the hand.
   pub sent_first : (dir : Dir) (e : Envelope) (header : Header) (rest : List PoolMessage) (x y : PoolMessage) → s.hand ≡ rest ++ x ∷ [] →

@@ -9,12 +9,19 @@ use Rattle.layer_mean.specs.Effect.{sent_as}
 use Rattle.pool_message.specs.Moves.{Derived}
 use Rattle.pool_message.specs.Piled.{without_last, with_header_last}
 use Rattle.pool_message.specs.Seen.{refs_if, seen_if, LiesIf}
+use Rattle.pool_message.specs.Sent.{sent_behind, CanPass}
 use Rattle.pool_message.specs.declared.message.PoolMessage.{PoolMessage}
-use Rattle.file_layer.specs.Sent.{sent_behind, last_behind, TakesLast}
+use Rattle.file_layer.specs.Fits.{IsShort}
+use Rattle.file_layer.specs.Sent.{last_behind, TakesLast}
 
 pub is_derived : (dir : Dir) (header : Header) (m : PoolMessage) → Derived (sent_as dir header) m (sent_behind dir header m)
 is_derived Up header m = record { slots = refl; lies = λ p lies. lies; shows = λ p. refl }
 is_derived Down header m = record { slots = refl; lies = λ p lies. lies; shows = λ p. refl }
+
+-- a message with no more headers than there are places above a layer has room for one more
+pub can_pass : (dir : Dir) (m : PoolMessage) → IsShort m → CanPass dir (Some m)
+can_pass Up m short = tt
+can_pass Down m short = omega (arith, short)
 
 -- it refers to the same, lies where the other lies, and shows what is sent, if it is there
 pub same_refs : (dir : Dir) (header : Header) (m : Option PoolMessage) → refs_if (option_map (sent_behind dir header) m) ≡ refs_if m

@@ -179,6 +179,17 @@ impl Desk for FileDesk {
         sends::send_first::<K>(self, pool, direction, envelope, header)
     }
 
+    fn send_local<K: Start>(
+        &mut self,
+        pool: &mut Pool,
+        direction: Dir,
+        envelope: Envelope,
+        header: Header,
+        slot: u8,
+    ) -> Result<(), NoRoom> {
+        sends::send_local::<K>(self, pool, direction, envelope, header, slot)
+    }
+
     fn pop_header<K: Start>(&mut self, pool: &Pool) -> Option<Header> {
         sends::pop_header::<K>(self, pool)
     }

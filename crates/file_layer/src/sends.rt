@@ -1,22 +1,25 @@
 //! What a desk sends, and the message that arrived.
 
-ghost use Rattle.std.specs.Prelude.{◌≡◌, None, option_map, OnOk};
+ghost use Rattle.std.specs.Prelude.{◌≡◌, ◌<◌, [], ◌∷◌, ◌++◌, length, slice_index_or, None, Some, option_map, OnOk};
 ghost use Rattle.std.specs.List.{AllByRecursion};
 ghost use Rattle.circular_buffer.specs.Buffer.{buffer};
+ghost use Rattle.msg_core.specs.Chain.{plain};
+ghost use Rattle.layer_mean.specs.Effect.{sent_as};
 ghost use Rattle.layer_desk.specs.Laid.{event_in, sends, sends_first, first_header, header_popped, passes_on};
 ghost use Rattle.layer_desk.specs.Need.{one_place, headers_of, passing_need};
 ghost use Rattle.layer_desk.specs.Spent.{Spent};
-ghost use Rattle.pool_message.specs.Seen.{seen_if};
+ghost use Rattle.pool_message.specs.Seen.{seen_if, bodiless};
+ghost use Rattle.pool_message.specs.Sent.{sent_behind};
 ghost use Rattle.file_layer.specs.Fits.{IsShort, IsShortIf};
-ghost use Rattle.file_layer.specs.Sent.{sent_behind, last_behind};
-ghost use Rattle.file_layer.specs.Stock.{laid};
+ghost use Rattle.file_layer.specs.Sent.{last_behind};
+ghost use Rattle.file_layer.specs.Stock.{laid, pool_event};
 ghost use Rattle.file_layer.specs.Ready.{stock_of, room_of, IsReady};
 
 use crate::desk::{FileDesk, MOST_ABOVE};
 use layer_ast::Dir;
 use layer_desk::{Envelope, NoRoom, Start};
 use msg_core::Header;
-use pool_message::{Messages, Place};
+use pool_message::{Events, Messages, Place, PoolMessage};
 use slot_pool::Pool;
 
 /// The newest message in hand becomes as it is sent, where it lies: going down it gets a header.
@@ -94,6 +97,63 @@ pub(crate) fn send_first<K: Start>(
         &mut desk.hand,
     );
     Ok(())
+}
+
+/// Sends an event with a message without bytes, going down behind a header.
+fn send_nothing(sent: &mut Events, direction: Dir, envelope: Envelope, header: Header)
+    requires { length sent.old.items < sent.old.capacity }
+    ensures { sent.new ≡ buffer (sent.old.items ++ (direction, pool_event envelope (Some (sent_behind direction header (bodiless [])))) ∷ []) sent.old.capacity }
+{
+    let mut message = Place::of(PoolMessage::nothing());
+    put_behind(direction, header, &mut message);
+    sent.push_from(
+        direction,
+        envelope.kind,
+        envelope.peer,
+        envelope.a,
+        envelope.b,
+        &mut message,
+    );
+    message.close();
+}
+
+pub(crate) fn send_local<K: Start>(
+    desk: &mut FileDesk,
+    pool: &mut Pool,
+    direction: Dir,
+    envelope: Envelope,
+    header: Header,
+    slot: u8,
+) -> Result<(), NoRoom>
+    requires { IsReady K.begun pool.old desk.old }
+    ensures ready { IsReady K.begun pool.new desk.new }
+    ensures shown { OnOk result (laid pool.new (stock_of desk.new) ≡ sends direction
+        (event_in envelope (Some (sent_as direction header (slice_index_or (laid pool.old (stock_of desk.old)).scope.messages slot (plain [])))))
+        (laid pool.old (stock_of desk.old))) }
+    ensures spent { Spent (room_of pool.old desk.old) (room_of pool.new desk.new) one_place result }
+{
+    if desk.sent.len() >= desk.places {
+        return Err(NoRoom::Place);
+    }
+    match desk.messages.get(usize::from(slot)) {
+        Some(message) => {
+            desk.sent.push_kept(
+                direction,
+                envelope.kind,
+                envelope.peer,
+                envelope.a,
+                envelope.b,
+                header,
+                message,
+                pool,
+            );
+            Ok(())
+        }
+        None => {
+            send_nothing(&mut desk.sent, direction, envelope, header);
+            Ok(())
+        }
+    }
 }
 
 pub(crate) fn pop_header<K: Start>(desk: &mut FileDesk, pool: &Pool) -> Option<Header>

@@ -43,6 +43,11 @@ with_header header m = record m { headers = header ∷ m.headers }
 abbrev pub without_first : PoolMessage → PoolMessage
 without_first m = record m { headers = rest_of m.headers }
 
+-- A message as it is sent: going up as it is, and going down behind a header.
+abbrev pub sent_behind : Dir → Header → PoolMessage → PoolMessage
+sent_behind Up header m = m
+sent_behind Down header m = with_header header m
+
 -- A message that passes a layer: going down it gets a header in front, and going up it loses its first one.
 abbrev pub message_passed : Dir → Header → PoolMessage → PoolMessage
 message_passed Up header m = without_first m

@@ -3,12 +3,13 @@
 ghost use Rattle.std.specs.Prelude.{◌≡◌, ◌<◌, ◌≤◌, [], ◌∷◌, ◌++◌, length, drop, slice_get, Some, None, option_map, IfOk};
 ghost use Rattle.circular_buffer.specs.Buffer.{buffer, last_item};
 ghost use Rattle.slot_pool.specs.References.{Covers};
-ghost use Rattle.pool_message.specs.Moves.{Returned};
+ghost use Rattle.pool_message.specs.Moves.{CanKeep, Kept, Returned};
 ghost use Rattle.pool_message.specs.Piled.{without_last};
-ghost use Rattle.pool_message.specs.Seen.{event_refs};
-ghost use Rattle.pool_message.specs.Sent.{sent_refs, most_events, first_sent, message_passed, event_passed, bared, CanPass};
+ghost use Rattle.pool_message.specs.Seen.{refs, event_refs};
+ghost use Rattle.pool_message.specs.Sent.{sent_refs, most_events, first_sent, sent_behind, message_passed, event_passed, bared, CanPass};
 
 use crate::event::PoolEvent;
+use crate::message::PoolMessage;
 use crate::messages::Messages;
 use crate::place::Place;
 use circular_buffer::HeapCircularBuffer;
@@ -209,6 +210,39 @@ impl Events {
         fill_last(&mut self.slots[*k as usize], messages);
     }
 
+    /// Puts an event of this kind, with these numbers and with a message once more, which goes down behind this header, behind the others. The
+    /// two share the message's bytes, to which there is one more reference.
+    pub fn push_kept(
+        &mut self,
+        direction: Dir,
+        kind: Kind,
+        peer: u32,
+        a: u32,
+        b: u32,
+        header: Header,
+        message: &PoolMessage,
+        pool: &mut Pool,
+    )
+        requires places { length self.old.items < self.old.capacity }
+        requires room { CanPass direction (Some message.now) }
+        requires there { Covers pool.old (refs message.now) }
+        requires keeps { CanKeep pool.old (refs message.now) }
+        ensures pushed { self.new ≡ buffer (self.old.items ++ (direction, record { kind = kind; peer = peer; a = a; b = b; message = Some (sent_behind direction header message.now) }) ∷ []) self.old.capacity }
+        ensures kept { Kept pool.old pool.new (refs message.now) }
+    {
+        self.push_bare(direction, kind, peer, a, b);
+        let Some(k) = self.order.back() else {
+            unreachable!();
+        };
+        fill_kept(
+            &mut self.slots[*k as usize],
+            direction,
+            header,
+            message,
+            pool,
+        );
+    }
+
     /// The first one goes, and its message to an empty place.
     pub fn take_first(&mut self, message: &mut Place)
         requires some { 0 < length self.old.items }
@@ -337,6 +371,29 @@ fn fill_last(sent: &mut (Dir, PoolEvent), messages: &mut Messages)
     ensures rest { messages.new ≡ buffer (without_last messages.old.items) messages.old.capacity }
 {
     messages.pop_to(&mut sent.1.message);
+}
+
+/// An event without a message gets one once more, which goes down behind a header.
+fn fill_kept(
+    sent: &mut (Dir, PoolEvent),
+    direction: Dir,
+    header: Header,
+    message: &PoolMessage,
+    pool: &mut Pool,
+)
+    requires bare { sent.old.1.message ≡ None }
+    requires room { CanPass direction (Some message.now) }
+    requires there { Covers pool.old (refs message.now) }
+    requires keeps { CanKeep pool.old (refs message.now) }
+    ensures filled { sent.new ≡ (sent.old.0, record sent.old.1 { message = Some (sent_behind direction header message.now) }) }
+    ensures kept { Kept pool.old pool.new (refs message.now) }
+{
+    let place = &mut sent.1.message;
+    place.keep_from(message, pool);
+    match direction {
+        Dir::Up => {}
+        Dir::Down => place.push_header(header),
+    }
 }
 
 /// An event goes to others, and leaves its slot without a message.

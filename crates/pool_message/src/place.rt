@@ -29,9 +29,9 @@ impl Place {
     ghost use Rattle.std.specs.Prelude.{◌≡◌, ◌<◌, length, Some, None, option_copied, option_map, is_some, true, [], IfSome};
     ghost use Rattle.slot_pool.specs.References.{Covers};
     ghost use Rattle.msg_core.specs.Headers.{most_headers};
-    ghost use Rattle.pool_message.specs.Seen.{refs_if, bodiless};
+    ghost use Rattle.pool_message.specs.Seen.{refs, refs_if, bodiless};
     ghost use Rattle.pool_message.specs.Sent.{first_header, with_header, without_first};
-    ghost use Rattle.pool_message.specs.Moves.{Returned};
+    ghost use Rattle.pool_message.specs.Moves.{CanKeep, Kept, Returned};
 
     /// A place without a message.
     pub fn empty() -> Place
@@ -84,6 +84,18 @@ impl Place {
         ensures left { message.new ≡ bodiless [] }
     {
         self.message.take_over(message);
+        self.is_full = true;
+    }
+
+    /// Becomes full of a message once more. The place was empty; the two share their bytes, to which there is one more reference.
+    pub fn keep_from(&mut self, message: &PoolMessage, pool: &mut Pool)
+        requires empty { self.old ≡ None }
+        requires there { Covers pool.old (refs message.now) }
+        requires keeps { CanKeep pool.old (refs message.now) }
+        ensures full { self.new ≡ Some message.now }
+        ensures kept { Kept pool.old pool.new (refs message.now) }
+    {
+        self.message.keep_from(message, pool);
         self.is_full = true;
     }
 
