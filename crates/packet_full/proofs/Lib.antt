@@ -1,6 +1,7 @@
 pub mod Chain
 pub mod Declared
 pub mod Members
+pub mod Nones
 pub mod Numbers
 pub mod Steps
 pub mod Taken

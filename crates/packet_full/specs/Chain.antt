@@ -1,5 +1,5 @@
--- One header of a datagram.
-use Rattle.std.specs.Prelude.{ℕ, Bool, option_map}
+-- Headers of a datagram.
+use Rattle.std.specs.Prelude.{ℕ, zero, suc, ◌+◌, Bool, List, [], ◌∷◌, ◌++◌, option_map}
 use Rattle.msg_core.specs.declared.message.Header.{Header}
 use Rattle.layer_mean.specs.Headers.{declared}
 use Rattle.layer_mean.specs.Tree.{LayerTree}
@@ -13,3 +13,11 @@ header_read layer place = do
   form ← known (option_map form_of (declared layer tag))
   fields ← numbers form.fields
   given (record { layer = place; tag = tag; fields = fields }, form.ends)
+
+-- The header `none` of a place, and those of so many places from one on.
+abbrev pub none_at : ℕ → Header
+none_at place = record { layer = place; tag = 0; fields = [] }
+
+abbrev pub nones : (place count : ℕ) → List Header
+nones place zero = []
+nones place (suc count) = nones place count ++ none_at (place + count) ∷ []

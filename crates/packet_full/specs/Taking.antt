@@ -31,7 +31,7 @@ abbrev pub Takes : {A : Type 0} → Option (A × List ℕ) → Option A → List
 Takes taken (Some value) behind = taken ≡ Some (value, behind)
 Takes taken None behind = taken ≡ None
 
--- numbers that were read, in front of those that are still read
-abbrev pub with_front : List ℕ → Option (List ℕ × List ℕ) → Option (List ℕ × List ℕ)
+-- numbers or headers that were read, in front of those that are still read
+abbrev pub with_front : {A : Type 0} → List A → Option (List A × List ℕ) → Option (List A × List ℕ)
 with_front front None = None
 with_front front (Some (more, behind)) = Some (front ++ more, behind)

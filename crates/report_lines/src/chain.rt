@@ -75,6 +75,10 @@ fn push_header(line: &mut Line, stack: &Stack, header: &Header) -> Result<(), Me
 {
     let layer = layer_at(stack, header.layer);
     push_layer_name(line, layer)?;
+    // as most headers are
+    if header.tag == 0 && header.fields.len() == 0 {
+        return line.text(b".none()");
+    }
     line.text(b".")?;
     push_header_name(line, layer, header.tag)?;
     line.text(b"(")?;

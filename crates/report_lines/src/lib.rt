@@ -4,6 +4,7 @@
 
 mod cells;
 mod chain;
+mod hex_digits;
 mod journal;
 mod line;
 mod lines;

@@ -4,6 +4,7 @@ ghost use Rattle.std.specs.Prelude.{◌≡◌, ◌++◌, ◌∷◌, [], OnOk};
 ghost use Rattle.std.specs.Fmt.{decimal};
 ghost use Rattle.script_mean.specs.EventText.{hex_text};
 
+use crate::hex_digits::encode;
 use itoa::Buffer;
 use msg_core::Memory;
 use std::alloc::Global;
@@ -58,6 +59,9 @@ impl Line {
     pub fn number(&mut self, number: u64) -> Result<(), Memory>
         ensures { OnOk result (self.new ≡ self.old ++ decimal number) }
     {
+        if number < 10 {
+            return self.text(&[b'0' + number as u8]);
+        }
         let mut buffer = Buffer::new();
         self.text(buffer.format(number).as_bytes())
     }
@@ -66,6 +70,9 @@ impl Line {
     pub fn spaced(&mut self, number: u32) -> Result<(), Memory>
         ensures { OnOk result (self.new ≡ self.old ++ 32 ∷ decimal number) }
     {
+        if number < 10 {
+            return self.text(&[b' ', b'0' + number as u8]);
+        }
         self.text(b" ")?;
         self.number(u64::from(number))
     }
@@ -81,9 +88,7 @@ impl Line {
         let digits = bytes.len().checked_mul(2).ok_or(Memory)?;
         let end = start.checked_add(digits).ok_or(Memory)?;
         self.bytes.resize(end, 0)?;
-        match hex::encode_to_slice(bytes, &mut self.bytes[start..]) {
-            Ok(()) => Ok(()),
-            Err(_) => unreachable!(),
-        }
+        encode(bytes, &mut self.bytes[start..]);
+        Ok(())
     }
 }
