@@ -6,6 +6,7 @@ use Rattle.layer_ast.specs.declared.tokens.Lexed.{Lexed}
 use Rattle.layer_ast.specs.declared.tokens.Token.TheVariants as token
 use Rattle.layer_ast.specs.Spelling.{word_token}
 use Rattle.layer_ast.specs.Cut.{Piece as Found, gap, one, bad, Tokens as Parts, is_numeral, cut_from, place_behind}
+use Rattle.layer_lex.specs.Parts.{begins_part, CutsPart}
 use Rattle.layer_lex.specs.declared.Left.{Left}
 use Rattle.layer_lex.specs.declared.Stop.{Stop}
 use Rattle.layer_lex.specs.declared.Stop.TheVariants.{Before}
@@ -22,9 +23,10 @@ found text (Number value behind) = one (token.Number value) behind
 found text (Symbol sign behind) = one (token.Sign sign) behind
 found text Bad = bad
 
--- a word is at most 32 bytes of the text
+-- a word is at most 32 bytes of the text, and no symbol begins a part
 abbrev pub IsFront : List ℕ → Piece → Type 0
 IsFront text (Word behind) = (behind < 32) × (behind < length text)
+IsFront text (Symbol sign _) = begins_part (token.Sign sign) ≡ false
 IsFront text _ = Unit
 
 -- the tokens that the lexer cut
@@ -36,6 +38,11 @@ abbrev pub more_of : Found → ℕ
 more_of (gap behind) = behind
 more_of (one _ behind) = behind
 more_of bad = 0
+
+-- whether a part begins at a piece
+abbrev pub begins_at : Found → Bool
+begins_at (one token _) = begins_part token
+begins_at _ = false
 
 -- whether a piece is a number
 abbrev pub is_number : Found → Bool
@@ -69,19 +76,22 @@ pub record HasRoom (left : Left) : Type 0 where
   pub line : left.at.line + length left.text.now < 4294967296
   pub col : left.at.col + length left.text.now < 4294967296
 
--- tokens were added up to here, where this is left, and no more of them than there were bytes
-pub record CutsPart (old new : List Lexed) (left next : Left) : Type 0 where
-  pub same : in_front new (left_of next) ≡ in_front old (left_of left)
+-- tokens were added up to here, where this is left: no more of them than there were bytes, and where no token is left, no byte is
+pub record IsBehind (old new : List Lexed) (left next : Left) : Type 0 where
   pub room : HasRoom next
   pub fewer : length next.text.now + length new ≤ length left.text.now + length old
+  pub ended : (left_of next).tokens ≡ [] → next.text.now ≡ []
 
--- what cutting comes to: the front of what is left was cut, all of it where that was asked for, or there is a bad token behind it
+-- what cutting comes to: the front of what is left was cut, all of it or its first part, or there is a bad token behind it
 pub record StopsBefore (old new : List Lexed) (left : Left) (to_end : Bool) (next : Left) : Type 0 where
-  pub same : in_front new (left_of next) ≡ in_front old (left_of left)
-  pub room : HasRoom next
-  pub fewer : length next.text.now + length new ≤ length left.text.now + length old
-  pub ended : to_end ≡ true → left_of next ≡ record { tokens = []; bad_at = None }
+  pub all : to_end ≡ true → in_front new record { tokens = []; bad_at = None } ≡ in_front old (left_of left)
+  pub part : to_end ≡ false → CutsPart old new (left_of left) (Some (left_of next))
+  pub behind : IsBehind old new left next
+
+pub record StopsBad (old new : List Lexed) (left : Left) (to_end : Bool) (at : At) : Type 0 where
+  pub all : in_front new record { tokens = []; bad_at = Some at } ≡ in_front old (left_of left)
+  pub part : to_end ≡ false → CutsPart old new (left_of left) None
 
 abbrev pub Stops : List Lexed → List Lexed → Left → Bool → Stop → Type 0
 Stops old new left to_end (Before next) = StopsBefore old new left to_end next
-Stops old new left to_end (stop.Bad at) = in_front new record { tokens = []; bad_at = Some at } ≡ in_front old (left_of left)
+Stops old new left to_end (stop.Bad at) = StopsBad old new left to_end at

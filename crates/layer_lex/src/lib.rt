@@ -1,10 +1,12 @@
 //! The lexer of layer files: a text is cut into its tokens, each with its place.
 #![tactic(auto)]
 
-ghost use Rattle.std.specs.Prelude.{◌≡◌, ℕ, List, [], ◌∷◌, ◌+◌, ◌<◌, ◌≤◌, length, true, None, IfOk, IfSome};
+ghost use Rattle.std.specs.Prelude.{◌≡◌, ℕ, List, [], ◌∷◌, ◌+◌, ◌<◌, ◌≤◌, length, nat_eq, true, None, IfOk, IfSome};
 ghost use Rattle.layer_ast.specs.Cut.{cut as cut_of, place_behind as next_place};
 ghost use Rattle.layer_ast.specs.Stops.{end_of as end};
-ghost use Rattle.layer_lex.specs.Pieces.{found, tokens_of, is_number as is_number_piece, past, left_of, GoesOn, IsFront, HasRoom, CutsPart, Stops};
+ghost use Rattle.std.specs.Option.{option_map};
+ghost use Rattle.layer_lex.specs.Parts.{CutsPart};
+ghost use Rattle.layer_lex.specs.Pieces.{found, tokens_of, begins_at, is_number as is_number_piece, past, left_of, GoesOn, IsFront, HasRoom, IsBehind, Stops};
 
 mod pieces;
 mod words;
@@ -12,7 +14,7 @@ mod words;
 use layer_ast::{At, Lexed, Token};
 use pieces::{Piece, front, is_blank, piece_at};
 use std::alloc::{AllocError, Global};
-use words::push_word;
+use words::{is_part_word, push_word};
 
 /// How many bytes of a text most have for each token; where there are more tokens, their room grows.
 const BYTES_A_TOKEN: usize = 2;
@@ -47,9 +49,10 @@ impl<'a> Left<'a> {
         }
     }
 
-    /// Whether nothing is left.
+    /// Whether nothing is left: no byte, and so no token.
     pub fn is_at_end(&self) -> bool
-        ensures { result ≡ true → left_of self.now ≡ record { tokens = []; bad_at = None } }
+        ensures bytes { result ≡ nat_eq (length self.now.text.now) 0 }
+        ensures tokens { result ≡ true → left_of self.now ≡ record { tokens = []; bad_at = None } }
     {
         self.text.is_empty()
     }
@@ -75,11 +78,12 @@ pub fn cut(alloc: Global, text: &[u8]) -> Result<Tokens, AllocError>
     Ok(Tokens { tokens, bad_at })
 }
 
-/// Adds tokens up to the next word that seems to begin a layer or the stack, but for one at the front, or to the end of the text. The
-/// result is what is left then, or none where a token is bad.
+/// Cuts off the next part of a text, one layer or the stack: adds the first token that is left, and those behind it up to the next word
+/// `layer` or `stack` or the end. The result is what is left then, or none where the part has a bad token, behind those that were added.
 pub fn cut_part<'a>(tokens: &mut Vec<Lexed>, left: Left<'a>) -> Result<Option<Left<'a>>, AllocError>
     requires { HasRoom left }
-    ensures { IfOk result (λ o. IfSome o (λ next. CutsPart tokens.old.items tokens.new.items left.entry next)) }
+    ensures part { IfOk result (λ o. CutsPart tokens.old.items tokens.new.items (left_of left.entry) (option_map left_of o)) }
+    ensures behind { IfOk result (λ o. IfSome o (λ next. IsBehind tokens.old.items tokens.new.items left.entry next)) }
 {
     match cut_on(tokens, left, false)? {
         Stop::Before(next) => Ok(Some(next)),
@@ -87,11 +91,12 @@ pub fn cut_part<'a>(tokens: &mut Vec<Lexed>, left: Left<'a>) -> Result<Option<Le
     }
 }
 
-/// Adds the tokens of what is left, to the end or up to the next word that seems to begin a layer or the stack.
+/// Adds the tokens of what is left, to the end or up to the next word that begins a part.
 fn cut_on<'a>(tokens: &mut Vec<Lexed>, left: Left<'a>, to_end: bool) -> Result<Stop<'a>, AllocError>
     requires { HasRoom left }
     ensures { IfOk result (λ stop. Stops tokens.old.items tokens.new.items left.entry to_end stop) }
 {
+    let before = tokens.len();
     let mut at = left.at;
     let mut behind_number = left.behind_number;
     let mut rest = left.text;
@@ -102,14 +107,14 @@ fn cut_on<'a>(tokens: &mut Vec<Lexed>, left: Left<'a>, to_end: bool) -> Result<S
             rest = behind;
             continue;
         }
-        if !to_end && begins_part(*first, rest) && !tokens.is_empty() {
+        let piece = piece_at(behind_number, *first, behind, rest);
+        if !to_end && begins_part(&piece, rest) && tokens.len() > before {
             return Ok(Stop::Before(Left {
                 text: rest,
                 at,
                 behind_number,
             }));
         }
-        let piece = piece_at(behind_number, *first, behind, rest);
         behind_number = is_number(&piece);
         let Some(more) = take_piece(tokens, piece, at, rest)? else {
             return Ok(Stop::Bad(at));
@@ -128,12 +133,17 @@ fn cut_on<'a>(tokens: &mut Vec<Lexed>, left: Left<'a>, to_end: bool) -> Result<S
     }))
 }
 
-/// Whether a text seems to begin a layer or the stack.
-fn begins_part(first: u8, text: &[u8]) -> bool {
-    match first {
-        b'l' => text.starts_with(b"layer "),
-        b's' => text.starts_with(b"stack "),
-        _ => false,
+/// Whether a piece at the front of a text is a word that begins a part.
+fn begins_part(piece: &Piece, text: &[u8]) -> bool
+    requires { IsFront text.now piece.now }
+    ensures { result ≡ begins_at (found text.now piece.now) }
+{
+    match piece {
+        Piece::Word { behind } => is_part_word(front(text, *behind)),
+        Piece::Gap { .. } => false,
+        Piece::Number { .. } => false,
+        Piece::Symbol { .. } => false,
+        Piece::Bad => false,
     }
 }
 

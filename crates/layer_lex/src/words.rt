@@ -3,6 +3,7 @@ ghost use Rattle.std.specs.Prelude.{◌≡◌, ◌≤◌, ◌++◌, ◌∷◌, [
 ghost use Rattle.std.specs.Option.{option_map};
 ghost use Rattle.std.specs.Str.{bytes_eq};
 ghost use Rattle.layer_ast.specs.Spelling.{word_token as token_of, beside, reserved, kinds};
+ghost use Rattle.layer_lex.specs.Parts.{begins_part};
 ghost use Rattle.layer_lex.specs.Tables.{shown, shown_groups, beside_in_group, are_in_row};
 
 use layer_ast::{At, Kind, Lexed, Sign, Token, Word};
@@ -151,6 +152,14 @@ pub fn push_word(tokens: &mut Vec<Lexed>, word: &[u8], at: At) -> Result<(), All
         }
     }
     Ok(())
+}
+
+/// Whether a word begins a part of a text: a layer or the stack.
+#[tactic(auto, using(crate::proofs::PartWords::layer_word, crate::proofs::PartWords::stack_word))]
+pub fn is_part_word(word: &[u8]) -> bool
+    ensures { result ≡ begins_part (token_of word.now) }
+{
+    word == b"layer".as_slice() || word == b"stack".as_slice()
 }
 
 fn reserved_sign(word: &[u8]) -> Option<Sign>

@@ -1,5 +1,5 @@
 -- Layer after layer, a file is read.
-use Rattle.std.proofs.Common.{◌≡◌, ◌<◌, ℕ, nat_eq, true, length, arith, List, [], ◌∷◌, ◌++◌, map, None, sym, ap, subst, ◌∙◌, append_assoc, append-nil}
+use Rattle.std.proofs.Common.{◌≡◌, ◌<◌, ℕ, nat_eq, true, length, arith, List, [], ◌∷◌, ◌++◌, map, Some, None, sym, ap, subst, ◌∙◌, append_assoc, append-nil}
 use Rattle.layer_ast.specs.declared.syntax.Layer.{Layer}
 use Rattle.layer_ast.specs.declared.tokens.Lexed.{Lexed}
 use Rattle.layer_ast.specs.Cut.{Tokens, cut}
@@ -8,7 +8,9 @@ use Rattle.layer_ast.specs.Spells.{Fits, Spells}
 use Rattle.layer_ast.specs.Tree.{LayerTree, PlaceTree}
 use Rattle.layer_ast.specs.View.{layer_tree}
 use Rattle.layer_lex.specs.declared.Left.{Left}
-use Rattle.layer_lex.specs.Pieces.{in_front, left_of, HasRoom, CutsPart}
+use Rattle.layer_lex.specs.Parts.{CutsPart}
+use Rattle.layer_lex.specs.Pieces.{in_front, left_of, HasRoom, IsBehind}
+use Rattle.layer_lex.proofs.Parting.{made_up}
 use Rattle.layer_machine.specs.Machine.{a_layer}
 use Rattle.layer_machine.proofs.Runs.{accepted_takes, goes_within}
 use Rattle.print_laws.specs.Behind.{tokens_in, Stands}
@@ -26,13 +28,14 @@ pub record Apart (text : List ℕ) (all : List LayerTree) (tokens : List Lexed) 
 
 -- before the first
 pub first_part : (text : List ℕ) (all : List LayerTree) (old tokens : List Lexed) (whole left : Left) → all ≡ [] → old ≡ [] →
-    left_of whole ≡ cut text → CutsPart old tokens whole left → Apart text all tokens left
+    left_of whole ≡ cut text → CutsPart old tokens (left_of whole) (Some (left_of left)) → IsBehind old tokens whole left →
+    Apart text all tokens left
 unfolding Fits
-first_part text all old tokens whole left no_layers no_tokens is part = record {
+first_part text all old tokens whole left no_layers no_tokens is part behind = record {
   done = [];
   stands = rw no_layers (record { fits = tt; within = tt });
-  same = part.same ∙ (ap (λ ts. in_front ts (left_of whole)) no_tokens ∙ is);
-  room = part.room;
+  same = made_up old tokens (left_of whole) (left_of left) part ∙ (ap (λ ts. in_front ts (left_of whole)) no_tokens ∙ is);
+  room = behind.room;
 }
 
 more_tokens : (a b : List Lexed) (t : Tokens) → in_front (a ++ b) t ≡ in_front a (in_front b t)
@@ -40,17 +43,20 @@ more_tokens a b t = ap (λ ts. record { tokens = ts; bad_at = t.bad_at }) (appen
 
 -- one more layer
 pub next_part : (text : List ℕ) (all : List Layer) (l : Layer) (tokens old more : List Lexed) (left next : Left) →
-    Apart text (map layer_tree all) tokens left → IsLayer tokens (layer_tree l) → old ≡ [] → CutsPart old more left next →
+    Apart text (map layer_tree all) tokens left → IsLayer tokens (layer_tree l) → old ≡ [] →
+    CutsPart old more (left_of left) (Some (left_of next)) → IsBehind old more left next →
     Apart text (map layer_tree (all ++ l ∷ [])) more next
-next_part text all l tokens old more left next so_far is none part = record {
+next_part text all l tokens old more left next so_far is none part behind = record {
   done = so_far.done ++ tokens;
   stands =
       subst (λ printed. Stands 100 printed (so_far.done ++ tokens)) (sym (layers-append all l []))
       (layers_then tokens (map layer_tree all) 100 (print.layer (layer_tree l) []) so_far.done so_far.stands is.stands);
   same =
       more_tokens (so_far.done ++ tokens) more (left_of next)
-      ∙ (ap (in_front (so_far.done ++ tokens)) (part.same ∙ ap (λ ts. in_front ts (left_of left)) none) ∙ so_far.same);
-  room = part.room;
+      ∙ (ap (in_front (so_far.done ++ tokens))
+      (made_up old more (left_of left) (left_of next) part ∙ ap (λ ts. in_front ts (left_of left)) none)
+      ∙ so_far.same);
+  room = behind.room;
 }
 
 -- the stack at the end
