@@ -20,9 +20,33 @@ use msg_core::{Fields, Header};
 use slot_pool::Pool;
 use typed_layer::{Block, Emission, MessageExpression, Row, Statement};
 
-/// Runs the statements of a block of the layer at a place. Whether all went as predicted is kept where their decisions didn't change it.
+/// Runs the statements of a block of the layer at a place, and keeps account of whether all has gone as predicted. Many blocks are empty: these
+/// cost no call.
 #[cycle(effect)]
+#[inline(always)]
 pub fn run_block<K: Start, D: Desk>(
+    place: u8,
+    block: &Block,
+    desk: &mut D,
+    pool: &mut Pool,
+    predicted: &mut Predicted,
+) -> Result<(), NoRoom>
+    requires { D.ready K.begun pool.old desk.old }
+    ensures ready { D.ready K.begun pool.new desk.new }
+    ensures did { OnOk result (Did (block_does place (block_tree block.now) (D.shown pool.old desk.old))
+        (D.shown pool.old desk.old) (D.shown pool.new desk.new) predicted.old predicted.new) }
+    ensures spent { Spent (D.free pool.old desk.old) (D.free pool.new desk.new)
+        (block_need K.begun.layout (block_tree block.now)) result }
+{
+    if block.statements.is_empty() {
+        return Ok(());
+    }
+    run_statements::<K, D>(place, block, desk, pool, predicted)
+}
+
+#[cycle(effect)]
+#[inline(never)]
+fn run_statements<K: Start, D: Desk>(
     place: u8,
     block: &Block,
     desk: &mut D,
@@ -182,7 +206,6 @@ fn push<K: Start, D: Desk>(
 }
 
 /// Sends an event, whose arguments are evaluated at once.
-#[inline(never)]
 fn emit<K: Start, D: Desk>(
     place: u8,
     emission: &Emission,

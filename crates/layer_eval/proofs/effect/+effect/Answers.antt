@@ -7,8 +7,8 @@ use Rattle.layer_eval.proofs.Needs.{item_lacks, item_spent, turns_lack, turns_sp
 use Rattle.layer_eval.proofs.Trees.{branch_tree, each_tree}
 use Rattle.layer_eval.proofs.effect.+effect.Goals as goal
 
-pub run_block-returns-in_err-run_statement-clause-spent : goal.run_block-returns-in_err-run_statement-clause-spent
-run_block-returns-in_err-run_statement-clause-spent g t c =
+pub run_statements-returns-in_err-run_statement-clause-spent : goal.run_statements-returns-in_err-run_statement-clause-spent
+run_statements-returns-in_err-run_statement-clause-spent g t c =
     let p = err_from_is_err_and c.from_residual.result c.from_residual.ensures.1 in
     rw (p.1, p.2)
     (item_lacks g.K.Start.begun.layout c.as_slice-statement-items.result.now c.args.block.now.statements.items c.loop-statement.statement-index
@@ -16,8 +16,8 @@ run_block-returns-in_err-run_statement-clause-spent g t c =
     c.in_err-run_statement.field-0.0 c.as_slice-statement-items.ensures.value c.loop-statement-test.true c.statement-item.is
     c.loop-statement.invariant.2 c.in_err-run_statement.ensures.spent)
 
-pub run_block-loop-statement-preserved : goal.run_block-loop-statement-preserved
-run_block-loop-statement-preserved g t c = (
+pub run_statements-loop-statement-preserved : goal.run_statements-loop-statement-preserved
+run_statements-loop-statement-preserved g t c = (
   c.run_statement.ensures.ready,
   block_step c.args.place c.as_slice-statement-items.result.now c.loop-statement.statement-index c.statement-item.result
       (g.D.Desk.shown c.args.pool.now c.args.desk.now) (g.D.Desk.shown c.loop-statement.pool c.loop-statement.desk)

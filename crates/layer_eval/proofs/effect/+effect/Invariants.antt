@@ -7,8 +7,8 @@ use Rattle.layer_eval.specs.Did.{Did, block_does}
 use Rattle.layer_eval.proofs.Needs.{repeated}
 use Rattle.layer_eval.proofs.effect.+effect.Given as goal
 
-abbrev pub invariant-run_block-loop-statement : goal.invariant-run_block-loop-statement
-invariant-run_block-loop-statement g l =
+abbrev pub invariant-run_statements-loop-statement : goal.invariant-run_statements-loop-statement
+invariant-run_statements-loop-statement g l =
     let old = g.D.Desk.shown l.initial.pool l.initial.desk in
     let done = trees (map statement_tree (take l.statement-index l.statement-items)) in
     g.D.Desk.ready g.K.Start.begun l.pool l.desk
