@@ -173,12 +173,22 @@ impl Messages {
         ensures returned { Returned pool.old pool.new (refs (slice_index_or self.old.items k message)) }
     {
         let mut message = message;
+        self.replace_from(k, &mut message, pool);
+        message.close();
+    }
+
+    /// The same with a message that stays where it lies, without headers and bytes.
+    pub fn replace_from(&mut self, k: usize, message: &mut PoolMessage, pool: &mut Pool)
+        requires { Covers pool.old (refs (slice_index_or self.old.items k message.old)) }
+        ensures set { self.new ≡ buffer (slice_set self.old.items k message.old) self.old.capacity }
+        ensures left { message.new ≡ bodiless [] }
+        ensures returned { Returned pool.old pool.new (refs (slice_index_or self.old.items k message.old)) }
+    {
         if k < self.count {
             self.places[k].let_go(pool);
-            self.places[k].take_over(&mut message);
-            message.close();
+            self.places[k].take_over(message);
         } else {
-            message.give_back(pool);
+            message.let_go(pool);
         }
     }
 
