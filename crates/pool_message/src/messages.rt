@@ -36,7 +36,8 @@ impl Messages {
     ghost use Rattle.msg_core.specs.Headers.{most_headers};
     ghost use Rattle.pool_message.specs.Seen.{refs, refs_if, bodiless};
     ghost use Rattle.pool_message.specs.Moves.{CanKeep, Kept, Returned};
-    ghost use Rattle.pool_message.specs.Piled.{pile_refs, without_last, with_header_last};
+    ghost use Rattle.pool_message.specs.Piled.{pile_refs, without_last, last_changed, with_header_last};
+    ghost use Rattle.pool_message.specs.Sent.{first_header, without_first};
 
     /// No message, with so many places.
     pub fn fresh(alloc: Global, places: usize) -> Result<Messages, Memory>
@@ -140,6 +141,18 @@ impl Messages {
             let last = self.count - 1;
             self.places[last].push_header(header);
         }
+    }
+
+    /// Takes the first header off the last message, if there is one.
+    pub fn pop_header_of_last(&mut self) -> Option<Header>
+        ensures first { result ≡ first_header (last_item self.old.items) }
+        ensures rest { self.new ≡ buffer (last_changed without_first self.old.items) self.old.capacity }
+    {
+        if self.count == 0 {
+            return None;
+        }
+        let last = self.count - 1;
+        self.places[last].pop_header()
     }
 
     /// Takes the last message out, if there is one.
