@@ -2,7 +2,7 @@
 use Rattle.std.proofs.Common.{◌≡◌, ℕ, zero, suc, ◌<◌, ◌≤◌, true, false, inl, inr, map, List, [], ◌∷◌, Option, Some, None, option_map, length, drop, get_or, set, slice_get, length-set, refl, sym, ap, subst, ◌∙◌, arith}
 use Rattle.std.specs.List.{AllByRecursion}
 use Rattle.std.specs.Option.{option_map_or}
-use Rattle.std.proofs.lemmas.List.{get_or_past, length-map, set-get_or}
+use Rattle.std.proofs.lemmas.List.{get_or_past, length-map}
 use Rattle.slot_pool.specs.Held.{Held}
 use Rattle.slot_pool.specs.References.{Covers}
 use Rattle.slot_pool.proofs.Held.{below_or_not}
@@ -10,8 +10,10 @@ use Rattle.layer_mean.specs.Effect.{with_slots, with_message}
 use Rattle.layer_mean.specs.State.{row_at, without_front}
 use Rattle.layer_mean.specs.Tree.{Carried, TakenTree}
 use Rattle.layer_mean.specs.Value.{message_in, missing}
-use Rattle.layer_mean.specs.declared.run.Row.{Row}
-use Rattle.cell_store.specs.Kept.{KeptCell, numbers, queues, Kept, nothing_kept, queues_kept, kept_at, kept_rows, rows_set, without_first, first_row}
+use Rattle.cell_store.specs.Kept.{Kept, queues_kept, kept_at, kept_rows, without_first, first_row}
+use Rattle.typed_layer.specs.View.{carried_tree}
+use Rattle.typed_layer.specs.declared.tree.Carried.{Carried as TypedCarried}
+use Rattle.typed_layer.specs.declared.tree.Carried.TheVariants.{Part, Whole}
 use Rattle.layer_desk.specs.Laid.{Laid, is_found, with_found, taken_row}
 use Rattle.layer_desk.specs.Spent.{Begun}
 use Rattle.pool_message.specs.Seen.{refs, seen, Lies, refs_if, LiesIf, row_refs, row_seen, RowLies}
@@ -21,7 +23,8 @@ use Rattle.pool_message.specs.declared.row.PoolRow.{PoolRow}
 use Rattle.file_layer.specs.Stock.{Stock, laid}
 use Rattle.file_layer.specs.Steps.{InPool}
 use Rattle.file_layer.specs.Fits.{IsShort, IsShortIf, StockFits}
-use Rattle.file_layer.specs.Taken.{IsMessageOf, numbers_filled}
+use Rattle.file_layer.specs.Taken.{CanStandIn, StandsIn, message_left, numbers_filled}
+use Rattle.file_layer.proofs.Blank.{blank_stands}
 use Rattle.file_layer.proofs.Fill.{slots_beside, filled_length}
 use Rattle.file_layer.proofs.Held.{row_there, missing_seen}
 use Rattle.file_layer.proofs.Lists.{all-set}
@@ -33,24 +36,13 @@ use Rattle.file_layer.proofs.Scope.{numbers_step}
 
 -- ---- a queue without rows
 
-no_rows : (rows : List PoolRow) → slice_get rows 0 ≡ None → drop 1 rows ≡ rows
+pub none_first : (rows : List PoolRow) → length rows ≡ 0 → slice_get rows 0 ≡ None
+none_first [] none = refl
+none_first (row ∷ rows) none = absurd (omega (arith, none))
+
+pub no_rows : (rows : List PoolRow) → slice_get rows 0 ≡ None → length rows ≡ 0
 no_rows [] none = refl
 no_rows (row ∷ rows) none = absurd (cc)
-
-rows_same : (i : ℕ) (cell : KeptCell PoolRow) → rows_set i (get_or (queues_kept cell) i []) cell ≡ cell
-rows_same i (numbers shape ns) = refl
-rows_same i (queues shape capacity qs) = ap (λ x. queues shape capacity x) (set-get_or qs i [])
-
--- Nothing is taken of it.
-pub nothing_taken : (k l : Kept PoolRow) (c i : ℕ) → first_row k c i ≡ None → l ≡ without_first k c i → l ≡ k
-nothing_taken k l c i none is =
-    is ∙
-    ap (λ cell. record k { cells = set k.cells c cell })
-    (ap (λ rows. rows_set i rows (kept_at k c)) (no_rows (kept_rows k c i) none) ∙ rows_same i (kept_at k c)) ∙
-    ap (λ cells. record k { cells = cells }) (set-get_or k.cells c nothing_kept)
-
-not_found : (see : PoolRow → Row) (k : Kept PoolRow) (c i : ℕ) (o : Option PoolRow) → first_row k c i ≡ o → option_map see (first_row k c i) ≡ option_map see o
-not_found see k c i o is = ap (option_map see) is
 
 pub none_taken : (p : List Held) (s : Stock) (c i : ℕ) (taken : TakenTree) → first_row s.kept c i ≡ None →
     laid p s ≡ taken_row c i taken (laid p s)
@@ -86,6 +78,15 @@ set_outside (y ∷ xs) zero x past = absurd (omega arith)
 set_outside (y ∷ xs) (suc k) x past = ap (λ ys. y ∷ ys) (set_outside xs k x (omega arith))
 
 -- What a row leaves in the scope, or what stands in for it.
+abbrev pub IsMessageOf : Carried → Option PoolMessage → PoolMessage → Type 0
+IsMessageOf carried (Some x) m = m ≡ x
+IsMessageOf carried None m = StandsIn carried m
+
+pub left_is : (carried : TypedCarried) (o : Option PoolMessage) → CanStandIn carried → IsMessageOf (carried_tree carried) o (message_left (carried_tree carried) o)
+left_is carried (Some x) can = refl
+left_is Part None can = record { is = refl; short = omega arith }
+left_is (Whole blank) None can = blank_stands (Whole blank) blank _ refl can refl
+
 module _ (p : List Held) (carried : Carried) where
   message_refs : (o : Option PoolMessage) (m : PoolMessage) → IsMessageOf carried o m → refs m ≡ refs_if o
   message_refs None m is = ap refs is.is

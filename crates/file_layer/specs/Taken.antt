@@ -50,10 +50,10 @@ pub record StandsIn (carried : tree.Carried) (m : PoolMessage) : Type 0 where
   pub is : m ≡ bodiless (missing carried).headers
   pub short : IsShort m
 
--- A row's message, or the one that stands in for it.
-abbrev pub IsMessageOf : tree.Carried → Option PoolMessage → PoolMessage → Type 0
-IsMessageOf carried (Some x) m = m ≡ x
-IsMessageOf carried None m = StandsIn carried m
+-- The message that a row leaves: its own, or the one that stands in for it.
+abbrev pub message_left : tree.Carried → Option PoolMessage → PoolMessage
+message_left carried None = bodiless (missing carried).headers
+message_left carried (Some m) = m
 
 -- Numbers of a scope, with those of a row in these slots.
 abbrev pub numbers_filled : List ℕ → List ℕ → List ℕ → List ℕ

@@ -1,7 +1,7 @@
 //! The desk.
 
 use cell_store::Cells;
-use pool_message::{Events, Messages, Place, PoolRow};
+use pool_message::{Arrival, Events, Messages, PoolRow};
 
 /// The most headers of a message that a layer keeps: those of the places above it.
 pub(crate) const MOST_ABOVE: u32 = 23;
@@ -21,7 +21,7 @@ pub struct FileDesk {
     pub(crate) cells: Cells<PoolRow>,
     pub(crate) numbers: Vec<u32>,
     pub(crate) messages: Messages,
-    pub(crate) arrived: Place,
+    pub(crate) arrived: Arrival,
     pub(crate) hand: Messages,
     pub(crate) sent: Events,
     /// How many events had been sent when the visit began, and how many there may be behind it.

@@ -89,7 +89,7 @@ fn bind_arrived<K: Start>(desk: &mut FileDesk, pool: &Pool)
     ensures count { length desk.new.messages.items ≤ length desk.old.messages.items + 1 }
     ensures capacity { desk.new.messages.capacity ≡ desk.old.messages.capacity }
 {
-    desk.messages.take_in(&mut desk.arrived);
+    desk.arrived.go_behind(&mut desk.messages);
 }
 
 /// Puts so many messages without bytes behind those of the scope.

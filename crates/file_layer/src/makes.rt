@@ -1,6 +1,6 @@
 //! Desks that are made, and that end.
 
-ghost use Rattle.std.specs.Prelude.{◌≡◌, ◌+◌, ◌≤◌, [], map, IfOk, IfSome};
+ghost use Rattle.std.specs.Prelude.{◌≡◌, ◌+◌, ◌≤◌, [], None, map, IfOk, IfSome};
 ghost use Rattle.circular_buffer.specs.Buffer.{buffer};
 ghost use Rattle.slot_pool.specs.References.{Covers};
 ghost use Rattle.layer_room.specs.Layouts as room;
@@ -17,7 +17,7 @@ ghost use Rattle.file_layer.specs.Stock.{kept_refs};
 use crate::desk::{FileDesk, MOST_BOUND, MOST_OWN, MOST_ROWS};
 use cell_store::{Cells, MOST_MEMBERS};
 use layer_room::{Reserve, reserve_for};
-use pool_message::{Events, Messages, Place, PoolRow};
+use pool_message::{Arrival, Events, Messages, PoolRow};
 use slot_pool::{Memory, Pool};
 use std::alloc::{AllocError, Global};
 use typed_layer::{Cell, Form, TypedLayer};
@@ -25,24 +25,43 @@ use typed_layer::{Cell, Form, TypedLayer};
 /// Where messages lie, and a list of what is sent that keeps nothing.
 struct Lists {
     messages: Messages,
+    arrived: Arrival,
     hand: Messages,
     sent: Events,
 }
 
+/// Places for the messages of a scope, and as many for what arrives.
+fn fresh_scope(alloc: Global, places: usize) -> Result<(Messages, Arrival), Memory>
+    requires { 1 ≤ places }
+    ensures { IfOk result (λ l. (l.0 ≡ buffer [] places) × (l.1 ≡ None)) }
+{
+    let messages = Messages::fresh(alloc, places)?;
+    match Arrival::fresh(alloc, places) {
+        Ok(arrived) => Ok((messages, arrived)),
+        Err(error) => {
+            messages.close();
+            Err(error)
+        }
+    }
+}
+
 impl Lists {
     fn fresh(alloc: Global, messages: usize, hand: usize) -> Result<Lists, Memory>
-        ensures { IfOk result (λ l. (l.messages ≡ buffer [] messages) × (l.hand ≡ buffer [] hand) × (l.sent ≡ buffer [] 0)) }
+        requires { 1 ≤ messages }
+        ensures { IfOk result (λ l. (l.messages ≡ buffer [] messages) × (l.arrived ≡ None) × (l.hand ≡ buffer [] hand) × (l.sent ≡ buffer [] 0)) }
     {
         let sent = Events::fresh(alloc, 0)?;
-        match Messages::fresh(alloc, messages) {
-            Ok(messages) => match Messages::fresh(alloc, hand) {
+        match fresh_scope(alloc, messages) {
+            Ok((messages, arrived)) => match Messages::fresh(alloc, hand) {
                 Ok(hand) => Ok(Lists {
                     messages,
+                    arrived,
                     hand,
                     sent,
                 }),
                 Err(error) => {
                     messages.close();
+                    arrived.close();
                     sent.close();
                     Err(error)
                 }
@@ -55,14 +74,16 @@ impl Lists {
     }
 
     fn close(self)
-        requires { (self.messages.items ≡ []) × (self.hand.items ≡ []) × (self.sent.items ≡ []) }
+        requires { (self.messages.items ≡ []) × (self.arrived ≡ None) × (self.hand.items ≡ []) × (self.sent.items ≡ []) }
     {
         let Lists {
             messages,
+            arrived,
             hand,
             sent,
         } = self;
         messages.close();
+        arrived.close();
         hand.close();
         sent.close();
     }
@@ -132,6 +153,7 @@ pub(crate) fn make(
         Ok(cells) => {
             let Lists {
                 messages,
+                arrived,
                 hand,
                 sent,
             } = lists;
@@ -139,7 +161,7 @@ pub(crate) fn make(
                 cells,
                 numbers,
                 messages,
-                arrived: Place::empty(),
+                arrived,
                 hand,
                 sent,
                 first: 0,
@@ -201,11 +223,11 @@ pub(crate) fn close(desk: FileDesk, pool: &mut Pool, layer: &TypedLayer)
         first: _,
         places: _,
     } = desk;
-    arrived.close();
     give_rows_back(&mut cells, pool);
     cells.destroy();
     let lists = Lists {
         messages,
+        arrived,
         hand,
         sent,
     };

@@ -19,7 +19,7 @@ use crate::desk::{FileDesk, MOST_ABOVE};
 use layer_ast::Dir;
 use layer_desk::{Envelope, NoRoom, Start};
 use msg_core::Header;
-use pool_message::{Events, Messages, Place, PoolMessage};
+use pool_message::{Arrival, Events, Messages, Place, PoolMessage};
 use slot_pool::Pool;
 
 /// The newest message in hand becomes as it is sent, where it lies: going down it gets a header.
@@ -34,7 +34,7 @@ fn put_last_behind(direction: Dir, header: Header, hand: &mut Messages)
 }
 
 /// A message that arrived becomes as it is sent, where it lies.
-fn put_behind(direction: Dir, header: Header, arrived: &mut Place)
+fn put_behind(direction: Dir, header: Header, arrived: &mut Arrival)
     requires { IsShortIf arrived.old }
     ensures { arrived.new ≡ option_map (sent_behind direction header) arrived.old }
 {
@@ -99,13 +99,24 @@ pub(crate) fn send_first<K: Start>(
     Ok(())
 }
 
+/// A message without bytes, going down behind a header.
+fn nothing_behind(direction: Dir, header: Header) -> PoolMessage
+    ensures { result ≡ sent_behind direction header (bodiless []) }
+{
+    let mut message = PoolMessage::nothing();
+    match direction {
+        Dir::Up => {}
+        Dir::Down => message.push_header(header),
+    }
+    message
+}
+
 /// Sends an event with a message without bytes, going down behind a header.
 fn send_nothing(sent: &mut Events, direction: Dir, envelope: Envelope, header: Header)
     requires { length sent.old.items < sent.old.capacity }
     ensures { sent.new ≡ buffer (sent.old.items ++ (direction, pool_event envelope (Some (sent_behind direction header (bodiless [])))) ∷ []) sent.old.capacity }
 {
-    let mut message = Place::of(PoolMessage::nothing());
-    put_behind(direction, header, &mut message);
+    let mut message = Place::of(nothing_behind(direction, header));
     sent.push_from(
         direction,
         envelope.kind,
@@ -196,7 +207,7 @@ pub(crate) fn pass_on<K: Start>(
         return Err(NoRoom::Headers);
     }
     put_behind(direction, header, &mut desk.arrived);
-    desk.sent.push_from(
+    desk.sent.push_arrived(
         direction,
         envelope.kind,
         envelope.peer,

@@ -1,6 +1,8 @@
 //! Rows that are read and taken.
 
-ghost use Rattle.std.specs.Prelude.{◌≡◌, option_copied, IfOk, OnOk, vec_capacity};
+ghost use Rattle.std.specs.Prelude.{◌≡◌, option_copied, slice_index_or, slice_set, IfOk, OnOk, vec_capacity};
+ghost use Rattle.circular_buffer.specs.Buffer.{buffer};
+ghost use Rattle.slot_pool.specs.References.{Covers};
 ghost use Rattle.layer_mean.specs.State.{row_at};
 ghost use Rattle.layer_mean.specs.Value.{message_in};
 ghost use Rattle.typed_layer.specs.View.{carried_tree, taken_tree};
@@ -8,15 +10,17 @@ ghost use Rattle.cell_store.specs.Kept.{kept_row};
 ghost use Rattle.layer_desk.specs.Laid.{lifted, is_found, taken_row};
 ghost use Rattle.layer_desk.specs.Need.{held_need, taken_need};
 ghost use Rattle.layer_desk.specs.Spent.{Spent, Lifted};
+ghost use Rattle.pool_message.specs.Moves.{Returned};
+ghost use Rattle.pool_message.specs.Seen.{refs};
 ghost use Rattle.file_layer.specs.Stock.{laid};
 ghost use Rattle.file_layer.specs.Ready.{stock_of, room_of, IsReady};
-ghost use Rattle.file_layer.specs.Taken.{message_of, CanStandIn, JudgesBlank, JudgesWidth, JudgesTaken, StandsIn, IsMessageOf, numbers_filled};
+ghost use Rattle.file_layer.specs.Taken.{message_of, CanStandIn, JudgesBlank, JudgesWidth, JudgesTaken, StandsIn, message_left, numbers_filled};
 
 use crate::desk::{FileDesk, MOST_ABOVE};
 use cell_store::Cells;
 use layer_desk::{NoRoom, Start};
 use msg_core::Fields;
-use pool_message::{PoolMessage, PoolRow, give_back_if_any};
+use pool_message::{Messages, PoolMessage, PoolRow, give_back_if_any};
 use slot_pool::Pool;
 use typed_layer::{Blank, Carried, Taken};
 
@@ -96,14 +100,25 @@ pub(crate) fn lift_row<K: Start>(
     }
 }
 
-/// The message of a taken row, or the one that stands in for it.
-fn message_or(message: Option<PoolMessage>, carried: Carried) -> PoolMessage
-    requires { CanStandIn carried }
-    ensures { IsMessageOf (carried_tree carried) message result }
+/// The message of a taken row, or the one that stands in for it, takes the place of one of the scope, whose reference goes back.
+fn put_message(
+    messages: &mut Messages,
+    slot: u8,
+    message: Option<PoolMessage>,
+    carried: Carried,
+    pool: &mut Pool,
+)
+    requires blank { CanStandIn carried }
+    requires there { Covers pool.old (refs (slice_index_or messages.old.items slot (message_left (carried_tree carried) message))) }
+    ensures set { messages.new ≡ buffer (slice_set messages.old.items slot (message_left (carried_tree carried) message)) messages.old.capacity }
+    ensures returned { Returned pool.old pool.new (refs (slice_index_or messages.old.items slot (message_left (carried_tree carried) message))) }
 {
     match message {
-        Some(message) => message,
-        None => stand_in(carried),
+        Some(mut message) => {
+            messages.replace_from(slot as usize, &mut message, pool);
+            message.close();
+        }
+        None => messages.replace(slot as usize, stand_in(carried), pool),
     }
 }
 
@@ -148,15 +163,17 @@ pub(crate) fn take<K: Start>(
     if is_misfit(taken) {
         return Err(NoRoom::Misfit);
     }
-    let Some(row) = desk.cells.take(cell, index) else {
+    if desk.cells.len(cell, index) == 0 {
         return Ok(false);
+    }
+    let Some(row) = desk.cells.take(cell, index) else {
+        unreachable!();
     };
     let PoolRow { numbers, message } = row;
     set_numbers(&mut desk.numbers, &taken.numbers, &numbers);
     match taken.message {
         Some(slot) => {
-            let message = message_or(message, slot.carried);
-            desk.messages.replace(usize::from(slot.slot), message, pool);
+            put_message(&mut desk.messages, slot.slot, message, slot.carried, pool);
             Ok(true)
         }
         None => {

@@ -1,18 +1,18 @@
 -- Messages one behind the other: the last one is changed, or goes, and another takes the place of one.
-use Rattle.std.proofs.Common.{◌≡◌, ℕ, zero, suc, ◌+◌, ◌-◌, ◌<◌, ◌≤◌, List, [], ◌∷◌, ◌++◌, set, get_or, take, length, refl, sym, ap, ◌∙◌, arith}
-use Rattle.std.specs.Prelude.{slice_get}
+use Rattle.std.proofs.Common.{◌≡◌, ℕ, zero, suc, ◌+◌, ◌-◌, ◌<◌, ◌≤◌, ◌==◌, Bool, true, List, [], ◌∷◌, ◌++◌, set, get_or, take, length, refl, sym, ap, ◌∙◌, arith}
+use Rattle.std.specs.Prelude.{slice_get, Option, None, option_map, option_to_list}
+use Rattle.std.proofs.lemmas.Bool.{eqb-true}
+use Rattle.std.proofs.lemmas.List.{append-nil}
 use Rattle.std.proofs.Math.Seq.{take-set-lt}
-use Rattle.circular_buffer.specs.Buffer.{last_item}
+use Rattle.circular_buffer.specs.Buffer.{Buffer, buffer, last_item}
 use Rattle.slot_pool.specs.Held.{Held}
 use Rattle.slot_pool.specs.References.{Moved, Covers}
 use Rattle.slot_pool.specs.Times.{times}
 use Rattle.slot_pool.proofs.Times.{times-append}
 use Rattle.slot_pool.proofs.References.{moved-chain, moved-beside, moved-reordered}
-use Rattle.msg_core.specs.declared.message.Header.{Header}
 use Rattle.pool_message.specs.Moves.{Returned}
-use Rattle.pool_message.specs.Piled.{pile_refs, without_last, with_header_last}
+use Rattle.pool_message.specs.Piled.{pile_refs, without_last, last_changed}
 use Rattle.pool_message.specs.Seen.{refs, refs_if}
-use Rattle.pool_message.specs.Sent.{with_header}
 use Rattle.pool_message.specs.declared.message.PoolMessage.{PoolMessage}
 
 -- references are those of the last, and of the others
@@ -46,20 +46,55 @@ module _ (p q : List Held) (ms : List PoolMessage) (some : 0 < length ms) (gone 
   pub moved_others : (s : List Held) (from : List ℕ) → Moved s p from (pile_refs ms) → Moved s q from (pile_refs (without_last ms))
   moved_others s from moved = moved-chain s p q from (pile_refs ms) (pile_refs (without_last ms)) moved last_gone
 
--- the last one gets a header
-headed_at : (header : Header) (ms : List PoolMessage) (k : ℕ) (d m : PoolMessage) → k < length ms → m ≡ with_header header (get_or ms k d) →
-    take (suc k) (set ms k m) ≡ with_header_last header (take (suc k) ms)
-headed_at header [] k d m few is = absurd (omega (arith, few))
-headed_at header (x ∷ ms) zero d m few is = ap (λ (z : PoolMessage). z ∷ []) is
-headed_at header (x ∷ []) (suc k) d m few is = absurd (omega (arith, few))
-headed_at header (x ∷ x' ∷ ms) (suc k) d m few is = ap (λ zs. x ∷ zs) (headed_at header (x' ∷ ms) k d m (omega (arith, few)) is)
+-- the last one becomes another
+changed_at : (f : PoolMessage → PoolMessage) (ms : List PoolMessage) (k : ℕ) (d m : PoolMessage) → k < length ms → m ≡ f (get_or ms k d) →
+    take (suc k) (set ms k m) ≡ last_changed f (take (suc k) ms)
+changed_at f [] k d m few is = absurd (omega (arith, few))
+changed_at f (x ∷ ms) zero d m few is = ap (λ (z : PoolMessage). z ∷ []) is
+changed_at f (x ∷ []) (suc k) d m few is = absurd (omega (arith, few))
+changed_at f (x ∷ x' ∷ ms) (suc k) d m few is = ap (λ zs. x ∷ zs) (changed_at f (x' ∷ ms) k d m (omega (arith, few)) is)
 
-pub headed_last : (header : Header) (ms : List PoolMessage) (n : ℕ) (d m : PoolMessage) → 0 < n → n ≤ length ms → m ≡ with_header header (get_or ms (n - 1) d) →
-    take n (set ms (n - 1) m) ≡ with_header_last header (take n ms)
-headed_last header ms n d m some few is =
+pub changed_last : (f : PoolMessage → PoolMessage) (ms : List PoolMessage) (n : ℕ) (d m : PoolMessage) → 0 < n → n ≤ length ms → m ≡ f (get_or ms (n - 1) d) →
+    take n (set ms (n - 1) m) ≡ last_changed f (take n ms)
+changed_last f ms n d m some few is =
     let one : n ≡ suc (n - 1) = omega (arith, some) in
-    ap (λ j. take j (set ms (n - 1) m)) one ∙ headed_at header ms (n - 1) d m (omega (arith, some, few)) is
-    ∙ sym (ap (λ j. with_header_last header (take j ms)) one)
+    ap (λ j. take j (set ms (n - 1) m)) one ∙ changed_at f ms (n - 1) d m (omega (arith, some, few)) is
+    ∙ sym (ap (λ j. last_changed f (take j ms)) one)
+
+-- one message or none
+pub one_changed : (f : PoolMessage → PoolMessage) (ms : List PoolMessage) → length ms ≤ 1 →
+    (slice_get (last_changed f ms) 0 ≡ option_map f (slice_get ms 0)) × (length (last_changed f ms) ≤ 1)
+one_changed f [] few = (refl, omega arith)
+one_changed f (m ∷ []) few = (refl, omega arith)
+one_changed f (m ∷ m' ∷ ms) few = absurd (omega (arith, few))
+
+pub one_refs : (ms : List PoolMessage) → length ms ≤ 1 → pile_refs ms ≡ refs_if (slice_get ms 0)
+one_refs [] few = refl
+one_refs (m ∷ []) few = append-nil (refs m)
+one_refs (m ∷ m' ∷ ms) few = absurd (omega (arith, few))
+
+pub one_listed : (ms : List PoolMessage) → length ms ≤ 1 → ms ≡ option_to_list (slice_get ms 0)
+one_listed [] few = refl
+one_listed (m ∷ []) few = refl
+one_listed (m ∷ m' ∷ ms) few = absurd (omega (arith, few))
+
+pub none_there : (ms : List PoolMessage) → slice_get ms 0 ≡ None → ms ≡ []
+none_there [] none = refl
+none_there (m ∷ ms) none = absurd (cc)
+
+-- the one there is comes to where there are none, in as many places
+empty_is : (ms : List PoolMessage) → length ms ≡ 0 → ms ≡ []
+empty_is [] is = refl
+empty_is (m ∷ ms) is = absurd (omega (arith, is))
+
+pub swapped : (one others : Buffer PoolMessage) (o : Option PoolMessage) → length one.items ≤ 1 → slice_get one.items 0 ≡ o →
+    (empty : Bool) → empty ≡ (length others.items == 0) → empty ≡ true → (m n : ℕ) → m ≡ others.capacity → n ≡ one.capacity → m ≡ n →
+    one ≡ buffer (others.items ++ option_to_list o) others.capacity
+swapped one others o few at empty is none m n theirs own same =
+    let no_others : others.items ≡ [] = empty_is others.items (eqb-true (length others.items) 0 (sym is ∙ none)) in
+    (λ j. buffer (one_listed one.items few j) ((sym own ∙ sym same ∙ theirs) j))
+    ∙ ap (λ x. buffer (option_to_list x) others.capacity) at
+    ∙ ap (λ ms. buffer (ms ++ option_to_list o) others.capacity) (sym no_others)
 
 -- one is taken away, and another put there
 set_again : {A : Type 0} (xs : List A) (k : ℕ) (a b : A) → set (set xs k a) k b ≡ set xs k b

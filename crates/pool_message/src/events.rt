@@ -8,6 +8,7 @@ ghost use Rattle.pool_message.specs.Piled.{without_last};
 ghost use Rattle.pool_message.specs.Seen.{refs, event_refs};
 ghost use Rattle.pool_message.specs.Sent.{sent_refs, most_events, first_sent, sent_behind, message_passed, event_passed, bared, CanPass};
 
+use crate::arrival::Arrival;
 use crate::event::PoolEvent;
 use crate::message::PoolMessage;
 use crate::messages::Messages;
@@ -158,6 +159,27 @@ impl Events {
         fill_from(&mut self.slots[*k as usize], message);
     }
 
+    /// Puts an event of this kind, with these numbers and with the message that arrived, if there is one, behind the others. None is left there.
+    pub fn push_arrived(
+        &mut self,
+        direction: Dir,
+        kind: Kind,
+        peer: u32,
+        a: u32,
+        b: u32,
+        message: &mut Arrival,
+    )
+        requires { length self.old.items < self.old.capacity }
+        ensures pushed { self.new ≡ buffer (self.old.items ++ (direction, record { kind = kind; peer = peer; a = a; b = b; message = message.old }) ∷ []) self.old.capacity }
+        ensures left { message.new ≡ None }
+    {
+        self.push_bare(direction, kind, peer, a, b);
+        let Some(k) = self.order.back() else {
+            unreachable!();
+        };
+        fill_arrived(&mut self.slots[*k as usize], message);
+    }
+
     /// Puts an event of this kind, with these numbers and without a message, behind the others.
     pub fn push_bare(&mut self, direction: Dir, kind: Kind, peer: u32, a: u32, b: u32)
         requires { length self.old.items < self.old.capacity }
@@ -243,8 +265,8 @@ impl Events {
         );
     }
 
-    /// The first one goes, and its message to an empty place.
-    pub fn take_first(&mut self, message: &mut Place)
+    /// The first one goes, and its message arrives where there was none.
+    pub fn take_first(&mut self, message: &mut Arrival)
         requires some { 0 < length self.old.items }
         requires empty { message.old ≡ None }
         ensures message { message.new ≡ (first_sent self.old.items).1.message }
@@ -364,6 +386,15 @@ fn fill_from(sent: &mut (Dir, PoolEvent), message: &mut Place)
     sent.1.message.take_over(message);
 }
 
+/// An event without a message takes the one that arrived, if there is one.
+fn fill_arrived(sent: &mut (Dir, PoolEvent), message: &mut Arrival)
+    requires { sent.old.1.message ≡ None }
+    ensures filled { sent.new ≡ (sent.old.0, record sent.old.1 { message = message.old }) }
+    ensures left { message.new ≡ None }
+{
+    message.move_to(&mut sent.1.message);
+}
+
 /// An event without a message takes the last of some, if there is one.
 fn fill_last(sent: &mut (Dir, PoolEvent), messages: &mut Messages)
     requires { sent.old.1.message ≡ None }
@@ -423,8 +454,8 @@ fn drop_message(sent: &mut (Dir, PoolEvent), pool: &mut Pool)
     sent.1.message.let_go(pool);
 }
 
-/// An event gives its message to an empty place.
-fn give_message(sent: &mut (Dir, PoolEvent), message: &mut Place)
+/// The message of an event arrives where there was none.
+fn give_message(sent: &mut (Dir, PoolEvent), message: &mut Arrival)
     requires { message.old ≡ None }
     ensures message { message.new ≡ sent.old.1.message }
     ensures left { sent.new ≡ bared sent.old }

@@ -2,6 +2,7 @@
 //! Nothing here takes memory.
 #![tactic(auto)]
 
+mod arrival;
 mod event;
 mod events;
 mod headers;
@@ -14,6 +15,7 @@ mod part;
 mod place;
 mod row;
 
+pub use arrival::Arrival;
 pub use event::PoolEvent;
 pub use events::{Events, MOST_EVENTS};
 pub use laws::what_lies_stays;

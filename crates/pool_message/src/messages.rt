@@ -36,7 +36,8 @@ impl Messages {
     ghost use Rattle.msg_core.specs.Headers.{most_headers};
     ghost use Rattle.pool_message.specs.Seen.{refs, refs_if, bodiless};
     ghost use Rattle.pool_message.specs.Moves.{CanKeep, Kept, Returned};
-    ghost use Rattle.pool_message.specs.Piled.{pile_refs, without_last, with_header_last};
+    ghost use Rattle.pool_message.specs.Piled.{pile_refs, without_last, last_changed, with_header_last};
+    ghost use Rattle.pool_message.specs.Sent.{first_header, without_first};
 
     /// No message, with so many places.
     pub fn fresh(alloc: Global, places: usize) -> Result<Messages, Memory>
@@ -142,6 +143,18 @@ impl Messages {
         }
     }
 
+    /// Takes the first header off the last message, if there is one.
+    pub fn pop_header_of_last(&mut self) -> Option<Header>
+        ensures first { result ≡ first_header (last_item self.old.items) }
+        ensures rest { self.new ≡ buffer (last_changed without_first self.old.items) self.old.capacity }
+    {
+        if self.count == 0 {
+            return None;
+        }
+        let last = self.count - 1;
+        self.places[last].pop_header()
+    }
+
     /// Takes the last message out, if there is one.
     pub fn pop(&mut self) -> Option<PoolMessage>
         ensures last { result ≡ last_item self.old.items }
@@ -173,12 +186,22 @@ impl Messages {
         ensures returned { Returned pool.old pool.new (refs (slice_index_or self.old.items k message)) }
     {
         let mut message = message;
+        self.replace_from(k, &mut message, pool);
+        message.close();
+    }
+
+    /// The same with a message that stays where it lies, without headers and bytes.
+    pub fn replace_from(&mut self, k: usize, message: &mut PoolMessage, pool: &mut Pool)
+        requires { Covers pool.old (refs (slice_index_or self.old.items k message.old)) }
+        ensures set { self.new ≡ buffer (slice_set self.old.items k message.old) self.old.capacity }
+        ensures left { message.new ≡ bodiless [] }
+        ensures returned { Returned pool.old pool.new (refs (slice_index_or self.old.items k message.old)) }
+    {
         if k < self.count {
             self.places[k].let_go(pool);
-            self.places[k].take_over(&mut message);
-            message.close();
+            self.places[k].take_over(message);
         } else {
-            message.give_back(pool);
+            message.let_go(pool);
         }
     }
 

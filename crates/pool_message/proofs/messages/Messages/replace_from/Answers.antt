@@ -2,7 +2,7 @@ use Rattle.std.proofs.Common.{◌∙◌, ap}
 use Rattle.std.specs.Prelude.{slice_set}
 use Rattle.circular_buffer.specs.Buffer.{buffer}
 use Rattle.pool_message.proofs.Piles.{replaced}
-use Rattle.pool_message.proofs.messages.Messages.replace.Goals as goal
+use Rattle.pool_message.proofs.messages.Messages.replace_from.Goals as goal
 
 pub returns-then-k-self-clause-set : goal.returns-then-k-self-clause-set
 returns-then-k-self-clause-set c =
