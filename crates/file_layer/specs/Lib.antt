@@ -18,4 +18,3 @@ pub mod Keeps
 pub mod Layer
 pub mod Making
 pub mod OwnCells
-pub mod Passes

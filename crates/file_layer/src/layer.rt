@@ -1,13 +1,17 @@
 //! A file's layer, as a stage of a run.
 
+ghost use Rattle.std.specs.Prelude.{◌≡◌};
+ghost use Rattle.layer_stage.specs.Taken.{one_more};
+
 use crate::desk::FileDesk;
 use crate::maker::Maker;
 use crate::makes::{close, make, restart};
-use crate::passes::{lets_pass, none_header};
+use crate::passes::{lets_first_pass, lets_pass, none_header};
 use crate::visits::visit;
+use layer_ast::Dir;
 use layer_eval::Predicted;
 use layer_stage::Stage;
-use pool_message::{Events, PoolRow};
+use pool_message::{Events, PoolEvent, PoolRow, pass_message};
 use slot_pool::{Memory, Pool};
 use std::alloc::Global;
 use std::rc::Rc;
@@ -141,6 +145,13 @@ impl FileLayer {
     }
 }
 
+/// One event more was taken.
+fn count_one(taken: &mut u64)
+    ensures { taken.new ≡ one_more taken.old }
+{
+    *taken = taken.saturating_add(1);
+}
+
 impl Stage for FileLayer {
     ghost use Rattle.file_layer.specs.Layer.{place_of, tree_of, refs_of, state_in, taken_by, IsInOrder};
     ghost use Rattle.file_layer.specs.Staged.{layer_stays, layer_keeps_few, layer_keeps};
@@ -159,12 +170,22 @@ impl Stage for FileLayer {
 
     #[tactic(auto, unfolding(crate::specs::Layer::place_of, crate::specs::Layer::tree_of, crate::specs::Layer::refs_of, crate::specs::Layer::state_in, crate::specs::Layer::taken_by, crate::specs::Layer::IsInOrder))]
     fn take(&mut self, pool: &mut Pool, events: &mut Events) -> Predicted {
-        self.taken = self.taken.saturating_add(1);
-        if lets_pass(&self.layer, events) {
+        count_one(&mut self.taken);
+        if lets_first_pass(&self.layer, events) {
             events.pass(none_header(self.place));
             return Predicted::usual();
         }
         visit(self.place, &self.layer, &mut self.desk, pool, events)
+    }
+
+    #[tactic(auto, unfolding(crate::specs::Layer::place_of, crate::specs::Layer::tree_of, crate::specs::Layer::refs_of, crate::specs::Layer::state_in, crate::specs::Layer::taken_by, crate::specs::Layer::IsInOrder))]
+    fn pass(&mut self, direction: Dir, event: &mut PoolEvent) -> bool {
+        if !lets_pass(&self.layer, direction, event) {
+            return false;
+        }
+        count_one(&mut self.taken);
+        pass_message(direction, none_header(self.place), &mut event.message);
+        true
     }
 
     ghost frame = { layer_stays };

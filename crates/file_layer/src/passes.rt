@@ -5,26 +5,31 @@ ghost use Rattle.slot_pool.specs.Held.{Held};
 ghost use Rattle.layer_ast.specs.declared.tokens.Dir.TheVariants.{Up};
 ghost use Rattle.layer_mean.specs.Visit as spec;
 ghost use Rattle.layer_stage.specs.Front.{first_way, first_seen};
-ghost use Rattle.pool_message.specs.Seen.{seen_if};
+ghost use Rattle.layer_stage.specs.Passes.{is_passed};
+ghost use Rattle.pool_message.specs.Seen.{seen_if, event_seen};
 ghost use Rattle.typed_layer.specs.View.{layer_tree};
-ghost use Rattle.file_layer.specs.Passes.{is_passed};
 
 use layer_ast::Dir;
 use msg_core::{Fields, Header};
-use pool_message::{Events, Place};
+use pool_message::{Events, Place, PoolEvent};
 use typed_layer::TypedLayer;
 
-/// Whether the first of the events passes a layer as it is but for its header: the layer has no handler for it, and it goes down, or up behind
-/// the header `none` or behind nothing.
-pub(crate) fn lets_pass(layer: &TypedLayer, events: &Events) -> bool
+/// Whether an event passes a layer as it is but for its header: the layer has no handler for it, and it goes down, or up behind the header
+/// `none` or behind nothing.
+pub(crate) fn lets_pass(layer: &TypedLayer, direction: Dir, event: &PoolEvent) -> bool
+    ensures { (p : List Held) → result ≡ is_passed (layer_tree layer.now) direction (event_seen p event.now) }
+{
+    tag_met(direction, &event.message) == 0
+        && layer.handlers.find(direction, event.kind, 0).is_none()
+}
+
+/// Whether the first of the events does.
+pub(crate) fn lets_first_pass(layer: &TypedLayer, events: &Events) -> bool
     requires { 0 < length events.now.items }
     ensures { (p : List Held) → result ≡ is_passed (layer_tree layer.now) (first_way events.now.items) (first_seen p events.now.items) }
 {
     match events.first() {
-        Some((direction, event)) => {
-            tag_met(direction, &event.message) == 0
-                && layer.handlers.find(direction, event.kind, 0).is_none()
-        }
+        Some((direction, event)) => lets_pass(layer, direction, event),
         None => unreachable!(),
     }
 }

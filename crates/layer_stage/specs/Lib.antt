@@ -1,4 +1,5 @@
 pub mod Front
 pub mod Kept
+pub mod Passes
 pub mod Room
 pub mod Taken

@@ -4,5 +4,5 @@
 mod laws;
 mod stage;
 
-pub use laws::needs_are_those_at_a_desk;
+pub use laws::{events_that_pass_are_sent_on, needs_are_those_at_a_desk};
 pub use stage::Stage;

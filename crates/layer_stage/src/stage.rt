@@ -1,6 +1,6 @@
 //! Stages of a run.
 
-ghost use Rattle.std.specs.Prelude.{◌≡◌, ℕ, ◌+◌, ◌<◌, ◌≤◌, List, ◌++◌, length};
+ghost use Rattle.std.specs.Prelude.{◌≡◌, ℕ, ◌+◌, ◌<◌, ◌≤◌, List, false, ◌++◌, length, if◌then◌else◌};
 ghost use Rattle.slot_pool.specs.Held.{Held, spare};
 ghost use Rattle.slot_pool.specs.References.{Moved, Covers};
 ghost use Rattle.layer_mean.specs.State.{State};
@@ -10,12 +10,15 @@ ghost use Rattle.layer_desk.specs.Need.{most_above};
 ghost use Rattle.layer_eval.specs.Did.{as_predicted};
 ghost use Rattle.layer_stage.specs.Front.{first_way, first_seen, behind_first};
 ghost use Rattle.layer_stage.specs.Kept.{messages_kept};
+ghost use Rattle.layer_stage.specs.Passes.{is_passed, passed_by};
 ghost use Rattle.layer_stage.specs.Room.{slots_needed, places_needed, headers_met, most_counted, most_kept, CountsWithin};
 ghost use Rattle.layer_stage.specs.Taken.{one_more};
-ghost use Rattle.pool_message.specs.Sent.{sent_refs, sent_seen, SentLie};
+ghost use Rattle.pool_message.specs.Seen.{event_seen};
+ghost use Rattle.pool_message.specs.Sent.{sent_refs, sent_seen, SentLie, CanPass};
 
+use layer_ast::Dir;
 use layer_eval::Predicted;
-use pool_message::Events;
+use pool_message::{Events, PoolEvent};
 use slot_pool::Pool;
 
 /// A layer at its place, with its state. Bodies of messages stand in the pool beside it, and a visit takes no memory.
@@ -66,6 +69,20 @@ pub trait Stage {
         ensures place { place self.new ≡ place self.old }
         ensures layer { layer self.new ≡ layer self.old }
         ensures taken { taken self.new ≡ one_more (taken self.old) };
+
+    /// Lets an event pass where the layer has no handler for it, and says whether it did. It is then what a visit by it sends, and the layer
+    /// took one event more; all else is as it was.
+    fn pass(&mut self, direction: Dir, event: &mut PoolEvent) -> bool
+        requires room { CanPass direction event.old.message }
+        ensures passes { (p : List Held) → result ≡ is_passed (layer self.old) direction (event_seen p event.old) }
+        ensures event { event.new ≡ (if result then passed_by (place self.old) direction event.old else event.old) }
+        ensures kept { result ≡ false → self.new ≡ self.old }
+        ensures refs { refs self.new ≡ refs self.old }
+        ensures ready { (p : List Held) → ready p self.old → ready p self.new }
+        ensures state { (p : List Held) → state p self.new ≡ state p self.old }
+        ensures place { place self.new ≡ place self.old }
+        ensures layer { layer self.new ≡ layer self.old }
+        ensures taken { taken self.new ≡ (if result then one_more (taken self.old) else taken self.old) };
 
     /// Where other references move, it stays as it is.
     ghost frame: { (p q : List Held) (a b : List ℕ) (s : Self) → Moved p q a b → Covers p (a ++ refs s) → ready p s →

@@ -3,3 +3,4 @@ pub mod Piled
 pub mod Seen
 pub mod Sent
 pub mod Slots
+pub mod Lends

@@ -51,6 +51,9 @@ impl Model for Events {
 }
 
 impl Events {
+    ghost use Rattle.std.specs.Borrow.{sem};
+    ghost use Rattle.pool_message.specs.Lends.{lends_first};
+
     /// Room for so many events.
     pub fn fresh(alloc: Global, places: usize) -> Result<Events, Memory>
         requires { places ≤ most_events }
@@ -105,6 +108,18 @@ impl Events {
             }
             None => None,
         }
+    }
+
+    /// The first one, to be changed where it lies.
+    pub fn first_mut(&mut self) -> &mut (Dir, PoolEvent)
+        requires { 0 < length self.old.items }
+        ensures* writes_back { sem 𝓛 (lends_first self.entry result) }
+        ensures value { result.now ≡ first_sent self.old.items }
+    {
+        let Some(k) = self.order.front().copied() else {
+            unreachable!();
+        };
+        &mut self.slots[k as usize]
     }
 
     /// The first one passes a layer and becomes the last: its message, if it has one, gets this header in front where it goes down, and loses
@@ -463,8 +478,8 @@ fn give_message(sent: &mut (Dir, PoolEvent), message: &mut Arrival)
     message.take_over(&mut sent.1.message);
 }
 
-/// A message passes a layer, if there is one.
-fn pass_message(direction: Dir, header: Header, message: &mut Place)
+/// A message passes a layer, if there is one: going down it gets this header in front, and going up it loses its first one.
+pub fn pass_message(direction: Dir, header: Header, message: &mut Place)
     requires { CanPass direction message.old }
     ensures { message.new ≡ option_map (message_passed direction header) message.old }
 {

@@ -7,3 +7,4 @@ pub mod Ends
 pub mod Stages
 pub mod Turn
 pub mod Entries
+pub mod Passing

@@ -24,7 +24,7 @@ use Rattle.stack_queue.specs.Stages.{Stand}
 use Rattle.stack_queue.specs.Going.{Begun, Now, BeginsWell, Going, weight_of}
 use Rattle.stack_queue.proofs.Lists.{IsFirst}
 use Rattle.stack_queue.proofs.Asked.{few_tasks, counts_within, headers_within, slots_within, places_within}
-use Rattle.stack_queue.proofs.Stages.{few_refs, visit_is, layer_at_place, covers_at, moved_all, stands, states_are}
+use Rattle.stack_queue.proofs.Stages.{few_refs, ready_at, visit_is, layer_at_place, covers_at, moved_all, stands, states_are}
 use Rattle.stack_queue.proofs.Steps.{visit_of, visit_goes, visit_falls, output_goes, output_falls}
 
 -- a run that goes on with equal tasks, outputs, decisions and visits
@@ -108,6 +108,9 @@ module _ {S : Type 0} (place : S → ℕ) (layer : S → LayerTree) (refs : S �
 
     lt : k < length b.stack
     lt = let within = bounds (length b.stack) t.at placed in omega (arith, k_is, within.0, within.1)
+
+    pub is_ready : Ready p (get_or stages k d)
+    is_ready = ready_at place layer refs Ready state frame few b.stack p stages stand k lt d
 
     pub counts_are : CountsWithin most_counted p
     counts_are = counts_within b well p (map (state p) stages) (flat_map refs stages) t rest now front

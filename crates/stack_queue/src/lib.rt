@@ -2,6 +2,7 @@
 #![tactic(auto)]
 
 mod laws;
+mod passes;
 mod places;
 mod sent;
 mod tasks;

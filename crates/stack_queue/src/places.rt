@@ -30,6 +30,17 @@ pub(crate) fn end_first(places: &mut HeapCircularBuffer<u16>)
     };
 }
 
+/// The only place becomes another one.
+pub(crate) fn stand_alone(places: &mut HeapCircularBuffer<u16>, at: u16)
+    requires { length places.old.items ≡ 1 }
+    ensures { places.new ≡ buffer (at ∷ []) places.old.capacity }
+{
+    match places.get_mut(0) {
+        Some(place) => *place = at,
+        None => unreachable!(),
+    }
+}
+
 /// The events behind those that have places were sent from one: each goes on to its neighbour.
 pub(crate) fn go_on(places: &mut HeapCircularBuffer<u16>, events: &Events, at: u16)
     requires place { (1 ≤ at) × (at ≤ 255) }
@@ -42,7 +53,7 @@ pub(crate) fn go_on(places: &mut HeapCircularBuffer<u16>, events: &Events, at: u
 }
 
 /// The neighbour in a direction.
-fn beyond(direction: Dir, at: u16) -> u16
+pub(crate) fn beyond(direction: Dir, at: u16) -> u16
     requires { (1 ≤ at) × (at ≤ 255) }
     ensures { result ≡ spec.beyond direction at }
 {

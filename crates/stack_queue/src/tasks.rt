@@ -1,10 +1,11 @@
 //! Tasks that are pending.
 
-ghost use Rattle.std.specs.Prelude.{◌≡◌, ◌+◌, ◌<◌, ◌≤◌, [], ◌∷◌, ◌++◌, drop, length, IfOk, IfSome, IfNone};
+ghost use Rattle.std.specs.Prelude.{◌≡◌, ◌+◌, ◌<◌, ◌≤◌, [], ◌∷◌, ◌++◌, drop, length, map, IfOk, IfSome, IfNone};
 ghost use Rattle.circular_buffer.specs.Buffer.{buffer};
 ghost use Rattle.stack_mean.specs.Acceptance.{largest_weight};
 
-use crate::places::{end_first, go_on, put_place};
+use crate::passes::pass_along;
+use crate::places::{end_first, go_on, put_place, stand_alone};
 use crate::sent::events_for;
 use circular_buffer::HeapCircularBuffer;
 use event_graph::Stack;
@@ -54,6 +55,7 @@ impl Tasks {
     ghost use Rattle.layer_eval.specs.Did.{as_predicted};
     ghost use Rattle.layer_stage.specs.Room.{slots_needed, places_needed, headers_met, most_counted, CountsWithin};
     ghost use Rattle.pool_message.specs.Seen.{event_seen};
+    ghost use Rattle.stack_queue.specs.Passing.{Rest, GoesWith, Continues, StaysAt};
     ghost use Rattle.stack_queue.specs.Pending.{first_task, tasks_seen, tasks_refs, TasksLie};
 
     /// No task, with places for the weight of a stack.
@@ -102,6 +104,24 @@ impl Tasks {
     {
         end_first(&mut self.places);
         self.events.move_first(out);
+    }
+
+    /// Where the first task is the only one, its event passes the layers that have no handler for it, as it lies, up to an edge or to a layer that
+    /// has one. Each of them is a visit. Says where the first task stands then.
+    pub(crate) fn pass<S: Stage>(&mut self, at: u16, stages: &mut [S], visits: &mut u64) -> u16
+        requires first { (self.old.items ≡ first_task self.old.items ∷ drop 1 self.old.items) × ((first_task self.old.items).at ≡ at) }
+        requires goes { (r : Rest) × GoesWith S.place S.layer S.refs S.ready S.state r stages.old self.old.items visits.old }
+        ensures first { (self.new.items ≡ first_task self.new.items ∷ drop 1 self.new.items) × ((first_task self.new.items).at ≡ result) }
+        ensures goes { Continues S.place S.layer S.refs S.ready S.state stages.old self.old.items visits.old stages.new self.new.items visits.new }
+        ensures stays { length self.old.items ≡ 1 → StaysAt (map S.layer stages.new) (first_task self.new.items) }
+        ensures capacity { self.new.capacity ≡ self.old.capacity }
+    {
+        if self.events.len() != 1 {
+            return at;
+        }
+        let to = pass_along(stages, at, self.events.first_mut(), visits);
+        stand_alone(&mut self.places, to);
+        to
     }
 
     /// A layer takes the event of the first task, which stands at a place, and what it sends becomes tasks behind the others.

@@ -70,12 +70,13 @@ pub fn run<S: Stage>(
     tasks.push(first);
     let mut predicted = Predicted::usual();
     while let Some(at) = tasks.first() {
-        if is_edge(stack.places(), at) {
+        let here = tasks.pass(at, stages, visits);
+        if is_edge(stack.places(), here) {
             tasks.leave(out);
             continue;
         }
-        let stage = &mut stages[usize::from(at) - 1];
-        let decided = tasks.visit(at, stage, pool);
+        let stage = &mut stages[usize::from(here) - 1];
+        let decided = tasks.visit(here, stage, pool);
         *visits += 1;
         predicted = predicted.and(decided);
     }

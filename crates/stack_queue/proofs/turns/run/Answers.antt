@@ -9,8 +9,9 @@ use Rattle.layer_desk.specs.Need.{most_places}
 use Rattle.layer_eval.specs.Did.{as_predicted}
 use Rattle.pool_message.specs.Sent.{sent_seen}
 use Rattle.stack_queue.specs.Pending.{tasks_seen}
-use Rattle.stack_queue.proofs.Ends.{begins_well, begins, ended_at}
-use Rattle.stack_queue.proofs.Turn.{goes_with, placed_at, edge_at, output_fits, puts_out, falls_out, counts_are, headers_are, slots_suffice, places_suffice, covers_it, visit_goes_on, visit_stands, falls}
+use Rattle.stack_queue.proofs.Ends.{begins_well, begins, first_weighs, ended_at}
+use Rattle.stack_queue.proofs.Turn.{goes_with, placed_at, edge_at, output_fits, puts_out, falls_out, is_ready, counts_are, headers_are, slots_suffice, places_suffice, covers_it, visit_goes_on, visit_stands, falls}
+use Rattle.stack_queue.proofs.Passing.{carried, carried_lighter}
 use Rattle.stack_queue.proofs.turns.run.Goals as goal
 
 pub loop-at-init : goal.loop-at-init
@@ -30,120 +31,189 @@ loop-at-init g c =
       refl,
     )
 
-pub leave-requires-clause-room : goal.leave-requires-clause-room
-leave-requires-clause-room g c = omega (
-  arith,
-  output_fits g.S.Stage.place g.S.Stage.layer g.S.Stage.refs g.S.Stage.ready g.S.Stage.state g.met.S.Stage.frame g.met.S.Stage.few
-      _ c.loop-at.invariant.0 c.loop-at.pool c.loop-at.stages c.loop-at.invariant.2 c.loop-at.tasks.items
-      c.loop-at.out.items c.loop-at.predicted c.loop-at.visits c.loop-at.invariant.1 c.in-Some.at c.in-Some.ensures.some,
-  c.requires.out,
-  c.loop-at.invariant.4,
+pub push-requires : goal.push-requires
+push-requires g c =
+    let states = map (g.S.Stage.state c.args.pool.now) c.args.stages.now in
+    let refs = flat_map g.S.Stage.refs c.args.stages.now in
+    let accepts = accepted_is (stack_tree c.args.stack.now) c.args.stack.now.accepted in
+    let few : length (stack_tree c.args.stack.now) ≤ most_places = omega (arith, length-map c.args.stack.now.typed.layers.items rc_tree, c.args.stack.now.typed.few) in
+    let one = first_weighs (stack_tree c.args.stack.now) c.requires.typed accepts few c.args.pool.now states c.requires.chained c.args.first c.requires.first
+    c.requires.enters refs c.args.out.now.items c.args.visits.now c.requires.counts c.requires.slots c.requires.event c.requires.lie c.requires.covers in
+    omega (arith, one, c.requires.tasks.1, ap length c.requires.tasks.0)
+
+pub pass-here-requires-clause-goes : goal.pass-here-requires-clause-goes
+pass-here-requires-clause-goes g c = (
+  record { begun = _; pool = c.loop-at.pool; out = c.loop-at.out.items; predicted = c.loop-at.predicted },
+  record { well = c.loop-at.invariant.0; few = c.requires.visits; stand = c.loop-at.invariant.2; going = c.loop-at.invariant.1 },
 )
+
+pub leave-requires-clause-room : goal.leave-requires-clause-room
+leave-requires-clause-room g c =
+    let on = carried g.S.Stage.place g.S.Stage.layer g.S.Stage.refs g.S.Stage.ready g.S.Stage.state _ c.loop-at.invariant.0 c.requires.visits c.loop-at.pool c.loop-at.out.items c.loop-at.predicted _ _ _
+    c.loop-at.invariant.2 c.loop-at.invariant.1 _ _ _ c.pass-here.ensures.goes in
+    omega (
+      arith,
+      output_fits g.S.Stage.place g.S.Stage.layer g.S.Stage.refs g.S.Stage.ready g.S.Stage.state g.met.S.Stage.frame g.met.S.Stage.few
+          _ on.well c.loop-at.pool c.pass-here.new.stages on.stand c.pass-here.new.self.items
+          c.loop-at.out.items c.loop-at.predicted c.pass-here.new.visits on.going c.pass-here.result c.pass-here.ensures.first,
+      c.requires.out,
+      c.loop-at.invariant.4,
+    )
 
 pub loop-at-smaller-then-is_edge : goal.loop-at-smaller-then-is_edge
-loop-at-smaller-then-is_edge g c = omega (
-  arith,
-  falls_out g.S.Stage.place g.S.Stage.layer g.S.Stage.refs g.S.Stage.ready g.S.Stage.state g.met.S.Stage.frame g.met.S.Stage.few
-      _ c.loop-at.invariant.0 c.loop-at.pool c.loop-at.stages c.loop-at.invariant.2 c.loop-at.tasks.items
-      c.loop-at.out.items c.loop-at.predicted c.loop-at.visits c.loop-at.invariant.1 c.in-Some.at c.in-Some.ensures.some
-      (ap (λ n. is_place n c.in-Some.at) (sym c.places.ensures) ∙ edge_at c.places.result c.in-Some.at c.is_edge.result c.is_edge.ensures c.if-is_edge.true),
-  ap (λ x. pending_weight (stack_tree c.args.stack.now) (tasks_seen c.loop-at.pool x.items)) c.leave.ensures.rest,
-)
+loop-at-smaller-then-is_edge g c =
+    let on = carried g.S.Stage.place g.S.Stage.layer g.S.Stage.refs g.S.Stage.ready g.S.Stage.state _ c.loop-at.invariant.0 c.requires.visits c.loop-at.pool c.loop-at.out.items c.loop-at.predicted _ _ _
+    c.loop-at.invariant.2 c.loop-at.invariant.1 _ _ _ c.pass-here.ensures.goes in
+    omega (
+      arith,
+      falls_out g.S.Stage.place g.S.Stage.layer g.S.Stage.refs g.S.Stage.ready g.S.Stage.state g.met.S.Stage.frame g.met.S.Stage.few
+          _ on.well c.loop-at.pool c.pass-here.new.stages on.stand c.pass-here.new.self.items
+          c.loop-at.out.items c.loop-at.predicted c.pass-here.new.visits on.going c.pass-here.result c.pass-here.ensures.first
+          (ap (λ n. is_place n c.pass-here.result) (sym c.places.ensures) ∙ edge_at c.places.result c.pass-here.result c.is_edge.result c.is_edge.ensures c.if-is_edge.true),
+      ap (λ x. pending_weight (stack_tree c.args.stack.now) (tasks_seen c.loop-at.pool x.items)) c.leave.ensures.rest,
+      carried_lighter g.S.Stage.place g.S.Stage.layer g.S.Stage.refs g.S.Stage.ready g.S.Stage.state _ c.loop-at.invariant.0 c.requires.visits c.loop-at.pool c.loop-at.out.items c.loop-at.predicted _ _ _
+          c.loop-at.invariant.2 c.loop-at.invariant.1 _ _ _ c.pass-here.ensures.goes,
+    )
 
 pub loop-at-preserved-then-is_edge : goal.loop-at-preserved-then-is_edge
-loop-at-preserved-then-is_edge g c = (
-  c.loop-at.invariant.0,
-  goes_with _ c.loop-at.pool _
-      (puts_out g.S.Stage.place g.S.Stage.layer g.S.Stage.refs g.S.Stage.ready g.S.Stage.state g.met.S.Stage.frame g.met.S.Stage.few
-      _ c.loop-at.invariant.0 c.loop-at.pool c.loop-at.stages c.loop-at.invariant.2 c.loop-at.tasks.items
-      c.loop-at.out.items c.loop-at.predicted c.loop-at.visits c.loop-at.invariant.1 c.in-Some.at c.in-Some.ensures.some
-      (ap (λ n. is_place n c.in-Some.at) (sym c.places.ensures) ∙ edge_at c.places.result c.in-Some.at c.is_edge.result c.is_edge.ensures c.if-is_edge.true))
-      _ _ _ _ (search rules) (search rules) (search rules) (search rules),
-  c.loop-at.invariant.2,
-  ap (λ x. x.capacity) c.leave.ensures.rest ∙ c.loop-at.invariant.3,
-  ap (λ x. x.capacity) c.leave.ensures.out ∙ c.loop-at.invariant.4,
-)
+loop-at-preserved-then-is_edge g c =
+    let on = carried g.S.Stage.place g.S.Stage.layer g.S.Stage.refs g.S.Stage.ready g.S.Stage.state _ c.loop-at.invariant.0 c.requires.visits c.loop-at.pool c.loop-at.out.items c.loop-at.predicted _ _ _
+    c.loop-at.invariant.2 c.loop-at.invariant.1 _ _ _ c.pass-here.ensures.goes in (
+      c.loop-at.invariant.0,
+      goes_with _ c.loop-at.pool _
+          (puts_out g.S.Stage.place g.S.Stage.layer g.S.Stage.refs g.S.Stage.ready g.S.Stage.state g.met.S.Stage.frame g.met.S.Stage.few
+          _ on.well c.loop-at.pool c.pass-here.new.stages on.stand c.pass-here.new.self.items
+          c.loop-at.out.items c.loop-at.predicted c.pass-here.new.visits on.going c.pass-here.result c.pass-here.ensures.first
+          (ap (λ n. is_place n c.pass-here.result) (sym c.places.ensures) ∙ edge_at c.places.result c.pass-here.result c.is_edge.result c.is_edge.ensures c.if-is_edge.true))
+          _ _ _ _ (search rules) (search rules) (search rules) (search rules),
+      on.stand,
+      ap (λ x. x.capacity) c.leave.ensures.rest ∙ c.pass-here.ensures.capacity ∙ c.loop-at.invariant.3,
+      ap (λ x. x.capacity) c.leave.ensures.out ∙ c.loop-at.invariant.4,
+    )
+
+pub visit-decided-requires-clause-ready : goal.visit-decided-requires-clause-ready
+visit-decided-requires-clause-ready g c =
+    let on = carried g.S.Stage.place g.S.Stage.layer g.S.Stage.refs g.S.Stage.ready g.S.Stage.state _ c.loop-at.invariant.0 c.requires.visits c.loop-at.pool c.loop-at.out.items c.loop-at.predicted _ _ _
+    c.loop-at.invariant.2 c.loop-at.invariant.1 _ _ _ c.pass-here.ensures.goes in
+    is_ready g.S.Stage.place g.S.Stage.layer g.S.Stage.refs g.S.Stage.ready g.S.Stage.state g.met.S.Stage.frame g.met.S.Stage.few
+    _ on.well c.loop-at.pool c.pass-here.new.stages on.stand c.pass-here.new.self.items
+    c.loop-at.out.items c.loop-at.predicted c.pass-here.new.visits on.going c.pass-here.result c.pass-here.ensures.first
+    (ap (λ n. is_place n c.pass-here.result) (sym c.places.ensures) ∙ placed_at c.places.result c.pass-here.result c.is_edge.result c.is_edge.ensures c.if-is_edge.false)
+    (c.from.result - 1) (ap (λ n. n - 1) c.from.ensures) c.index-stages-from.result
+
+pub visit-decided-requires-clause-lie : goal.visit-decided-requires-clause-lie
+visit-decided-requires-clause-lie g c =
+    let on = carried g.S.Stage.place g.S.Stage.layer g.S.Stage.refs g.S.Stage.ready g.S.Stage.state _ c.loop-at.invariant.0 c.requires.visits c.loop-at.pool c.loop-at.out.items c.loop-at.predicted _ _ _
+    c.loop-at.invariant.2 c.loop-at.invariant.1 _ _ _ c.pass-here.ensures.goes in
+    on.going.tasks_lie
+
+pub overflow_add-visits : goal.overflow_add-visits
+overflow_add-visits g c =
+    let on = carried g.S.Stage.place g.S.Stage.layer g.S.Stage.refs g.S.Stage.ready g.S.Stage.state _ c.loop-at.invariant.0 c.requires.visits c.loop-at.pool c.loop-at.out.items c.loop-at.predicted _ _ _
+    c.loop-at.invariant.2 c.loop-at.invariant.1 _ _ _ c.pass-here.ensures.goes in
+    omega (arith, on.going.visits, on.going.weight, on.well.weight, on.few)
 
 pub visit-decided-requires-clause-covers : goal.visit-decided-requires-clause-covers
 visit-decided-requires-clause-covers g c =
+    let on = carried g.S.Stage.place g.S.Stage.layer g.S.Stage.refs g.S.Stage.ready g.S.Stage.state _ c.loop-at.invariant.0 c.requires.visits c.loop-at.pool c.loop-at.out.items c.loop-at.predicted _ _ _
+    c.loop-at.invariant.2 c.loop-at.invariant.1 _ _ _ c.pass-here.ensures.goes in
     covers_it g.S.Stage.place g.S.Stage.layer g.S.Stage.refs g.S.Stage.ready g.S.Stage.state g.met.S.Stage.frame g.met.S.Stage.few
-    _ c.loop-at.invariant.0 c.loop-at.pool c.loop-at.stages c.loop-at.invariant.2 c.loop-at.tasks.items
-    c.loop-at.out.items c.loop-at.predicted c.loop-at.visits c.loop-at.invariant.1 c.in-Some.at c.in-Some.ensures.some
-    (ap (λ n. is_place n c.in-Some.at) (sym c.places.ensures) ∙ placed_at c.places.result c.in-Some.at c.is_edge.result c.is_edge.ensures c.if-is_edge.false)
+    _ on.well c.loop-at.pool c.pass-here.new.stages on.stand c.pass-here.new.self.items
+    c.loop-at.out.items c.loop-at.predicted c.pass-here.new.visits on.going c.pass-here.result c.pass-here.ensures.first
+    (ap (λ n. is_place n c.pass-here.result) (sym c.places.ensures) ∙ placed_at c.places.result c.pass-here.result c.is_edge.result c.is_edge.ensures c.if-is_edge.false)
     (c.from.result - 1) (ap (λ n. n - 1) c.from.ensures) c.index-stages-from.result
 
 pub visit-decided-requires-clause-counts : goal.visit-decided-requires-clause-counts
 visit-decided-requires-clause-counts g c =
+    let on = carried g.S.Stage.place g.S.Stage.layer g.S.Stage.refs g.S.Stage.ready g.S.Stage.state _ c.loop-at.invariant.0 c.requires.visits c.loop-at.pool c.loop-at.out.items c.loop-at.predicted _ _ _
+    c.loop-at.invariant.2 c.loop-at.invariant.1 _ _ _ c.pass-here.ensures.goes in
     counts_are g.S.Stage.place g.S.Stage.layer g.S.Stage.refs g.S.Stage.ready g.S.Stage.state g.met.S.Stage.frame g.met.S.Stage.few
-    _ c.loop-at.invariant.0 c.loop-at.pool c.loop-at.stages c.loop-at.invariant.2 c.loop-at.tasks.items
-    c.loop-at.out.items c.loop-at.predicted c.loop-at.visits c.loop-at.invariant.1 c.in-Some.at c.in-Some.ensures.some
-    (ap (λ n. is_place n c.in-Some.at) (sym c.places.ensures) ∙ placed_at c.places.result c.in-Some.at c.is_edge.result c.is_edge.ensures c.if-is_edge.false)
+    _ on.well c.loop-at.pool c.pass-here.new.stages on.stand c.pass-here.new.self.items
+    c.loop-at.out.items c.loop-at.predicted c.pass-here.new.visits on.going c.pass-here.result c.pass-here.ensures.first
+    (ap (λ n. is_place n c.pass-here.result) (sym c.places.ensures) ∙ placed_at c.places.result c.pass-here.result c.is_edge.result c.is_edge.ensures c.if-is_edge.false)
     (c.from.result - 1) (ap (λ n. n - 1) c.from.ensures) c.index-stages-from.result
 
 pub visit-decided-requires-clause-headers : goal.visit-decided-requires-clause-headers
 visit-decided-requires-clause-headers g c =
+    let on = carried g.S.Stage.place g.S.Stage.layer g.S.Stage.refs g.S.Stage.ready g.S.Stage.state _ c.loop-at.invariant.0 c.requires.visits c.loop-at.pool c.loop-at.out.items c.loop-at.predicted _ _ _
+    c.loop-at.invariant.2 c.loop-at.invariant.1 _ _ _ c.pass-here.ensures.goes in
     headers_are g.S.Stage.place g.S.Stage.layer g.S.Stage.refs g.S.Stage.ready g.S.Stage.state g.met.S.Stage.frame g.met.S.Stage.few
-    _ c.loop-at.invariant.0 c.loop-at.pool c.loop-at.stages c.loop-at.invariant.2 c.loop-at.tasks.items
-    c.loop-at.out.items c.loop-at.predicted c.loop-at.visits c.loop-at.invariant.1 c.in-Some.at c.in-Some.ensures.some
-    (ap (λ n. is_place n c.in-Some.at) (sym c.places.ensures) ∙ placed_at c.places.result c.in-Some.at c.is_edge.result c.is_edge.ensures c.if-is_edge.false)
+    _ on.well c.loop-at.pool c.pass-here.new.stages on.stand c.pass-here.new.self.items
+    c.loop-at.out.items c.loop-at.predicted c.pass-here.new.visits on.going c.pass-here.result c.pass-here.ensures.first
+    (ap (λ n. is_place n c.pass-here.result) (sym c.places.ensures) ∙ placed_at c.places.result c.pass-here.result c.is_edge.result c.is_edge.ensures c.if-is_edge.false)
     (c.from.result - 1) (ap (λ n. n - 1) c.from.ensures) c.index-stages-from.result
 
 pub visit-decided-requires-clause-slots : goal.visit-decided-requires-clause-slots
 visit-decided-requires-clause-slots g c =
+    let on = carried g.S.Stage.place g.S.Stage.layer g.S.Stage.refs g.S.Stage.ready g.S.Stage.state _ c.loop-at.invariant.0 c.requires.visits c.loop-at.pool c.loop-at.out.items c.loop-at.predicted _ _ _
+    c.loop-at.invariant.2 c.loop-at.invariant.1 _ _ _ c.pass-here.ensures.goes in
     slots_suffice g.S.Stage.place g.S.Stage.layer g.S.Stage.refs g.S.Stage.ready g.S.Stage.state g.met.S.Stage.frame g.met.S.Stage.few
-    _ c.loop-at.invariant.0 c.loop-at.pool c.loop-at.stages c.loop-at.invariant.2 c.loop-at.tasks.items
-    c.loop-at.out.items c.loop-at.predicted c.loop-at.visits c.loop-at.invariant.1 c.in-Some.at c.in-Some.ensures.some
-    (ap (λ n. is_place n c.in-Some.at) (sym c.places.ensures) ∙ placed_at c.places.result c.in-Some.at c.is_edge.result c.is_edge.ensures c.if-is_edge.false)
+    _ on.well c.loop-at.pool c.pass-here.new.stages on.stand c.pass-here.new.self.items
+    c.loop-at.out.items c.loop-at.predicted c.pass-here.new.visits on.going c.pass-here.result c.pass-here.ensures.first
+    (ap (λ n. is_place n c.pass-here.result) (sym c.places.ensures) ∙ placed_at c.places.result c.pass-here.result c.is_edge.result c.is_edge.ensures c.if-is_edge.false)
     (c.from.result - 1) (ap (λ n. n - 1) c.from.ensures) c.index-stages-from.result
 
 pub visit-decided-requires-clause-places : goal.visit-decided-requires-clause-places
-visit-decided-requires-clause-places g c = omega (
-  arith,
-  places_suffice g.S.Stage.place g.S.Stage.layer g.S.Stage.refs g.S.Stage.ready g.S.Stage.state g.met.S.Stage.frame g.met.S.Stage.few
-      _ c.loop-at.invariant.0 c.loop-at.pool c.loop-at.stages c.loop-at.invariant.2 c.loop-at.tasks.items
-      c.loop-at.out.items c.loop-at.predicted c.loop-at.visits c.loop-at.invariant.1 c.in-Some.at c.in-Some.ensures.some
-      (ap (λ n. is_place n c.in-Some.at) (sym c.places.ensures) ∙ placed_at c.places.result c.in-Some.at c.is_edge.result c.is_edge.ensures c.if-is_edge.false)
-      (c.from.result - 1) (ap (λ n. n - 1) c.from.ensures) c.index-stages-from.result,
-  c.loop-at.invariant.3,
-  c.requires.tasks.1,
-)
+visit-decided-requires-clause-places g c =
+    let on = carried g.S.Stage.place g.S.Stage.layer g.S.Stage.refs g.S.Stage.ready g.S.Stage.state _ c.loop-at.invariant.0 c.requires.visits c.loop-at.pool c.loop-at.out.items c.loop-at.predicted _ _ _
+    c.loop-at.invariant.2 c.loop-at.invariant.1 _ _ _ c.pass-here.ensures.goes in
+    omega (
+      arith,
+      places_suffice g.S.Stage.place g.S.Stage.layer g.S.Stage.refs g.S.Stage.ready g.S.Stage.state g.met.S.Stage.frame g.met.S.Stage.few
+          _ on.well c.loop-at.pool c.pass-here.new.stages on.stand c.pass-here.new.self.items
+          c.loop-at.out.items c.loop-at.predicted c.pass-here.new.visits on.going c.pass-here.result c.pass-here.ensures.first
+          (ap (λ n. is_place n c.pass-here.result) (sym c.places.ensures) ∙ placed_at c.places.result c.pass-here.result c.is_edge.result c.is_edge.ensures c.if-is_edge.false)
+          (c.from.result - 1) (ap (λ n. n - 1) c.from.ensures) c.index-stages-from.result,
+      c.pass-here.ensures.capacity,
+      c.loop-at.invariant.3,
+      c.requires.tasks.1,
+    )
 
 pub loop-at-smaller : goal.loop-at-smaller
 loop-at-smaller g c =
-    falls g.S.Stage.place g.S.Stage.layer g.S.Stage.refs g.S.Stage.ready g.S.Stage.state g.met.S.Stage.frame g.met.S.Stage.few
-    _ c.loop-at.invariant.0 c.loop-at.pool c.loop-at.stages c.loop-at.invariant.2 c.loop-at.tasks.items
-    c.loop-at.out.items c.loop-at.predicted c.loop-at.visits c.loop-at.invariant.1 c.in-Some.at c.in-Some.ensures.some
-    (ap (λ n. is_place n c.in-Some.at) (sym c.places.ensures) ∙ placed_at c.places.result c.in-Some.at c.is_edge.result c.is_edge.ensures c.if-is_edge.false)
-    (c.from.result - 1) (ap (λ n. n - 1) c.from.ensures) c.index-stages-from.result
-    c.visit-decided.new.pool c.visit-decided.new.stage c.visit-decided.new.self.items
-    c.visit-decided.result c.visit-decided.ensures.moved c.visit-decided.ensures.spent c.visit-decided.ensures.lie c.visit-decided.ensures.ready
-    c.visit-decided.ensures.state c.visit-decided.ensures.tasks c.visit-decided.ensures.predicted
+    let on = carried g.S.Stage.place g.S.Stage.layer g.S.Stage.refs g.S.Stage.ready g.S.Stage.state _ c.loop-at.invariant.0 c.requires.visits c.loop-at.pool c.loop-at.out.items c.loop-at.predicted _ _ _
+    c.loop-at.invariant.2 c.loop-at.invariant.1 _ _ _ c.pass-here.ensures.goes in
+    omega (
+      arith,
+      falls g.S.Stage.place g.S.Stage.layer g.S.Stage.refs g.S.Stage.ready g.S.Stage.state g.met.S.Stage.frame g.met.S.Stage.few
+          _ on.well c.loop-at.pool c.pass-here.new.stages on.stand c.pass-here.new.self.items
+          c.loop-at.out.items c.loop-at.predicted c.pass-here.new.visits on.going c.pass-here.result c.pass-here.ensures.first
+          (ap (λ n. is_place n c.pass-here.result) (sym c.places.ensures) ∙ placed_at c.places.result c.pass-here.result c.is_edge.result c.is_edge.ensures c.if-is_edge.false)
+          (c.from.result - 1) (ap (λ n. n - 1) c.from.ensures) c.index-stages-from.result
+          c.visit-decided.new.pool c.visit-decided.new.stage c.visit-decided.new.self.items
+          c.visit-decided.result c.visit-decided.ensures.moved c.visit-decided.ensures.spent c.visit-decided.ensures.lie c.visit-decided.ensures.ready
+          c.visit-decided.ensures.state c.visit-decided.ensures.tasks c.visit-decided.ensures.predicted,
+      carried_lighter g.S.Stage.place g.S.Stage.layer g.S.Stage.refs g.S.Stage.ready g.S.Stage.state _ c.loop-at.invariant.0 c.requires.visits c.loop-at.pool c.loop-at.out.items c.loop-at.predicted _ _ _
+          c.loop-at.invariant.2 c.loop-at.invariant.1 _ _ _ c.pass-here.ensures.goes,
+    )
 
 pub loop-at-preserved : goal.loop-at-preserved
-loop-at-preserved g c = (
-  c.loop-at.invariant.0,
-  goes_with _ c.visit-decided.new.pool _
-      (visit_goes_on g.S.Stage.place g.S.Stage.layer g.S.Stage.refs g.S.Stage.ready g.S.Stage.state g.met.S.Stage.frame g.met.S.Stage.few
-      _ c.loop-at.invariant.0 c.loop-at.pool c.loop-at.stages c.loop-at.invariant.2 c.loop-at.tasks.items
-      c.loop-at.out.items c.loop-at.predicted c.loop-at.visits c.loop-at.invariant.1 c.in-Some.at c.in-Some.ensures.some
-      (ap (λ n. is_place n c.in-Some.at) (sym c.places.ensures) ∙ placed_at c.places.result c.in-Some.at c.is_edge.result c.is_edge.ensures c.if-is_edge.false)
-      (c.from.result - 1) (ap (λ n. n - 1) c.from.ensures) c.index-stages-from.result
-      c.visit-decided.new.pool c.visit-decided.new.stage c.visit-decided.new.self.items
-      c.visit-decided.result c.visit-decided.ensures.moved c.visit-decided.ensures.spent c.visit-decided.ensures.lie c.visit-decided.ensures.ready
-      c.visit-decided.ensures.state c.visit-decided.ensures.tasks c.visit-decided.ensures.predicted)
-      _ _ _ _ (search rules) (search rules) (search rules) (search rules),
-  visit_stands g.S.Stage.place g.S.Stage.layer g.S.Stage.refs g.S.Stage.ready g.S.Stage.state g.met.S.Stage.frame g.met.S.Stage.few
-      _ c.loop-at.invariant.0 c.loop-at.pool c.loop-at.stages c.loop-at.invariant.2 c.loop-at.tasks.items
-      c.loop-at.out.items c.loop-at.predicted c.loop-at.visits c.loop-at.invariant.1 c.in-Some.at c.in-Some.ensures.some
-      (ap (λ n. is_place n c.in-Some.at) (sym c.places.ensures) ∙ placed_at c.places.result c.in-Some.at c.is_edge.result c.is_edge.ensures c.if-is_edge.false)
-      (c.from.result - 1) (ap (λ n. n - 1) c.from.ensures) c.index-stages-from.result
-      c.visit-decided.new.pool c.visit-decided.new.stage c.visit-decided.new.self.items
-      c.visit-decided.result c.visit-decided.ensures.moved c.visit-decided.ensures.spent c.visit-decided.ensures.lie c.visit-decided.ensures.ready
-      c.visit-decided.ensures.state c.visit-decided.ensures.tasks c.visit-decided.ensures.predicted
-      c.visit-decided.ensures.place c.visit-decided.ensures.layer,
-  c.visit-decided.ensures.capacity ∙ c.loop-at.invariant.3,
-  c.loop-at.invariant.4,
-)
+loop-at-preserved g c =
+    let on = carried g.S.Stage.place g.S.Stage.layer g.S.Stage.refs g.S.Stage.ready g.S.Stage.state _ c.loop-at.invariant.0 c.requires.visits c.loop-at.pool c.loop-at.out.items c.loop-at.predicted _ _ _
+    c.loop-at.invariant.2 c.loop-at.invariant.1 _ _ _ c.pass-here.ensures.goes in (
+      c.loop-at.invariant.0,
+      goes_with _ c.visit-decided.new.pool _
+          (visit_goes_on g.S.Stage.place g.S.Stage.layer g.S.Stage.refs g.S.Stage.ready g.S.Stage.state g.met.S.Stage.frame g.met.S.Stage.few
+          _ on.well c.loop-at.pool c.pass-here.new.stages on.stand c.pass-here.new.self.items
+          c.loop-at.out.items c.loop-at.predicted c.pass-here.new.visits on.going c.pass-here.result c.pass-here.ensures.first
+          (ap (λ n. is_place n c.pass-here.result) (sym c.places.ensures) ∙ placed_at c.places.result c.pass-here.result c.is_edge.result c.is_edge.ensures c.if-is_edge.false)
+          (c.from.result - 1) (ap (λ n. n - 1) c.from.ensures) c.index-stages-from.result
+          c.visit-decided.new.pool c.visit-decided.new.stage c.visit-decided.new.self.items
+          c.visit-decided.result c.visit-decided.ensures.moved c.visit-decided.ensures.spent c.visit-decided.ensures.lie c.visit-decided.ensures.ready
+          c.visit-decided.ensures.state c.visit-decided.ensures.tasks c.visit-decided.ensures.predicted)
+          _ _ _ _ (search rules) (search rules) (search rules) (search rules),
+      visit_stands g.S.Stage.place g.S.Stage.layer g.S.Stage.refs g.S.Stage.ready g.S.Stage.state g.met.S.Stage.frame g.met.S.Stage.few
+          _ on.well c.loop-at.pool c.pass-here.new.stages on.stand c.pass-here.new.self.items
+          c.loop-at.out.items c.loop-at.predicted c.pass-here.new.visits on.going c.pass-here.result c.pass-here.ensures.first
+          (ap (λ n. is_place n c.pass-here.result) (sym c.places.ensures) ∙ placed_at c.places.result c.pass-here.result c.is_edge.result c.is_edge.ensures c.if-is_edge.false)
+          (c.from.result - 1) (ap (λ n. n - 1) c.from.ensures) c.index-stages-from.result
+          c.visit-decided.new.pool c.visit-decided.new.stage c.visit-decided.new.self.items
+          c.visit-decided.result c.visit-decided.ensures.moved c.visit-decided.ensures.spent c.visit-decided.ensures.lie c.visit-decided.ensures.ready
+          c.visit-decided.ensures.state c.visit-decided.ensures.tasks c.visit-decided.ensures.predicted
+          c.visit-decided.ensures.place c.visit-decided.ensures.layer,
+      c.visit-decided.ensures.capacity ∙ c.pass-here.ensures.capacity ∙ c.loop-at.invariant.3,
+      c.loop-at.invariant.4,
+    )
 
 pub returns-clause-states : goal.returns-clause-states
 returns-clause-states g c =

@@ -1,0 +1,14 @@
+-- What a list of events ends as, once a `&mut` to its first one has ended.
+use Rattle.std.specs.Prelude.{[], ◌∷◌, drop}
+use denote.Struct.Tuple.{Tuple}
+use Rattle.std.specs.Borrow.{Fml, MutBor, Lends}
+use Rattle.circular_buffer.specs.Buffer.{Buffer, buffer}
+use Rattle.layer_ast.specs.declared.tokens.Dir.{Dir}
+use Rattle.layer_ast.specs.contracts.tokens.Dir as dir
+use Rattle.pool_message.specs.contracts.event.PoolEvent as event
+use Rattle.pool_message.specs.contracts.events.Events.{the_row}
+use Rattle.pool_message.specs.declared.event.PoolEvent.{PoolEvent}
+
+-- the first one is the last that was written through r
+abbrev pub lends_first : MutBor (Buffer (Dir × PoolEvent)) → MutBor (Dir × PoolEvent) → Fml
+lends_first es r = Lends the_row (Tuple (dir.the_row ∷ event.the_row ∷ [])) es r (λ w. buffer (w ∷ drop 1 es.now.items) es.now.capacity)

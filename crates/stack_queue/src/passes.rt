@@ -1,0 +1,42 @@
+//! Events that pass layers.
+
+ghost use Rattle.std.specs.Prelude.{◌≡◌, [], ◌∷◌, map};
+ghost use Rattle.layer_mean.specs.Queue as spec;
+ghost use Rattle.stack_queue.specs.Passing.{Rest, GoesWith, Continues, StaysAt, standing_at};
+
+use crate::places::beyond;
+use layer_ast::Dir;
+use layer_stage::Stage;
+use pool_message::PoolEvent;
+
+/// An event that stands at a place, with which alone a run goes on, passes the layers that have no handler for it, up to an edge or to a layer
+/// that has one. Each of them is a visit. Says where it stands then.
+pub(crate) fn pass_along<S: Stage>(
+    stages: &mut [S],
+    at: u16,
+    sent: &mut (Dir, PoolEvent),
+    visits: &mut u64,
+) -> u16
+    requires { (r : Rest) × GoesWith S.place S.layer S.refs S.ready S.state r stages.old (standing_at at sent.old ∷ []) visits.old }
+    ensures goes { Continues S.place S.layer S.refs S.ready S.state stages.old (standing_at at sent.old ∷ []) visits.old
+        stages.new (standing_at result sent.new ∷ []) visits.new }
+    ensures stays { StaysAt (map S.layer stages.new) (standing_at result sent.new) }
+{
+    let direction = sent.0;
+    let mut here = at;
+    while is_place(stages.len(), here) {
+        if !stages[usize::from(here) - 1].pass(direction, &mut sent.1) {
+            return here;
+        }
+        *visits += 1;
+        here = beyond(direction, here);
+    }
+    here
+}
+
+/// Whether one of so many layers stands at a place.
+fn is_place(places: usize, at: u16) -> bool
+    ensures { result ≡ spec.is_place places at }
+{
+    at > 0 && usize::from(at) <= places
+}
