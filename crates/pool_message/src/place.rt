@@ -3,7 +3,8 @@
 ghost use Rattle.std.specs.Prelude.{◌≡◌};
 
 use crate::message::PoolMessage;
-use msg_core::Header;
+use crate::part::Part;
+use msg_core::{Header, Headers};
 use slot_pool::Pool;
 use std::marker::Model;
 
@@ -43,16 +44,6 @@ impl Place {
         }
     }
 
-    /// A place with this message.
-    pub fn of(message: PoolMessage) -> Place
-        ensures { result ≡ Some message }
-    {
-        Place {
-            message,
-            is_full: true,
-        }
-    }
-
     /// The message, if there is one.
     pub fn get(&self) -> Option<&PoolMessage>
         ensures { option_copied result ≡ self.now }
@@ -84,6 +75,15 @@ impl Place {
         ensures left { message.new ≡ bodiless [] }
     {
         self.message.take_over(message);
+        self.is_full = true;
+    }
+
+    /// Becomes full of a message of these headers before this body. The place was empty.
+    pub(crate) fn make(&mut self, headers: &Headers, body: Part)
+        requires { self.old ≡ None }
+        ensures { self.new ≡ Some (record { headers = headers.now; body = Some body }) }
+    {
+        self.message.make(headers, body);
         self.is_full = true;
     }
 
