@@ -101,31 +101,31 @@ not_leb a b false is more = refl
 
 -- one whose headers are read is what its close says
 pub closed_scan : (stack : List LayerTree) (plans : List Plan) (here : Here) (bytes : List ℕ) (front : Preamble) (behind : List ℕ)
-    (hs : List Header) (body : List ℕ) (result : Result Scan Stray) → opened here bytes ≡ Ok (preamble_tree front, behind) →
+    (hs : List Header) (body : List ℕ) (result : Result (Unit {0}) Stray) (scan : Scan) → opened here bytes ≡ Ok (preamble_tree front, behind) →
     IsOwn here front → contents stack plans (preamble_tree front) behind ≡ Ok (hs, body) →
-    (length body ≤ longest_body → EndsIn bytes body) → Closes bytes front hs body result →
-    Scans here bytes (received stack plans here bytes) result
+    (length body ≤ longest_body → EndsIn bytes body) → Closes bytes front hs body result scan →
+    Scans here bytes (received stack plans here bytes) result scan
 unfolding closed
-closed_scan stack plans here bytes front behind hs body (Ok scan) is own read ends (short, tells) =
+closed_scan stack plans here bytes front behind hs body (Ok x) scan is own read ends (short, tells) =
     subst (λ s. received stack plans here bytes ≡ Ok (packet_scanned here bytes s)) (sym tells)
     (behind_opened stack plans here bytes (preamble_tree front) behind is
     ∙ ap (λ r. r >>= closed (preamble_tree front)) read
     ∙ ap (λ b. unless b cause.Body >>= λ _. Ok (packet_of (preamble_tree front) hs body)) (le-leb (length body) longest_body short)
-    ∙ (λ x. Ok (record {
-      group = own.group x;
-      stamp = own.stamp x;
-      view = own.view x;
+    ∙ (λ k. Ok (record {
+      group = own.group k;
+      stamp = own.stamp k;
+      view = own.view k;
       sender = front.sender;
       dest = front.dest;
-      message = record { headers = hs; body = sym (ends short).at x };
+      message = record { headers = hs; body = sym (ends short).at k };
     })))
-closed_scan stack plans here bytes front behind hs body (Err e) is own read ends (long, tells) =
+closed_scan stack plans here bytes front behind hs body (Err e) scan is own read ends (long, tells) =
     behind_opened stack plans here bytes (preamble_tree front) behind is
     ∙ ap (λ r. r >>= closed (preamble_tree front)) read
     ∙ ap (λ b. unless b cause.Body >>= λ _. Ok (packet_of (preamble_tree front) hs body)) (not_leb (length body) longest_body (nat_le (length body) longest_body) refl long)
     ∙ ap Err (sym tells)
 
 -- where its body begins
-pub place_within : (bytes : List ℕ) (front : Preamble) (hs : List Header) (body : List ℕ) (scan : Scan) → Closes bytes front hs body (Ok scan) →
+pub place_within : (bytes : List ℕ) (front : Preamble) (hs : List Header) (body : List ℕ) (x : Unit {0}) (scan : Scan) → Closes bytes front hs body (Ok x) scan →
     scan.body ≤ length bytes
-place_within bytes front hs body scan (short, tells) = subst (λ (s : Scan). s.body ≤ length bytes) (sym tells) (omega arith)
+place_within bytes front hs body x scan (short, tells) = subst (λ (s : Scan). s.body ≤ length bytes) (sym tells) (omega arith)

@@ -16,10 +16,10 @@ packet_scanned here bytes scan = record {
   message = record { headers = scan.headers; body = drop scan.body bytes };
 }
 
--- What a scan answers: the packet that it tells of is the one that is received, or the cause is.
-abbrev pub Scans : Here → List ℕ → Result Packet Stray → Result Scan Stray → Type 0
-Scans here bytes is_received (Ok scan) = is_received ≡ Ok (packet_scanned here bytes scan)
-Scans here bytes is_received (Err cause) = is_received ≡ Err cause
+-- What reading into a scan answers: the packet that it tells of is the one that is received, or the cause is.
+abbrev pub Scans : Here → List ℕ → Result Packet Stray → Result (Unit {0}) Stray → Scan → Type 0
+Scans here bytes is_received (Ok _) scan = is_received ≡ Ok (packet_scanned here bytes scan)
+Scans here bytes is_received (Err cause) scan = is_received ≡ Err cause
 
 -- What is left of a datagram is no longer than the datagram, and that is no longer than the longest one.
 pub record IsBehind (body bytes : List ℕ) : Type 0 where

@@ -53,6 +53,6 @@ abbrev pub told : List ℕ → Preamble → List Header → (body : List ℕ) �
 told bytes front headers body = record { sender = front.sender; dest = front.dest; headers = headers; body = length bytes - length body }
 
 -- The last step's answer.
-abbrev pub Closes : List ℕ → Preamble → List Header → (body : List ℕ) → Result Scan Stray → Type 0
-Closes bytes front headers body (Ok scan) = (length body ≤ longest_body) × (scan ≡ told bytes front headers body)
-Closes bytes front headers body (Err refusal) = (longest_body < length body) × (refusal ≡ cause.Body)
+abbrev pub Closes : List ℕ → Preamble → List Header → (body : List ℕ) → Result (Unit {0}) Stray → Scan → Type 0
+Closes bytes front headers body (Ok _) scan = (length body ≤ longest_body) × (scan ≡ told bytes front headers body)
+Closes bytes front headers body (Err refusal) scan = (longest_body < length body) × (refusal ≡ cause.Body)

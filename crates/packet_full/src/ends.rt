@@ -12,7 +12,7 @@ use crate::cursor::Cursor;
 use crate::front::{Preamble, is_form, meant_for};
 use crate::opened::Opened;
 use crate::scan::Scan;
-use msg_core::{Headers, LONGEST_BODY, Stray};
+use msg_core::{LONGEST_BODY, Stray};
 use packet_mean::Here;
 
 /// What stands in front of a datagram of one of the two forms that is meant for a member; or the first cause for which it isn't one.
@@ -44,23 +44,21 @@ fn body_place(bytes: &[u8], cursor: &Cursor<'_>) -> u32
     (bytes.len() - cursor.len()) as u32
 }
 
-/// What a datagram says whose headers were read, the bytes that are left being its body; Err where that is too long.
+/// Makes a scan whose headers were read into it that of their datagram, the bytes that are left being its body; Err where that is too long.
 pub fn close(
     bytes: &[u8],
     front: &Preamble,
-    headers: Headers,
     cursor: &Cursor<'_>,
-) -> Result<Scan, Stray>
+    scan: &mut Scan,
+) -> Result<(), Stray>
     requires { length (left cursor.now) ≤ longest_body → IsBehind (left cursor.now) bytes.now }
-    ensures { Closes bytes.now front.now headers (left cursor.now) result }
+    ensures { Closes bytes.now front.now scan.old.headers (left cursor.now) result scan.new }
 {
     if cursor.len() > LONGEST_BODY as usize {
         return Err(Stray::Body);
     }
-    Ok(Scan {
-        sender: front.sender,
-        dest: front.dest,
-        headers,
-        body: body_place(bytes, cursor),
-    })
+    scan.sender = front.sender;
+    scan.dest = front.dest;
+    scan.body = body_place(bytes, cursor);
+    Ok(())
 }

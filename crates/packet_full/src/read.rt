@@ -34,31 +34,27 @@ pub fn read_full(
 ) -> Result<Packet, ReadError>
     ensures { Reads (received (stack_tree stack.now) [] here.now bytes.now) result }
 {
-    match scan_full(stack, here, bytes) {
-        Ok(scan) => Ok(packet_of(alloc, here, bytes, scan)?),
+    let mut scan = Scan::none();
+    match scan_full(stack, here, bytes, &mut scan) {
+        Ok(()) => Ok(packet_of(alloc, here, bytes, &scan)?),
         Err(cause) => Err(ReadError::Stray(cause)),
     }
 }
 
 /// The packet that a scan tells of.
-pub fn packet_of(alloc: Global, here: &Here, bytes: &[u8], scan: Scan) -> Result<Packet, Memory>
-    requires { scan.body ≤ length bytes.now }
-    ensures { IfOk result (λ packet. packet ≡ packet_scanned here.now bytes.now scan) }
+pub fn packet_of(alloc: Global, here: &Here, bytes: &[u8], scan: &Scan) -> Result<Packet, Memory>
+    requires { scan.now.body ≤ length bytes.now }
+    ensures { IfOk result (λ packet. packet ≡ packet_scanned here.now bytes.now scan.now) }
 {
-    let Scan {
-        sender,
-        dest,
-        mut headers,
-        body,
-    } = scan;
-    let mut message = Message::of(alloc, &bytes[body as usize..])?;
+    let mut message = Message::of(alloc, &bytes[scan.body as usize..])?;
+    let mut headers = scan.headers.copy();
     put_in_front(&mut headers, &mut message)?;
     Ok(Packet {
         group: here.group,
         stamp: here.stamp,
         view: here.view,
-        sender,
-        dest,
+        sender: scan.sender,
+        dest: scan.dest,
         message,
     })
 }

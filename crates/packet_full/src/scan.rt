@@ -1,7 +1,8 @@
 //! Datagrams to packets.
 
-ghost use Rattle.std.specs.Prelude.{◌≤◌, [], IfOk, length};
+ghost use Rattle.std.specs.Prelude.{◌≡◌, ◌≤◌, [], IfOk, length};
 ghost use Rattle.event_graph.specs.Answer.{stack_tree};
+ghost use Rattle.msg_core.specs.declared.packet.Dest.TheVariants as to;
 ghost use Rattle.packet_mean.specs.Received.{received};
 ghost use Rattle.packet_full.specs.Scanned.{Scans};
 
@@ -21,11 +22,25 @@ pub struct Scan {
     pub body: u32,
 }
 
-/// What a full datagram says to a member, without memory, or the first cause for which it is refused. A short one that no earlier cause
-/// refuses names no plan here.
-pub fn scan_full(stack: &Stack, here: &Here, bytes: &[u8]) -> Result<Scan, Stray>
-    ensures read { Scans here.now bytes.now (received (stack_tree stack.now) [] here.now bytes.now) result }
-    ensures within { IfOk result (λ scan. scan.body ≤ length bytes.now) }
+impl Scan {
+    /// One that nothing was read into: no headers and no body, of rank 0 to all.
+    pub fn none() -> Scan
+        ensures { result ≡ record { sender = 0; dest = to.All; headers = []; body = 0 } }
+    {
+        Scan {
+            sender: 0,
+            dest: Dest::All,
+            headers: Headers::none(),
+            body: 0,
+        }
+    }
+}
+
+/// Reads what a full datagram says to a member into `scan`, without memory; or tells the first cause for which it is refused, and `scan` is
+/// of no use then. A short one that no earlier cause refuses names no plan here.
+pub fn scan_full(stack: &Stack, here: &Here, bytes: &[u8], scan: &mut Scan) -> Result<(), Stray>
+    ensures read { Scans here.now bytes.now (received (stack_tree stack.now) [] here.now bytes.now) result scan.new }
+    ensures within { IfOk result (λ _. scan.new.body ≤ length bytes.now) }
 {
     stack.is_within_limits();
     let Opened { front, mut cursor } = match open(here, bytes) {
@@ -35,9 +50,9 @@ pub fn scan_full(stack: &Stack, here: &Here, bytes: &[u8]) -> Result<Scan, Stray
     if front.form == SHORT_FORM {
         return Err(Stray::Plan);
     }
-    let mut headers = Headers::none();
-    let Some(()) = cursor.chain(stack, 0, &mut headers) else {
+    scan.headers.clear();
+    let Some(()) = cursor.chain(stack, 0, &mut scan.headers) else {
         return Err(Stray::Chain)
     };
-    close(bytes, &front, headers, &cursor)
+    close(bytes, &front, &cursor, scan)
 }

@@ -28,28 +28,29 @@ fn named<'a>(plans: &'a Plans, dest: Dest, cursor: &mut Cursor<'_>) -> Option<&'
     }
 }
 
-/// The headers behind what stands in front of a datagram; the bytes that are left are its body.
+/// Reads the headers behind what stands in front of a datagram; the bytes that are left are its body.
 pub(crate) fn contents(
     stack: &Stack,
     plans: &Plans,
     front: &Preamble,
     cursor: &mut Cursor<'_>,
-) -> Result<Headers, Stray>
-    ensures { Contains (steps.contents (stack_tree stack.now) (plans_tree plans.now) (preamble_tree front.now) (left cursor.old)) result (left cursor.new) }
+    headers: &mut Headers,
+) -> Result<(), Stray>
+    ensures { Contains (steps.contents (stack_tree stack.now) (plans_tree plans.now) (preamble_tree front.now) (left cursor.old)) result headers.new (left cursor.new) }
 {
-    let mut headers = Headers::none();
+    headers.clear();
     if front.form == FULL_FORM {
-        let Some(()) = cursor.chain(stack, 0, &mut headers) else {
+        let Some(()) = cursor.chain(stack, 0, headers) else {
             return Err(Stray::Chain)
         };
-        return Ok(headers);
+        return Ok(());
     }
     let Some(plan) = named(plans, front.dest, cursor) else {
         return Err(Stray::Plan)
     };
     let mut planned = Planned::of(plan);
-    let Some(()) = planned.chain(cursor, stack, 0, &mut headers) else {
+    let Some(()) = planned.chain(cursor, stack, 0, headers) else {
         return Err(Stray::Chain)
     };
-    Ok(headers)
+    Ok(())
 }

@@ -8,7 +8,7 @@ ghost use Rattle.packet_plans.specs.Trees.{plans_tree};
 use crate::scan::scan_packet;
 use event_graph::Stack;
 use msg_core::Packet;
-use packet_full::{ReadError, packet_of};
+use packet_full::{ReadError, Scan, packet_of};
 use packet_mean::Here;
 use packet_plans::Plans;
 use std::alloc::Global;
@@ -24,8 +24,9 @@ pub fn read_packet(
 ) -> Result<Packet, ReadError>
     ensures { Reads (received (stack_tree stack.now) (plans_tree plans.now) here.now bytes.now) result }
 {
-    match scan_packet(stack, plans, here, bytes) {
-        Ok(scan) => Ok(packet_of(alloc, here, bytes, scan)?),
+    let mut scan = Scan::none();
+    match scan_packet(stack, plans, here, bytes, &mut scan) {
+        Ok(()) => Ok(packet_of(alloc, here, bytes, &scan)?),
         Err(cause) => Err(ReadError::Stray(cause)),
     }
 }

@@ -1,5 +1,6 @@
 pub mod Moves
 pub mod Piled
+pub mod Put
 pub mod Seen
 pub mod Sent
 pub mod Slots

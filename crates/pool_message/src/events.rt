@@ -3,8 +3,10 @@
 ghost use Rattle.std.specs.Prelude.{◌≡◌, ◌<◌, ◌≤◌, [], ◌∷◌, ◌++◌, length, drop, slice_get, Some, None, option_map, IfOk};
 ghost use Rattle.circular_buffer.specs.Buffer.{buffer, last_item};
 ghost use Rattle.slot_pool.specs.References.{Covers};
+ghost use Rattle.msg_core.specs.Parts.{longest_body};
 ghost use Rattle.pool_message.specs.Moves.{CanKeep, Kept, Returned};
 ghost use Rattle.pool_message.specs.Piled.{without_last};
+ghost use Rattle.pool_message.specs.Put.{Puts};
 ghost use Rattle.pool_message.specs.Seen.{refs, event_refs};
 ghost use Rattle.pool_message.specs.Sent.{sent_refs, most_events, first_sent, sent_behind, message_passed, event_passed, bared, CanPass};
 
@@ -12,10 +14,11 @@ use crate::arrival::Arrival;
 use crate::event::PoolEvent;
 use crate::message::PoolMessage;
 use crate::messages::Messages;
+use crate::part::Part;
 use crate::place::Place;
 use circular_buffer::HeapCircularBuffer;
 use layer_ast::{Dir, Kind};
-use msg_core::Header;
+use msg_core::{Header, Headers};
 use slot_pool::{Memory, Pool};
 use std::alloc::Global;
 use std::marker::Model;
@@ -79,22 +82,6 @@ impl Events {
         ensures few { result ≤ most_events }
     {
         self.order.capacity()
-    }
-
-    /// Puts one behind the others.
-    pub fn push(&mut self, direction: Dir, event: PoolEvent)
-        requires { length self.old.items < self.old.capacity }
-        ensures { self.new ≡ buffer (self.old.items ++ (direction, event) ∷ []) self.old.capacity }
-    {
-        let PoolEvent {
-            kind,
-            peer,
-            a,
-            b,
-            mut message,
-        } = event;
-        self.push_from(direction, kind, peer, a, b, &mut message);
-        message.close();
     }
 
     /// The first one, if there is one.
@@ -245,6 +232,56 @@ impl Events {
             unreachable!();
         };
         fill_last(&mut self.slots[*k as usize], messages);
+    }
+
+    /// Puts an event of this kind, with these numbers and with a message of these headers and a copy of these bytes, behind the others: the
+    /// bytes in a slot that was unused, and the headers where the event stands. False where the pool is full, and then nothing has changed.
+    pub fn push_put(
+        &mut self,
+        direction: Dir,
+        kind: Kind,
+        peer: u32,
+        a: u32,
+        b: u32,
+        headers: &Headers,
+        bytes: &[u8],
+        pool: &mut Pool,
+    ) -> bool
+        requires room { length self.old.items < self.old.capacity }
+        requires fits { length bytes.now ≤ longest_body }
+        ensures { Puts pool.old self.old direction kind peer a b (record { headers = headers.now; body = bytes.now }) pool.new self.new result }
+    {
+        let Some(slot) = pool.put(bytes) else {
+            return false
+        };
+        let part = Part {
+            slot,
+            from: 0,
+            len: bytes.len() as u32,
+        };
+        self.push_made(direction, kind, peer, a, b, headers, part);
+        true
+    }
+
+    /// Puts an event of this kind, with these numbers and with a message of these headers before this body, behind the others.
+    fn push_made(
+        &mut self,
+        direction: Dir,
+        kind: Kind,
+        peer: u32,
+        a: u32,
+        b: u32,
+        headers: &Headers,
+        body: Part,
+    )
+        requires { length self.old.items < self.old.capacity }
+        ensures { self.new ≡ buffer (self.old.items ++ (direction, record { kind = kind; peer = peer; a = a; b = b; message = Some (record { headers = headers.now; body = Some body }) }) ∷ []) self.old.capacity }
+    {
+        self.push_bare(direction, kind, peer, a, b);
+        let Some(k) = self.order.back() else {
+            unreachable!();
+        };
+        fill_made(&mut self.slots[*k as usize], headers, body);
     }
 
     /// Puts an event of this kind, with these numbers and with a message once more, which goes down behind this header, behind the others. The
@@ -408,6 +445,14 @@ fn fill_arrived(sent: &mut (Dir, PoolEvent), message: &mut Arrival)
     ensures left { message.new ≡ None }
 {
     message.move_to(&mut sent.1.message);
+}
+
+/// An event without a message gets one of these headers before this body.
+fn fill_made(sent: &mut (Dir, PoolEvent), headers: &Headers, body: Part)
+    requires { sent.old.1.message ≡ None }
+    ensures { sent.new ≡ (sent.old.0, record sent.old.1 { message = Some (record { headers = headers.now; body = Some body }) }) }
+{
+    sent.1.message.make(headers, body);
 }
 
 /// An event without a message takes the last of some, if there is one.

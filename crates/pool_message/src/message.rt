@@ -15,17 +15,15 @@ pub struct PoolMessage {
 }
 
 impl PoolMessage {
-    ghost use Rattle.std.specs.Prelude.{◌≡◌, ℕ, ◌+◌, ◌<◌, ◌≤◌, ◌↔◌, List, [], ◌∷◌, ◌++◌, map, length, None, IfSome, IfNone, IsNone};
+    ghost use Rattle.std.specs.Prelude.{◌≡◌, ℕ, ◌+◌, ◌<◌, ◌≤◌, List, [], ◌∷◌, ◌++◌, map, length, Some, None};
     ghost use Rattle.std.specs.List.{range_with_len};
-    ghost use Rattle.slot_pool.specs.Held.{IsFull};
     ghost use Rattle.slot_pool.specs.References.{Covers};
     ghost use Rattle.msg_core.specs.Chain.{first_of, rest_of};
     ghost use Rattle.msg_core.specs.Headers.{most_headers};
     ghost use Rattle.msg_core.specs.Parts as parts;
-    ghost use Rattle.msg_core.specs.Parts.{longest_body};
     ghost use Rattle.layer_mean.specs.Visit.{none_header};
     ghost use Rattle.pool_message.specs.Seen.{refs, seen, Lies, bodiless};
-    ghost use Rattle.pool_message.specs.Moves.{CanKeep, Kept, Returned, Derived, Made, Counts, Joined};
+    ghost use Rattle.pool_message.specs.Moves.{CanKeep, Kept, Returned, Derived, Counts, Joined};
 
     /// A message without headers and without bytes.
     pub fn nothing() -> PoolMessage
@@ -47,25 +45,6 @@ impl PoolMessage {
             headers: none_headers(first, count),
             body: None,
         }
-    }
-
-    /// A message with these headers and a copy of these bytes, in a slot that was unused. There is none where the pool is full.
-    pub fn put(headers: Headers, bytes: &[u8], pool: &mut Pool) -> Option<PoolMessage>
-        requires { length bytes.now ≤ longest_body }
-        ensures full { IsNone result ↔ IsFull pool.old }
-        ensures none { IfNone result (pool.new ≡ pool.old) }
-        ensures some { IfSome result (Made pool.old pool.new [] (record { headers = headers; body = bytes.now })) }
-    {
-        let slot = pool.put(bytes)?;
-        let part = Part {
-            slot,
-            from: 0,
-            len: bytes.len() as u32,
-        };
-        Some(PoolMessage {
-            headers,
-            body: Some(part),
-        })
     }
 
     /// Its headers, the lowest layer's first.
@@ -194,6 +173,15 @@ impl PoolMessage {
         self.headers.copy_from(&other.headers);
         other.headers.clear();
         self.set_body(other.body.take());
+    }
+
+    /// Becomes a message of these headers before this body. It has no bytes itself.
+    pub(crate) fn make(&mut self, headers: &Headers, body: Part)
+        requires { self.old.body ≡ None }
+        ensures { self.new ≡ record { headers = headers.now; body = Some body } }
+    {
+        self.headers.copy_from(headers);
+        self.set_body(Some(body));
     }
 
     /// Becomes the same message once more. It has no bytes itself; then the two share theirs, to which there is one more reference.

@@ -3,7 +3,8 @@
 ghost use Rattle.std.specs.Prelude.{◌≡◌};
 
 use crate::message::PoolMessage;
-use msg_core::Header;
+use crate::part::Part;
+use msg_core::{Header, Headers};
 use slot_pool::Pool;
 use std::marker::Model;
 
@@ -40,16 +41,6 @@ impl Place {
         Place {
             message: PoolMessage::nothing(),
             is_full: false,
-        }
-    }
-
-    /// A place with this message.
-    pub fn of(message: PoolMessage) -> Place
-        ensures { result ≡ Some message }
-    {
-        Place {
-            message,
-            is_full: true,
         }
     }
 
@@ -96,6 +87,15 @@ impl Place {
         ensures kept { Kept pool.old pool.new (refs message.now) }
     {
         self.message.keep_from(message, pool);
+        self.is_full = true;
+    }
+
+    /// Becomes full of a message of these headers before this body. The place was empty.
+    pub(crate) fn make(&mut self, headers: &Headers, body: Part)
+        requires { self.old ≡ None }
+        ensures { self.new ≡ Some (record { headers = headers.now; body = Some body }) }
+    {
+        self.message.make(headers, body);
         self.is_full = true;
     }
 

@@ -3,7 +3,7 @@
 use event_graph::Stack;
 use file_judge::judge;
 use msg_core::{Stray, View};
-use packet_full::{scan_full, write_full};
+use packet_full::{Scan, scan_full, write_full};
 use packet_mean::Here;
 use packet_plans::Plans;
 use packet_short::{compress, read_packet, scan_packet};
@@ -62,6 +62,11 @@ fn a_cast_of_four_layers_is_read_in_both_forms(rt: HostRuntime) -> Result<(), Fa
     Ok(())
 }
 
+/// What the member of rank 1 says of a datagram, in full.
+fn refusal(stack: &Stack, bytes: &[u8]) -> Option<Stray> {
+    scan_full(stack, &SECOND, bytes, &mut Scan::none()).err()
+}
+
 /// What the member of rank 1 says of the cast with so many bytes more.
 fn longer(alloc: Global, stack: &Stack, more: usize) -> Result<Option<Stray>, AllocError> {
     let mut bytes = Vec::new(alloc);
@@ -69,7 +74,7 @@ fn longer(alloc: Global, stack: &Stack, more: usize) -> Result<Option<Stray>, Al
     for _ in 0..more {
         bytes.push(0)?;
     }
-    Ok(scan_full(stack, &SECOND, bytes.as_slice()).err())
+    Ok(refusal(stack, bytes.as_slice()))
 }
 
 #[test]
@@ -81,7 +86,7 @@ fn long_datagrams_are_judged(rt: HostRuntime) -> Result<(), Fail> {
     assert_eq!(rt; longer(alloc, &stack, 8191)?, Some(Stray::Body));
     assert_eq!(rt; longer(alloc, &stack, 65_480)?, Some(Stray::Body));
     assert_eq!(rt;
-        scan_packet(&stack, &plans, &SECOND, b"").err(),
+        scan_packet(&stack, &plans, &SECOND, b"", &mut Scan::none()).err(),
         Some(Stray::Short)
     );
     Ok(())
@@ -97,18 +102,12 @@ fn chains_that_are_cut_off_are_refused(rt: HostRuntime) {
             19..25 => Some(Stray::Chain),
             _ => None,
         };
-        assert_eq!(rt; scan_full(&stack, &SECOND, &CAST[..length]).err(), cause);
+        assert_eq!(rt; refusal(&stack, &CAST[..length]), cause);
     }
     let mut undeclared = CAST;
     undeclared[19] = 2;
-    assert_eq!(rt;
-        scan_full(&stack, &SECOND, &undeclared).err(),
-        Some(Stray::Chain)
-    );
+    assert_eq!(rt; refusal(&stack, &undeclared), Some(Stray::Chain));
     let mut short_form = CAST;
     short_form[0] = 0xE6;
-    assert_eq!(rt;
-        scan_full(&stack, &SECOND, &short_form).err(),
-        Some(Stray::Plan)
-    );
+    assert_eq!(rt; refusal(&stack, &short_form), Some(Stray::Plan));
 }

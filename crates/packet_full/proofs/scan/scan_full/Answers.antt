@@ -27,7 +27,7 @@ pub returns-clause-read : goal.returns-clause-read
 returns-clause-read c =
     let full = full_by _ c.in-Ok.ensures.form c.if-front.false in
     let read = full_contents (stack_tree c.args.stack.now) [] _ _ _ _ full c.in-Some.ensures.read in
-    closed_scan (stack_tree c.args.stack.now) [] c.args.here.now c.args.bytes.now _ _ _ _ _ c.in-Ok.ensures.front c.in-Ok.ensures.own read
+    closed_scan (stack_tree c.args.stack.now) [] c.args.here.now c.args.bytes.now _ _ _ _ _ _ c.in-Ok.ensures.front c.in-Ok.ensures.own read
     (λ short. (full_ends (stack_tree c.args.stack.now) c.args.here.now c.args.bytes.now _ _ _ _ (record { places = c.is_within_limits.ensures.places; fields = c.is_within_limits.ensures.fields }) (are_bytes c.args.bytes.now c.type_inv.bytes)
     c.in-Ok.ensures.front read short).ends)
     c.close.ensures

@@ -22,7 +22,7 @@ close-requires c = λ short.
 
 pub returns-clause-read : goal.returns-clause-read
 returns-clause-read c =
-    closed_scan (stack_tree c.args.stack.now) (plans_tree c.args.plans.now) c.args.here.now c.args.bytes.now _ _ _ _ _ c.in-Ok.ensures.front
+    closed_scan (stack_tree c.args.stack.now) (plans_tree c.args.plans.now) c.args.here.now c.args.bytes.now _ _ _ _ _ _ c.in-Ok.ensures.front
     c.in-Ok.ensures.own c.in-Ok-contents.ensures
     (λ short. (any_ends (stack_tree c.args.stack.now) (plans_tree c.args.plans.now) c.args.here.now c.args.bytes.now _ _ _ _
     (record { places = c.is_within_limits.ensures.places; fields = c.is_within_limits.ensures.fields })
