@@ -54,13 +54,6 @@ impl PoolMessage {
         &self.headers
     }
 
-    /// Its headers once more.
-    pub fn copied_headers(&self) -> Headers
-        ensures { result ≡ self.now.headers }
-    {
-        self.headers.copy()
-    }
-
     /// How many bytes it has.
     pub fn len(&self) -> u32
         ensures { Counts self.now result }
