@@ -70,8 +70,8 @@ pub trait Stage {
         ensures layer { layer self.new ≡ layer self.old }
         ensures taken { taken self.new ≡ one_more (taken self.old) };
 
-    /// Lets an event pass where the layer has no handler for it, and says whether it did. It is then what a visit by it sends, and the layer
-    /// took one event more; all else is as it was.
+    /// Lets an event pass where the layer has no handler for it and doesn't drop it, and says whether it did. It is then what a visit by it sends,
+    /// and the layer took one event more; all else is as it was.
     fn pass(&mut self, direction: Dir, event: &mut PoolEvent) -> bool
         requires room { CanPass direction event.old.message }
         ensures passes { (p : List Held) → result ≡ is_passed (layer self.old) direction (event_seen p event.old) }
