@@ -3,6 +3,7 @@ pub mod Standing
 pub mod Gathering
 pub mod Resetting
 pub mod Running
+pub mod Entering
 pub mod Viewing
 pub mod Playing
 pub mod Taking

@@ -1,5 +1,5 @@
 -- The run of a step, from what entered to what came out.
-use Rattle.std.proofs.Common.{◌≡◌, ◌∙◌, ℕ, ◌+◌, ◌<◌, ◌≤◌, Bool, true, false, List, [], ◌∷◌, ◌++◌, map, length, flat_map, Option, Some, None, Ok, refl, sym, ap, subst, arith}
+use Rattle.std.proofs.Common.{◌≡◌, ◌∙◌, ℕ, zero, suc, ◌+◌, ◌<◌, ◌≤◌, Bool, true, false, List, [], ◌∷◌, ◌++◌, map, length, flat_map, Option, Some, None, Ok, refl, sym, ap, subst, arith}
 use Rattle.std.specs.Prelude.{is_some, ◌^◌}
 use Rattle.std.specs.List.{AllByRecursion}
 use Rattle.std.specs.declared.alloc.Global.{Global}
@@ -20,7 +20,9 @@ use Rattle.layer_mean.specs.declared.run.Event.{Event}
 use Rattle.layer_mean.specs.State.{State}
 use Rattle.layer_mean.specs.Tree.{LayerTree}
 use Rattle.layer_mean.specs.Queue.{Task, Work, run}
-use Rattle.stack_mean.specs.Acceptance.{accepted, largest_weight, rows_of}
+use Rattle.stack_mean.specs.Acceptance.{accepted, cost_in, largest_weight, rows_of, weight}
+use Rattle.stack_mean.specs.Graph.{Node, nodes}
+use Rattle.weight_laws.specs.Nodes.{task_node}
 use Rattle.msg_core.specs.declared.message.Header.{Header}
 use Rattle.packet_mean.specs.ChainedState.{Brings, IsFrom}
 use Rattle.packet_mean.specs.Plan.{kind_of}
@@ -86,6 +88,14 @@ enters_stack stack me (from_peer packet) = go packet.dest where
   go dest.All = refl
   go (dest.Rank r) = refl
 
+-- a node weighs at least 1
+heavy_in : (steps : ℕ) (stack : List LayerTree) (node : Node) → 1 ≤ cost_in steps stack (λ n. 1) node
+heavy_in zero stack node = omega arith
+heavy_in (suc steps) stack node = omega arith
+
+heavy : (stack : List LayerTree) (node : Node) → 1 ≤ weight stack node
+heavy stack node = heavy_in (length (nodes stack)) stack node
+
 module _ (stack : List LayerTree) (most : ℕ) where
   -- the pool is a member's own
   pub own_pool : (view : View) (w : Works) → IsReady stack most w → IsIn stack most view (states_in w) →
@@ -104,26 +114,36 @@ module _ (stack : List LayerTree) (most : ℕ) where
     within = ready.few;
   }
 
+  -- there is a place for the first task
+  pub has_place : (here : Here) (what : Entered) → IsHere here → IsEntered stack what → (w : Works) → IsReady stack most w → 0 < w.tasks.capacity
+  has_place here what is_here is_entered w ready =
+      let small : here.rank < 2 ^ 32 = omega (arith, is_here.rank) in
+      let fits = entries_fit stack (first_task stack here.rank what) (first_tasks_are_chained stack here.rank what small is_entered)
+      (enters_stack stack here.rank what) in
+      omega (arith, fits.weight, heavy stack (task_node (first_task stack here.rank what)), ap (λ (b : Buffer PoolTask). b.capacity) ready.quiet.tasks)
+
   pub has_slot : (view : View) (w : Works) → IsReady stack most w → IsIn stack most view (states_in w) → IsFull w.pool → ⊥
   has_slot view w ready is_in = not_full (rows_of stack most) w.pool (refs_in w) (own_pool view w ready is_in)
 
   -- a run can begin once the event of what entered has its message in the pool
   module _ (here : Here) (what : Entered) (is_here : IsHere here) (is_entered : IsEntered stack what) (w : Works) (q : List Held) (first : PoolTask)
-      (ready : IsReady stack most w) (is_in : IsIn stack most here.view (states_in w)) (brings : BringsIn stack here.rank w.pool q what first) where
+      (ready : IsReady stack most w) (is_in : IsIn stack most here.view (states_in w)) (brings : BringsIn stack here.rank w.pool q what first)
+      (ts : Buffer PoolTask) (only : ts ≡ buffer (first ∷ []) w.tasks.capacity) where
     stays : Stand place_of tree_of IsInOrder stack q w.layers.items × (map (state_in q) w.layers.items ≡ states_in w)
     stays = stand_stays stack w.pool q [] (event_refs first.event) w.layers.items brings.moved (covers_all w.pool (refs_in w) ready.exact) ready.stand
 
-    pub same_states : states_in (record w { pool = q }) ≡ states_in w
+    pub same_states : states_in (record w { pool = q; tasks = ts }) ≡ states_in w
     same_states = stays.1
 
-    pub can_run : CanRun stack (record w { pool = q }) first
+    pub can_run : CanRun stack (record w { pool = q; tasks = ts }) first
     can_run =
         let exact = exact_more w.pool q (refs_in w) (event_refs first.event) ready.exact brings.moved in
         let room = room_left (rows_of stack most) w.pool q (refs_in w) first.event (own_pool here.view w ready is_in) exact brings.slots in
         let small : here.rank < 2 ^ 32 = omega (arith, is_here.rank) in record {
           stand = stays.0;
           exact = exact;
-          quiet = record { tasks = ready.quiet.tasks; outs = ready.quiet.outs };
+          tasks = only ∙ ap (λ (b : Buffer PoolTask). buffer (first ∷ []) b.capacity) ready.quiet.tasks;
+          outs = ready.quiet.outs;
           lies = brings.lies;
           states = subst (λ (states : List State). AreChainedStates stack states) (sym stays.1) is_in.inside_is.states_are;
           chained = subst (λ (t : Task Event). IsChainedTask stack t) (sym brings.seen) (first_tasks_are_chained stack here.rank what small
@@ -195,16 +215,16 @@ module _ (stack : List LayerTree) (here : Here) (id : ℕ) (states : List State)
 
 -- the member is between two steps again
 module _ (g : Ground) (w : Works) (what : Entered) where
-  pub played : (q : List Held) (first : PoolTask) (before : ℕ) (mid : Works) (after : ℕ) (result : Predicted) (last : Works) (begun out : Gathered) →
+  pub played : (q : List Held) (ts : Buffer PoolTask) (first : PoolTask) (before : ℕ) (mid : Works) (after : ℕ) (result : Predicted) (last : Works) (begun out : Gathered) →
       IsReady (stack_of g) g.most w → IsIn (stack_of g) g.most g.here.view (states_in w) →
-      BringsIn (stack_of g) g.here.rank w.pool q what first →
-      HasRun (stack_of g) (record w { pool = q }) first before mid after result →
-      Ended (stack_of g) g.here g.id (states_in w) what (record w { pool = q }) before mid after result →
+      BringsIn (stack_of g) g.here.rank w.pool q what first → ts ≡ buffer (first ∷ []) w.tasks.capacity →
+      HasRun (stack_of g) (record w { pool = q; tasks = ts }) first before mid after result →
+      Ended (stack_of g) g.here g.id (states_in w) what (record w { pool = q; tasks = ts }) before mid after result →
       Returned mid.pool last.pool (sent_refs mid.outs.items) → last.layers ≡ mid.layers → last.tasks ≡ mid.tasks →
       last.outs ≡ buffer [] mid.outs.capacity → begun.outputs ≡ [] → begun.here ≡ g.here →
       out ≡ record begun { outputs = begun.outputs ++ outputs_in begun.here mid.pool mid.outs.items } →
       HasPlayed g (states_in w) what last out before after result
-  played q first before mid after result last begun out ready is_in brings has ended returned layers tasks outs none here gathered =
+  played q ts first before mid after result last begun out ready is_in brings only has ended returned layers tasks outs none here gathered =
       let stays = stand_stays (stack_of g) mid.pool last.pool (sent_refs mid.outs.items) [] mid.layers.items returned.moved
       (covers_turned mid.pool (refs_in mid) (sent_refs mid.outs.items) has.exact) has.stand in
       let same : states_in last ≡ states_in mid =
@@ -215,7 +235,7 @@ module _ (g : Ground) (w : Works) (what : Entered) where
           exact = subst (λ (v : Vec FileLayer Global). Exact last.pool (flat_map refs_of v.items)) (sym layers)
               (exact_less mid.pool last.pool (refs_in mid) (sent_refs mid.outs.items) has.exact returned.moved);
           quiet = record {
-            tasks = tasks ∙ has.tasks ∙ ready.quiet.tasks;
+            tasks = tasks ∙ has.tasks ∙ ap (λ (n : ℕ). buffer [] n) (ap (λ (b : Buffer PoolTask). b.capacity) only ∙ ap (λ (b : Buffer PoolTask). b.capacity) ready.quiet.tasks);
             outs = outs ∙ ap (λ (n : ℕ). buffer [] n) (has.room ∙ ap (λ (b : Buffer (Dir × PoolEvent)). b.capacity) ready.quiet.outs);
           };
           slots = returned.moved.slots ∙ has.slots ∙ brings.moved.slots ∙ ready.slots;
@@ -245,10 +265,11 @@ module _ (g : Ground) (w : Works) (what : Entered) where
 module _ (g : Ground) (w : Works) (what : Entered) (q : List Held) (first : PoolTask) (before : ℕ) (mid : Works) (after : ℕ) (result : Predicted)
     (ground : IsGround g) (ready : IsReady (stack_of g) g.most w) (is_in : IsIn (stack_of g) g.most g.here.view (states_in w))
     (is_entered : IsEntered (stack_of g) what) (brings : BringsIn (stack_of g) g.here.rank w.pool q what first)
-    (has : HasRun (stack_of g) (record w { pool = q }) first before mid after result) where
-  pub ended_so : Ended (stack_of g) g.here g.id (states_in w) what (record w { pool = q }) before mid after result
-  ended_so = ended (stack_of g) g.here g.id (states_in w) what (record w { pool = q }) first before mid after result
-      (same_states (stack_of g) g.most g.here what ground.here is_entered w q first ready is_in brings) brings.seen has
+    (ts : Buffer PoolTask) (only : ts ≡ buffer (first ∷ []) w.tasks.capacity)
+    (has : HasRun (stack_of g) (record w { pool = q; tasks = ts }) first before mid after result) where
+  pub ended_so : Ended (stack_of g) g.here g.id (states_in w) what (record w { pool = q; tasks = ts }) before mid after result
+  ended_so = ended (stack_of g) g.here g.id (states_in w) what (record w { pool = q; tasks = ts }) first before mid after result
+      (same_states (stack_of g) g.most g.here what ground.here is_entered w q first ready is_in brings ts only) brings.seen has
 
   a_step : IsStep (stack_of g) g.here (states_in w) what
   a_step = record { typed = ground.typed; at = ground.here; states_are = is_in.inside_is.states_are; input = is_entered }

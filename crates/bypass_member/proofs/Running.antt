@@ -1,5 +1,6 @@
 -- What a run of stages tells of a member's layers.
 use Rattle.std.proofs.Common.{◌≡◌, ◌∙◌, ℕ, ◌+◌, List, [], ◌++◌, map, flat_map, ap, subst}
+use Rattle.circular_buffer.specs.Buffer.{buffer}
 use Rattle.slot_pool.specs.References.{Moved, Exact}
 use Rattle.layer_ast.specs.declared.tokens.Dir.{Dir}
 use Rattle.layer_mean.specs.Tree.{LayerTree}
@@ -33,7 +34,7 @@ pub record Ran (stack : List LayerTree) (old : Works) (first : PoolTask) (stages
       sent_refs new.outs.items)
   pub stand : Stand place_of tree_of IsInOrder stack new.pool news
   pub lie : SentLie new.pool new.outs.items
-  pub tasks : new.tasks ≡ old.tasks
+  pub tasks : new.tasks ≡ buffer [] old.tasks.capacity
   pub room : new.outs.capacity ≡ old.outs.capacity
 
 pub has_run : (stack : List LayerTree) (old : Works) (first : PoolTask) (stages : List FileLayer) (before : ℕ) (new : Works) (news : List FileLayer)

@@ -14,7 +14,7 @@ entry_meant here (Cast body) = app_cast body.now
 entry_meant here (Send to body) = app_send to body.now
 entry_meant here Leave = app_leave
 entry_meant here (Tick moment) = clock_tick moment
-entry_meant here (Packet scan bytes) = from_peer (packet_scanned here bytes.now scan)
+entry_meant here (Packet scan bytes) = from_peer (packet_scanned here bytes.now scan.now)
 
 -- What is judged is what enters, or the reason for which nothing does.
 abbrev pub Judges : Here → Result Entered member.Refusal → Result Entry Refusal → Type 0
@@ -27,8 +27,8 @@ body_of (Cast body) = body.now
 body_of (Send to body) = body.now
 body_of Leave = []
 body_of (Tick moment) = []
-body_of (Packet scan bytes) = drop scan.body bytes.now
+body_of (Packet scan bytes) = drop scan.now.body bytes.now
 
 abbrev pub LiesWithin : Entry → Type 0
-LiesWithin (Packet scan bytes) = scan.body ≤ length bytes.now
+LiesWithin (Packet scan bytes) = scan.now.body ≤ length bytes.now
 LiesWithin _ = Unit {0}

@@ -1,5 +1,5 @@
 -- What a member works with, before a run and behind it.
-use Rattle.std.specs.Prelude.{◌≡◌, ℕ, ◌+◌, ◌≤◌, List, [], ◌++◌, map, length, None, Option}
+use Rattle.std.specs.Prelude.{◌≡◌, ℕ, ◌+◌, ◌≤◌, List, [], ◌∷◌, ◌++◌, map, length, None, Option}
 use Rattle.std.specs.List.{flat_map}
 use Rattle.circular_buffer.specs.Buffer.{buffer}
 use Rattle.slot_pool.specs.Held.{Held, spare}
@@ -52,11 +52,12 @@ pub record IsReady (stack : List LayerTree) (most : ℕ) (w : Works) : Type 0 wh
   pub slots : length w.pool ≡ rows_of stack most + slots_beyond
   pub few : rows_of stack most ≤ most_rows
 
--- A run can begin from a task.
+-- A run can begin from a task, which is the only one that is pending.
 pub record CanRun (stack : List LayerTree) (w : Works) (first : PoolTask) : Type 0 where
   pub stand : AreStanding stack w
   pub exact : Exact w.pool (refs_in w ++ event_refs first.event)
-  pub quiet : IsQuiet stack w
+  pub tasks : w.tasks ≡ buffer (first ∷ []) (largest_weight stack)
+  pub outs : w.outs ≡ buffer [] (largest_weight stack)
   pub lies : EventLies w.pool first.event
   pub states : AreChainedStates stack (states_in w)
   pub chained : IsChainedTask stack (task_seen w.pool first)
@@ -69,7 +70,7 @@ abbrev pub work_of : List LayerTree → Works → PoolTask → Work
 work_of stack w first = (run most_turns stack (states_in w) (task_seen w.pool first)).world
 
 -- The run was made: the states of the layers and what came out, in order, are those of its work, and so are the visits and whether they
--- went as predicted. What the layers and what came out refer to is all that the pool counts.
+-- went as predicted. What the layers and what came out refer to is all that the pool counts. No task is left.
 pub record HasRun (stack : List LayerTree) (old : Works) (first : PoolTask) (before : ℕ) (new : Works) (after : ℕ) (result : Predicted) : Type 0 where
   pub states : states_in new ≡ (work_of stack old first).states
   pub outs : sent_seen new.pool new.outs.items ≡ (work_of stack old first).outs
@@ -79,7 +80,7 @@ pub record HasRun (stack : List LayerTree) (old : Works) (first : PoolTask) (bef
   pub exact : Exact new.pool (refs_in new ++ sent_refs new.outs.items)
   pub lie : SentLie new.pool new.outs.items
   pub slots : length new.pool ≡ length old.pool
-  pub tasks : new.tasks ≡ old.tasks
+  pub tasks : new.tasks ≡ buffer [] old.tasks.capacity
   pub room : new.outs.capacity ≡ old.outs.capacity
 
 -- The outputs that events are which leave the stack of a member that is here; none is sent short.

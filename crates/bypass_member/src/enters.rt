@@ -1,13 +1,15 @@
 //! The task with which a step begins.
 
-ghost use Rattle.std.specs.Prelude.{◌≡◌, ◌≤◌, [], length, drop, Some, None};
+ghost use Rattle.std.specs.Prelude.{◌≡◌, ◌<◌, ◌≤◌, [], ◌∷◌, drop, length};
+ghost use Rattle.circular_buffer.specs.Buffer.{buffer};
 ghost use Rattle.layer_ast.specs.declared.tokens.Dir.TheVariants as dir;
-ghost use Rattle.packet_mean.specs.Plan.{kind_of};
+ghost use Rattle.packet_mean.specs.Plan as mean;
 ghost use Rattle.event_graph.specs.Answer.{stack_tree};
 ghost use Rattle.msg_core.specs.Parts.{longest_body};
-ghost use Rattle.pool_message.specs.Moves.{Made};
 ghost use Rattle.slot_pool.specs.Held.{IsFull};
-ghost use Rattle.bypass_member.specs.Entering.{Brings, Carries};
+ghost use Rattle.stack_queue.specs.Pending.{first_task};
+ghost use Rattle.stack_queue.specs.Put.{carrying_task, PutLast};
+ghost use Rattle.bypass_member.specs.Entering.{Brings};
 ghost use Rattle.bypass_member.specs.Judged.{entry_meant, body_of, LiesWithin};
 
 use crate::entry::Entry;
@@ -16,109 +18,104 @@ use layer_ast::{Dir, Kind};
 use msg_core::{Dest, Headers};
 use packet_full::Scan;
 use packet_mean::Here;
-use pool_message::{Place, PoolEvent, PoolMessage};
 use slot_pool::Pool;
-use stack_queue::PoolTask;
+use stack_queue::Tasks;
 
-/// A message with these headers and a copy of these bytes, in a pool that isn't full.
-fn message_in(headers: Headers, body: &[u8], pool: &mut Pool) -> PoolMessage
+/// A task that carries a message of these headers and a copy of these bytes, in a pool that isn't full, becomes the last.
+fn carry(
+    at: u16,
+    direction: Dir,
+    kind: Kind,
+    peer: u32,
+    headers: &Headers,
+    body: &[u8],
+    tasks: &mut Tasks,
+    pool: &mut Pool,
+)
     requires fits { length body.now ≤ longest_body }
     requires room { IsFull pool.old → ⊥ }
-    ensures { Made pool.old pool.new [] (record { headers = headers; body = body.now }) result }
+    requires places { length tasks.old.items < tasks.old.capacity }
+    ensures { PutLast pool.old tasks.old (carrying_task at direction kind peer 0 0 (record { headers = headers.now; body = body.now })) pool.new tasks.new }
 {
-    match PoolMessage::put(headers, body, pool) {
-        Some(message) => message,
-        None => unreachable!(),
+    if !tasks.push_put(at, direction, kind, peer, 0, 0, headers, body, pool) {
+        unreachable!();
     }
 }
 
-/// An event with a message, which names a rank.
-fn carrying(kind: Kind, peer: u32, message: PoolMessage) -> PoolEvent
-    ensures { result ≡ record { kind = kind; peer = peer; a = 0; b = 0; message = Some message } }
+/// The kind of a packet to a destination.
+fn kind_of(dest: Dest) -> Kind
+    ensures { result ≡ mean.kind_of dest }
 {
-    PoolEvent {
-        kind,
-        peer,
-        a: 0,
-        b: 0,
-        message: Place::of(message),
-    }
-}
-
-/// An event with a number, and without a message.
-fn telling(kind: Kind, number: u32) -> PoolEvent
-    ensures { result ≡ record { kind = kind; peer = 0; a = number; b = 0; message = None } }
-{
-    PoolEvent {
-        kind,
-        peer: 0,
-        a: number,
-        b: 0,
-        message: Place::empty(),
-    }
-}
-
-/// A task at the top of a stack, going down.
-fn from_above(stack: &Stack, event: PoolEvent) -> PoolTask
-    ensures { result ≡ record { at = length (stack_tree stack.now); direction = dir.Down; event = event } }
-{
-    PoolTask {
-        at: u16::from(stack.places()),
-        direction: Dir::Down,
-        event,
-    }
-}
-
-/// A task at the lowest place, going up.
-fn from_below(event: PoolEvent) -> PoolTask
-    ensures { result ≡ record { at = 1; direction = dir.Up; event = event } }
-{
-    PoolTask {
-        at: 1,
-        direction: Dir::Up,
-        event,
-    }
-}
-
-/// The event of a packet that came.
-fn from_peer(scan: Scan, bytes: &[u8], pool: &mut Pool) -> PoolEvent
-    requires lies { scan.body ≤ length bytes.now }
-    requires fits { length (drop scan.body bytes.now) ≤ longest_body }
-    requires room { IsFull pool.old → ⊥ }
-    ensures { Carries pool.old pool.new (kind_of scan.dest) scan.sender (record { headers = scan.headers; body = drop scan.body bytes.now }) result }
-{
-    let Scan {
-        sender,
-        dest,
-        headers,
-        body,
-    } = scan;
-    let message = message_in(headers, &bytes[body as usize..], pool);
-    let kind = match dest {
+    match dest {
         Dest::All => Kind::Cast,
         Dest::Rank(_) => Kind::Send,
-    };
-    carrying(kind, u32::from(sender), message)
+    }
 }
 
-/// The task of what entered, with its message in a pool that isn't full.
-pub(crate) fn enter(entry: Entry<'_>, here: &Here, stack: &Stack, pool: &mut Pool) -> PoolTask
+/// What entered becomes the only task, with its message in a pool that isn't full.
+pub(crate) fn enter(
+    entry: Entry<'_>,
+    here: &Here,
+    stack: &Stack,
+    tasks: &mut Tasks,
+    pool: &mut Pool,
+)
     requires lies { LiesWithin entry }
     requires fits { length (body_of entry) ≤ longest_body }
     requires room { IsFull pool.old → ⊥ }
-    ensures { Brings (stack_tree stack.now) here.now.rank pool.old pool.new (entry_meant here.now entry.entry) result }
+    requires none { tasks.old.items ≡ [] }
+    requires places { 0 < tasks.old.capacity }
+    ensures brings { Brings (stack_tree stack.now) here.now.rank pool.old pool.new (entry_meant here.now entry.entry) (first_task tasks.new.items) }
+    ensures only { tasks.new ≡ buffer (first_task tasks.new.items ∷ []) tasks.old.capacity }
 {
     match entry {
         Entry::Cast(body) => {
-            let message = message_in(Headers::none(), body, pool);
-            from_above(stack, carrying(Kind::Cast, u32::from(here.rank), message))
+            enter_above(Kind::Cast, u32::from(here.rank), body, stack, tasks, pool);
         }
-        Entry::Send(to, body) => {
-            let message = message_in(Headers::none(), body, pool);
-            from_above(stack, carrying(Kind::Send, to, message))
+        Entry::Send(to, body) => enter_above(Kind::Send, to, body, stack, tasks, pool),
+        Entry::Leave => {
+            tasks.push_bare(u16::from(stack.places()), Dir::Down, Kind::Leave, 0, 0, 0);
         }
-        Entry::Leave => from_above(stack, telling(Kind::Leave, 0)),
-        Entry::Tick(moment) => from_below(telling(Kind::Timer, moment)),
-        Entry::Packet(scan, bytes) => from_below(from_peer(scan, bytes, pool)),
+        Entry::Tick(moment) => tasks.push_bare(1, Dir::Up, Kind::Timer, 0, moment, 0),
+        Entry::Packet(scan, bytes) => enter_packet(scan, bytes, tasks, pool),
     }
+}
+
+/// A cast or a send of the application becomes the last task, at the top.
+fn enter_above(
+    kind: Kind,
+    peer: u32,
+    body: &[u8],
+    stack: &Stack,
+    tasks: &mut Tasks,
+    pool: &mut Pool,
+)
+    requires fits { length body.now ≤ longest_body }
+    requires room { IsFull pool.old → ⊥ }
+    requires places { length tasks.old.items < tasks.old.capacity }
+    ensures { PutLast pool.old tasks.old (carrying_task (length (stack_tree stack.now)) dir.Down kind peer 0 0 (record { headers = []; body = body.now })) pool.new tasks.new }
+{
+    let top = u16::from(stack.places());
+    let none = Headers::none();
+    carry(top, Dir::Down, kind, peer, &none, body, tasks, pool);
+}
+
+/// A packet that came becomes the last task, at the lowest place.
+fn enter_packet(scan: &Scan, bytes: &[u8], tasks: &mut Tasks, pool: &mut Pool)
+    requires lies { scan.now.body ≤ length bytes.now }
+    requires fits { length (drop scan.now.body bytes.now) ≤ longest_body }
+    requires room { IsFull pool.old → ⊥ }
+    requires places { length tasks.old.items < tasks.old.capacity }
+    ensures { PutLast pool.old tasks.old (carrying_task 1 dir.Up (mean.kind_of scan.now.dest) scan.now.sender 0 0 (record { headers = scan.now.headers; body = drop scan.now.body bytes.now })) pool.new tasks.new }
+{
+    carry(
+        1,
+        Dir::Up,
+        kind_of(scan.dest),
+        u32::from(scan.sender),
+        &scan.headers,
+        &bytes[scan.body as usize..],
+        tasks,
+        pool,
+    );
 }

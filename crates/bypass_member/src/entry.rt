@@ -31,7 +31,7 @@ pub(crate) enum Entry<'b> {
     Leave,
     Tick(u32),
     /// What a datagram says, and the datagram, in which its body lies.
-    Packet(Scan, &'b [u8]),
+    Packet(&'b Scan, &'b [u8]),
 }
 
 /// Whether a body has more bytes than one may have.
@@ -42,21 +42,28 @@ fn is_too_big(body: &[u8]) -> bool
     body.len() > LONGEST_BODY as usize
 }
 
-/// What a datagram says to a member, or the first cause for which it is refused.
-fn read(stack: &Stack, plans: &Plans, here: &Here, bytes: &[u8]) -> Result<Scan, Stray>
-    ensures read { Scans here.now bytes.now (received (stack_tree stack.now) (plans_tree plans.now) here.now bytes.now) result }
-    ensures within { IfOk result (λ scan. scan.body ≤ length bytes.now) }
+/// Reads what a datagram says to a member into `scan`, or tells the first cause for which it is refused.
+fn read(
+    stack: &Stack,
+    plans: &Plans,
+    here: &Here,
+    bytes: &[u8],
+    scan: &mut Scan,
+) -> Result<(), Stray>
+    ensures read { Scans here.now bytes.now (received (stack_tree stack.now) (plans_tree plans.now) here.now bytes.now) result scan.new }
+    ensures within { IfOk result (λ _. scan.new.body ≤ length bytes.now) }
     ensures bytes { AreBytes bytes.now }
 {
-    scan_packet(stack, plans, here, bytes)
+    scan_packet(stack, plans, here, bytes, scan)
 }
 
-/// What a member in a view makes of an input, or why it refuses it.
+/// What a member in a view makes of an input, or why it refuses it. A datagram is read into `scan`.
 pub(crate) fn judge<'b>(
     stack: &Stack,
     plans: &Plans,
     here: &Here,
     input: Input<'b>,
+    scan: &'b mut Scan,
 ) -> Result<Entry<'b>, Refusal>
     ensures judged { Judges here.now (entered (stack_tree stack.now) (plans_tree plans.now) here.now (input_meant input.entry)) result }
     ensures lies { IfOk result LiesWithin }
@@ -77,8 +84,8 @@ pub(crate) fn judge<'b>(
         }
         Input::Leave => Ok(Entry::Leave),
         Input::Tick(moment) => Ok(Entry::Tick(moment)),
-        Input::Datagram(bytes) => match read(stack, plans, here, bytes) {
-            Ok(scan) => Ok(Entry::Packet(scan, bytes)),
+        Input::Datagram(bytes) => match read(stack, plans, here, bytes, scan) {
+            Ok(()) => Ok(Entry::Packet(scan, bytes)),
             Err(cause) => Err(Refusal::Stray(cause)),
         },
     }

@@ -11,7 +11,7 @@ use event_graph::Stack;
 use file_layer::Maker;
 use member_shown::Shown;
 use msg_core::View;
-use packet_full::member_count;
+use packet_full::{Scan, member_count};
 use packet_plans::Plans;
 use std::alloc::Global;
 use std::marker::Model;
@@ -134,7 +134,8 @@ impl Member {
             return Stepped::Refused(Refusal::Out)
         };
         let here = here_of(self.group, self.stamp, view, self.id);
-        let entry = match judge(&self.stack, &self.plans, &here, input) {
+        let mut scan = Scan::none();
+        let entry = match judge(&self.stack, &self.plans, &here, input, &mut scan) {
             Ok(entry) => entry,
             Err(reason) => return Stepped::Refused(reason),
         };

@@ -3,25 +3,21 @@
 ghost use Rattle.std.specs.Prelude.{◌^◌, ◌≤◌};
 ghost use Rattle.chain_laws.specs.Runs.{TypedStack};
 ghost use Rattle.event_graph.specs.Answer.{stack_tree};
+ghost use Rattle.stack_queue.specs.Pending.{first_task};
 ghost use Rattle.bypass_member.specs.Working.{CanRun, HasRun};
 
 use crate::works::Works;
 use event_graph::Stack;
 use layer_eval::Predicted;
 use row_laws::accepted_is_light;
-use stack_queue::{PoolTask, entries_fit, run};
+use stack_queue::{entries_fit, run};
 
-/// Runs the layers from a first task. What comes out is kept until it is gathered.
-pub(crate) fn run_layers(
-    works: &mut Works,
-    stack: &Stack,
-    first: PoolTask,
-    visits: &mut u64,
-) -> Predicted
+/// Runs the layers from the only task that is pending. What comes out is kept until it is gathered.
+pub(crate) fn run_layers(works: &mut Works, stack: &Stack, visits: &mut u64) -> Predicted
     requires typed { TypedStack (stack_tree stack.now) }
-    requires can { CanRun (stack_tree stack.now) works.old first }
+    requires can { CanRun (stack_tree stack.now) works.old (first_task works.old.tasks.items) }
     requires visits { visits.old ≤ 2 ^ 63 }
-    ensures { HasRun (stack_tree stack.now) works.old first visits.old works.new visits.new result }
+    ensures { HasRun (stack_tree stack.now) works.old (first_task works.old.tasks.items) visits.old works.new visits.new result }
 {
     entries_fit();
     accepted_is_light();
@@ -31,7 +27,6 @@ pub(crate) fn run_layers(
         layers,
         stack,
         &mut works.pool,
-        first,
         &mut works.tasks,
         &mut works.outs,
         visits,

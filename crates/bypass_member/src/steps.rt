@@ -38,8 +38,14 @@ fn play(
     ensures places { out.new.places ≡ out.old.places }
 {
     ground.stack.is_accepted();
-    let first = enter(entry, &ground.here, ground.stack, &mut works.pool);
-    let predicted = run_layers(works, ground.stack, first, visits);
+    enter(
+        entry,
+        &ground.here,
+        ground.stack,
+        &mut works.tasks,
+        &mut works.pool,
+    );
+    let predicted = run_layers(works, ground.stack, visits);
     out.begin(ground.here);
     gather(&mut works.outs, &mut works.pool, out);
     predicted

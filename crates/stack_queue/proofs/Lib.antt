@@ -1,5 +1,6 @@
 pub mod Refs
 pub mod Lists
+pub mod Put
 pub mod Lines
 pub mod Asked
 pub mod Steps

@@ -1,4 +1,5 @@
 pub mod Pending
+pub mod Put
 pub mod Stages
 pub mod Going
 pub mod Passing

@@ -1,6 +1,6 @@
 //! Tasks that are pending.
 
-ghost use Rattle.std.specs.Prelude.{◌≡◌, ◌+◌, ◌<◌, ◌≤◌, [], ◌∷◌, ◌++◌, drop, length, map, IfOk, IfSome, IfNone};
+ghost use Rattle.std.specs.Prelude.{◌≡◌, ◌+◌, ◌<◌, ◌≤◌, [], ◌∷◌, ◌++◌, drop, length, map, None, IfOk, IfSome, IfNone};
 ghost use Rattle.circular_buffer.specs.Buffer.{buffer};
 ghost use Rattle.stack_mean.specs.Acceptance.{largest_weight};
 
@@ -9,9 +9,10 @@ use crate::places::{end_first, go_on, put_place, stand_alone};
 use crate::sent::events_for;
 use circular_buffer::HeapCircularBuffer;
 use event_graph::Stack;
-use layer_ast::Dir;
+use layer_ast::{Dir, Kind};
 use layer_eval::Predicted;
 use layer_stage::Stage;
+use msg_core::Headers;
 use pool_message::{Events, PoolEvent};
 use slot_pool::Pool;
 use std::alloc::{AllocError, Global};
@@ -49,6 +50,7 @@ impl Tasks {
     ghost use Rattle.event_graph.specs.Answer.{stack_tree};
     ghost use Rattle.slot_pool.specs.Held.{spare};
     ghost use Rattle.slot_pool.specs.References.{Moved, Covers};
+    ghost use Rattle.msg_core.specs.Parts.{longest_body};
     ghost use Rattle.layer_mean.specs.Queue.{tasks_of};
     ghost use Rattle.layer_mean.specs.Visit.{step};
     ghost use Rattle.layer_desk.specs.Need.{most_above};
@@ -57,6 +59,7 @@ impl Tasks {
     ghost use Rattle.pool_message.specs.Seen.{event_seen};
     ghost use Rattle.stack_queue.specs.Passing.{Rest, GoesWith, Continues, StaysAt};
     ghost use Rattle.stack_queue.specs.Pending.{first_task, tasks_seen, tasks_refs, TasksLie};
+    ghost use Rattle.stack_queue.specs.Put.{carrying_task, Puts};
 
     /// No task, with places for the weight of a stack.
     pub fn fresh(alloc: Global, stack: &Stack) -> Result<Tasks, AllocError>
@@ -72,17 +75,41 @@ impl Tasks {
         }
     }
 
-    /// The task becomes the last.
-    pub fn push(&mut self, task: PoolTask)
-        requires { length self.old.items < self.old.capacity }
-        ensures { self.new ≡ buffer (self.old.items ++ task ∷ []) self.old.capacity }
+    /// An event of this kind, with these numbers and with a message of these headers and a copy of these bytes, becomes the last task, and goes
+    /// to this place: the bytes are in a slot that was unused, and the headers where the event stands. False where the pool is full, and then
+    /// nothing has changed.
+    pub fn push_put(
+        &mut self,
+        at: u16,
+        direction: Dir,
+        kind: Kind,
+        peer: u32,
+        a: u32,
+        b: u32,
+        headers: &Headers,
+        bytes: &[u8],
+        pool: &mut Pool,
+    ) -> bool
+        requires room { length self.old.items < self.old.capacity }
+        requires fits { length bytes.now ≤ longest_body }
+        ensures { Puts pool.old self.old (carrying_task at direction kind peer a b (record { headers = headers.now; body = bytes.now })) pool.new self.new result }
     {
-        let PoolTask {
-            at,
-            direction,
-            event,
-        } = task;
-        self.events.push(direction, event);
+        if !self
+            .events
+            .push_put(direction, kind, peer, a, b, headers, bytes, pool)
+        {
+            return false;
+        }
+        put_place(&mut self.places, at);
+        true
+    }
+
+    /// An event of this kind, with these numbers and without a message, becomes the last task, and goes to this place.
+    pub fn push_bare(&mut self, at: u16, direction: Dir, kind: Kind, peer: u32, a: u32, b: u32)
+        requires { length self.old.items < self.old.capacity }
+        ensures { self.new ≡ buffer (self.old.items ++ record { at = at; direction = direction; event = record { kind = kind; peer = peer; a = a; b = b; message = None } } ∷ []) self.old.capacity }
+    {
+        self.events.push_bare(direction, kind, peer, a, b);
         put_place(&mut self.places, at);
     }
 

@@ -5,6 +5,7 @@ use Rattle.circular_buffer.specs.Buffer.{Buffer}
 use Rattle.event_graph.specs.Answer.{stack_tree}
 use Rattle.layer_ast.specs.declared.tokens.Dir.{Dir}
 use Rattle.pool_message.specs.declared.event.PoolEvent.{PoolEvent}
+use Rattle.stack_queue.specs.Pending.{first_task}
 use Rattle.stack_queue.specs.declared.tasks.PoolTask.{PoolTask}
 use Rattle.bypass_member.proofs.Running.{has_run}
 use Rattle.bypass_member.proofs.runs.run_layers.Goals as goal
@@ -18,19 +19,19 @@ run-requires-clause-slots c =
 pub run-requires-clause-tasks : goal.run-requires-clause-tasks
 run-requires-clause-tasks c =
     let fits = c.entries_fit.ensures (stack_tree c.args.stack.now) _ c.requires.can.chained c.requires.can.enters in (
-      ap (λ (b : Buffer PoolTask). b.items) c.requires.can.quiet.tasks,
-      omega (arith, fits.weight, ap (λ (b : Buffer PoolTask). b.capacity) c.requires.can.quiet.tasks),
+      ap (λ (b : Buffer PoolTask). b.items) c.requires.can.tasks,
+      omega (arith, fits.weight, ap (λ (b : Buffer PoolTask). b.capacity) c.requires.can.tasks),
     )
 
 pub run-requires-clause-out : goal.run-requires-clause-out
 run-requires-clause-out c =
     let fits = c.entries_fit.ensures (stack_tree c.args.stack.now) _ c.requires.can.chained c.requires.can.enters in
-    let none : length c.args.works.now.outs.items ≡ 0 = ap (λ (b : Buffer (Dir × PoolEvent)). length b.items) c.requires.can.quiet.outs in
-    let room = ap (λ (b : Buffer (Dir × PoolEvent)). b.capacity) c.requires.can.quiet.outs in
+    let none : length c.args.works.now.outs.items ≡ 0 = ap (λ (b : Buffer (Dir × PoolEvent)). length b.items) c.requires.can.outs in
+    let room = ap (λ (b : Buffer (Dir × PoolEvent)). b.capacity) c.requires.can.outs in
     omega (arith, fits.weight, none, room)
 
 pub returns : goal.returns
-returns c = has_run (stack_tree c.args.stack.now) c.args.works.now c.args.first c.as_mut_slice-layers.result.now c.args.visits.now
+returns c = has_run (stack_tree c.args.stack.now) c.args.works.now (first_task c.args.works.now.tasks.items) c.as_mut_slice-layers.result.now c.args.visits.now
     record {
       layers = with_items c.args.works.now.layers c.run.new.stages;
       pool = c.run.new.pool;
@@ -42,7 +43,7 @@ returns c = has_run (stack_tree c.args.stack.now) c.args.works.now c.args.first 
       arith,
       c.run.auto.stages,
       c.as_mut_slice-layers.ensures.len,
-    )))) (ap (λ (b : Buffer (Dir × PoolEvent)). b.items) c.requires.can.quiet.outs) c.requires.can.exact
+    )))) (ap (λ (b : Buffer (Dir × PoolEvent)). b.items) c.requires.can.outs) c.requires.can.exact
     record {
       states = c.run.ensures.states;
       outs = c.run.ensures.outs;

@@ -8,7 +8,7 @@ use Rattle.event_graph.proofs.Judged.{accepted_is}
 use Rattle.layer_desk.specs.Need.{most_places}
 use Rattle.layer_eval.specs.Did.{as_predicted}
 use Rattle.pool_message.specs.Sent.{sent_seen}
-use Rattle.stack_queue.specs.Pending.{tasks_seen}
+use Rattle.stack_queue.specs.Pending.{first_task, tasks_seen}
 use Rattle.stack_queue.proofs.Ends.{begins_well, begins, first_weighs, ended_at}
 use Rattle.stack_queue.proofs.Turn.{goes_with, placed_at, edge_at, output_fits, puts_out, falls_out, is_ready, counts_are, headers_are, slots_suffice, places_suffice, covers_it, visit_goes_on, visit_stands, falls}
 use Rattle.stack_queue.proofs.Passing.{carried, carried_lighter}
@@ -20,14 +20,14 @@ loop-at-init g c =
     let refs = flat_map g.S.Stage.refs c.args.stages.now in
     let accepts = accepted_is (stack_tree c.args.stack.now) c.args.stack.now.accepted in
     let few : length (stack_tree c.args.stack.now) ≤ most_places = omega (arith, length-map c.args.stack.now.typed.layers.items rc_tree, c.args.stack.now.typed.few) in (
-      begins_well (stack_tree c.args.stack.now) c.requires.typed accepts few c.args.pool.now states c.requires.chained c.args.first c.requires.first
+      begins_well (stack_tree c.args.stack.now) c.requires.typed accepts few c.args.pool.now states c.requires.chained (first_task c.args.tasks.now.items) c.requires.first
           c.requires.enters refs c.args.out.now.items c.args.visits.now c.requires.counts c.requires.slots,
       goes_with _ c.args.pool.now _
-          (begins (stack_tree c.args.stack.now) c.requires.typed accepts few c.args.pool.now states c.requires.chained c.args.first c.requires.first
+          (begins (stack_tree c.args.stack.now) c.requires.typed accepts few c.args.pool.now states c.requires.chained (first_task c.args.tasks.now.items) c.requires.first
           c.requires.enters refs c.args.out.now.items c.args.visits.now c.requires.counts c.requires.slots c.requires.event c.requires.lie c.requires.covers)
-          _ _ _ _ (search rules) (search rules) (search rules) (search rules),
+          _ _ _ _ (sym c.requires.tasks.0) (search rules) (search rules) (search rules),
       c.requires.stand,
-      ap (λ x. x.capacity) c.push.ensures,
+      refl,
       refl,
     )
 

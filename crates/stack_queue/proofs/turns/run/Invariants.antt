@@ -2,7 +2,7 @@ use Rattle.std.proofs.Common.{◌≡◌, ◌++◌, map, flat_map}
 use Rattle.weight_laws.specs.Runs.{pending_weight}
 use Rattle.event_graph.specs.Answer.{stack_tree}
 use Rattle.pool_message.specs.Seen.{event_refs}
-use Rattle.stack_queue.specs.Pending.{task_seen, tasks_seen}
+use Rattle.stack_queue.specs.Pending.{first_task, task_seen, tasks_seen}
 use Rattle.stack_queue.specs.Stages.{Stand}
 use Rattle.stack_queue.specs.Going.{Begun, BeginsWell, Going}
 use Rattle.stack_queue.proofs.turns.run.Given as goal
@@ -14,8 +14,8 @@ invariant-loop-at g l =
       stack = stack;
       pool = l.fn.pool;
       states = map (g.S.Stage.state l.fn.pool) l.fn.stages;
-      first = task_seen l.fn.pool l.fn.first;
-      refs = flat_map g.S.Stage.refs l.fn.stages ++ event_refs l.fn.first.event;
+      first = task_seen l.fn.pool (first_task l.fn.tasks.items);
+      refs = flat_map g.S.Stage.refs l.fn.stages ++ event_refs (first_task l.fn.tasks.items).event;
       out = l.fn.out.items;
       visits = l.fn.visits;
     } in

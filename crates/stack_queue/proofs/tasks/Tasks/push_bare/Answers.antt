@@ -1,11 +1,11 @@
-use Rattle.std.proofs.Common.{◌∷◌, ◌++◌, [], length, ap, ◌∙◌, arith}
+use Rattle.std.proofs.Common.{◌∷◌, ◌++◌, [], length, None, ap, ◌∙◌, arith}
 use Rattle.circular_buffer.specs.Buffer.{buffer}
 use Rattle.stack_queue.specs.Pending.{tasks_at}
 use Rattle.stack_queue.proofs.Lists.{as_many, pushed}
-use Rattle.stack_queue.proofs.tasks.Tasks.push.Goals as goal
+use Rattle.stack_queue.proofs.tasks.Tasks.push_bare.Goals as goal
 
-pub push-requires : goal.push-requires
-push-requires c = omega (
+pub push_bare-requires : goal.push_bare-requires
+push_bare-requires c = omega (
   arith,
   c.requires,
   ap (λ b. length b.items) c.self.view_is,
@@ -26,7 +26,8 @@ put_place-requires c = omega (
 
 pub returns : goal.returns
 returns c =
-    (λ k. buffer (tasks_at (c.put_place.ensures k).items (c.push.ensures k).items) (c.put_place.ensures k).capacity)
+    (λ k. buffer (tasks_at (c.put_place.ensures k).items (c.push_bare.ensures k).items) (c.put_place.ensures k).capacity)
     ∙ ap (λ ts. buffer ts c.self.inside.places.capacity)
-    (pushed c.self.inside.places.items c.self.inside.events.items c.args.task.at c.args.task.direction c.args.task.event c.self.invariant.0)
-    ∙ ap (λ b. buffer (b.items ++ c.args.task ∷ []) b.capacity) c.self.view_is
+    (pushed c.self.inside.places.items c.self.inside.events.items c.args.at c.args.direction
+    (record { kind = c.args.kind; peer = c.args.peer; a = c.args.a; b = c.args.b; message = None }) c.self.invariant.0)
+    ∙ ap (λ b. buffer (b.items ++ record { at = c.args.at; direction = c.args.direction; event = record { kind = c.args.kind; peer = c.args.peer; a = c.args.a; b = c.args.b; message = None } } ∷ []) b.capacity) c.self.view_is

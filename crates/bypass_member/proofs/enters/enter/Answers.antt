@@ -1,0 +1,54 @@
+use Rattle.std.proofs.Common.{None, length, sym, ap, ◌∙◌, refl}
+use Rattle.msg_core.specs.Chain.{plain}
+use Rattle.layer_ast.specs.declared.tokens.Dir.TheVariants as dir
+use Rattle.layer_ast.specs.declared.tokens.Kind.TheVariants as kind
+use Rattle.event_graph.specs.Answer.{stack_tree}
+use Rattle.packet_full.specs.Scanned.{packet_scanned}
+use Rattle.stack_queue.specs.Pending.{task_seen}
+use Rattle.stack_queue.specs.Put.{carrying_task}
+use Rattle.bypass_member.proofs.Entering.{entering, only_first, brings_carried, brings_bare, packet_task}
+use Rattle.bypass_member.proofs.enters.enter.Goals as goal
+
+pub returns-in-Cast-clause-brings : goal.returns-in-Cast-clause-brings
+returns-in-Cast-clause-brings c =
+    brings_carried _ _ _ _ _ _ _ c.requires.none _ c.enter_above.ensures
+    (ap (λ me. carrying_task (length (stack_tree c.args.stack.now)) dir.Down kind.Cast me 0 0 (plain c.in-Cast.body.now)) c.from.ensures
+    ∙ sym (ap (entering (stack_tree c.args.stack.now) c.args.here.now) c.in-Cast.is))
+
+pub returns-in-Send-clause-brings : goal.returns-in-Send-clause-brings
+returns-in-Send-clause-brings c =
+    brings_carried _ _ _ _ _ _ _ c.requires.none _ c.enter_above-in-Send.ensures
+    (sym (ap (entering (stack_tree c.args.stack.now) c.args.here.now) c.in-Send.is))
+
+pub returns-in-Leave-clause-brings : goal.returns-in-Leave-clause-brings
+returns-in-Leave-clause-brings c =
+    brings_bare _ _ _ c.args.pool.now _ _ _ c.requires.none c.push_bare.ensures refl
+    (ap (λ at. task_seen c.args.pool.now (record { at = at; direction = dir.Down; event = record { kind = kind.Leave; peer = 0; a = 0; b = 0; message = None } }))
+    (c.from-in-Leave.ensures ∙ c.places.ensures)
+    ∙ sym (ap (entering (stack_tree c.args.stack.now) c.args.here.now) c.in-Leave.is))
+
+pub returns-in-Tick-clause-brings : goal.returns-in-Tick-clause-brings
+returns-in-Tick-clause-brings c =
+    brings_bare _ _ _ _ _ _ _ c.requires.none c.push_bare-in-Tick.ensures refl
+    (sym (ap (entering (stack_tree c.args.stack.now) c.args.here.now) c.in-Tick.is))
+
+pub returns-in-Packet-clause-brings : goal.returns-in-Packet-clause-brings
+returns-in-Packet-clause-brings c =
+    brings_carried _ _ _ _ _ _ _ c.requires.none _ c.enter_packet.ensures
+    (packet_task (stack_tree c.args.stack.now) c.args.here.now.rank (packet_scanned c.args.here.now c.in-Packet.bytes.now c.in-Packet.scan.now)
+    ∙ sym (ap (entering (stack_tree c.args.stack.now) c.args.here.now) c.in-Packet.is))
+
+pub returns-in-Cast-clause-only : goal.returns-in-Cast-clause-only
+returns-in-Cast-clause-only c = only_first _ _ _ c.requires.none c.enter_above.ensures.last
+
+pub returns-in-Send-clause-only : goal.returns-in-Send-clause-only
+returns-in-Send-clause-only c = only_first _ _ _ c.requires.none c.enter_above-in-Send.ensures.last
+
+pub returns-in-Leave-clause-only : goal.returns-in-Leave-clause-only
+returns-in-Leave-clause-only c = only_first _ _ _ c.requires.none c.push_bare.ensures
+
+pub returns-in-Tick-clause-only : goal.returns-in-Tick-clause-only
+returns-in-Tick-clause-only c = only_first _ _ _ c.requires.none c.push_bare-in-Tick.ensures
+
+pub returns-in-Packet-clause-only : goal.returns-in-Packet-clause-only
+returns-in-Packet-clause-only c = only_first _ _ _ c.requires.none c.enter_packet.ensures.last
