@@ -116,16 +116,19 @@ fn send_nothing(sent: &mut Events, direction: Dir, envelope: Envelope, header: H
     requires { length sent.old.items < sent.old.capacity }
     ensures { sent.new ≡ buffer (sent.old.items ++ (direction, pool_event envelope (Some (sent_behind direction header (bodiless [])))) ∷ []) sent.old.capacity }
 {
-    let mut message = Place::of(nothing_behind(direction, header));
+    let mut message = nothing_behind(direction, header);
+    let mut place = Place::empty();
+    place.fill(&mut message);
+    message.close();
     sent.push_from(
         direction,
         envelope.kind,
         envelope.peer,
         envelope.a,
         envelope.b,
-        &mut message,
+        &mut place,
     );
-    message.close();
+    place.close();
 }
 
 pub(crate) fn send_local<K: Start>(
