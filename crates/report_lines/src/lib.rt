@@ -4,7 +4,6 @@
 
 mod cells;
 mod chain;
-mod hex_digits;
 mod journal;
 mod line;
 mod lines;

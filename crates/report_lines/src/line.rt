@@ -4,7 +4,6 @@ ghost use Rattle.std.specs.Prelude.{◌≡◌, ◌++◌, ◌∷◌, [], OnOk};
 ghost use Rattle.std.specs.Fmt.{decimal};
 ghost use Rattle.script_mean.specs.EventText.{hex_text};
 
-use crate::hex_digits::encode;
 use itoa::Buffer;
 use msg_core::Memory;
 use std::alloc::Global;
@@ -88,7 +87,9 @@ impl Line {
         let digits = bytes.len().checked_mul(2).ok_or(Memory)?;
         let end = start.checked_add(digits).ok_or(Memory)?;
         self.bytes.resize(end, 0)?;
-        encode(bytes, &mut self.bytes[start..]);
-        Ok(())
+        match hex::encode_to_slice(bytes, &mut self.bytes[start..]) {
+            Ok(()) => Ok(()),
+            Err(_) => unreachable!(),
+        }
     }
 }
