@@ -1,6 +1,5 @@
 -- How a run begins, and what it has come to where no task is left.
 use Rattle.std.proofs.Common.{◌≡◌, ℕ, ◌+◌, ◌≤◌, List, [], ◌∷◌, ◌++◌, Option, Some, None, Ok, length, refl, sym, ◌∙◌, subst, append-nil, arith}
-use Rattle.std.proofs.lemmas.List.Sums.{sum_by-cons}
 use Rattle.slot_pool.specs.Held.{Held, spare}
 use Rattle.slot_pool.specs.References.{Moved, Covers}
 use Rattle.slot_pool.specs.Times.{times}
@@ -32,7 +31,6 @@ use Rattle.stack_queue.specs.Pending.{task_seen, tasks_refs}
 use Rattle.stack_queue.specs.Stages.{most_at_first}
 use Rattle.stack_queue.specs.Going.{Begun, Now, BeginsWell, Going}
 use Rattle.stack_queue.proofs.Refs.{all_as}
-use Rattle.stack_queue.proofs.Asked.{few_tasks}
 
 -- an accepted stack has no cycle
 off_cycles : (stack : List LayerTree) → accepted stack ≡ Ok stack → first_on_cycle stack ≡ None
@@ -131,15 +129,6 @@ module _ (stack : List LayerTree) (typed : TypedStack stack) (accepts : accepted
       times-append i (tasks_refs (first ∷ [])) (sent_refs out),
       times-append i (event_refs first.event) [],
     )
-
-  pub first_weighs : EventLies p first.event → SentLie p out → Covers p (refs ++ (event_refs first.event ++ sent_refs out)) →
-      1 ≤ task_weight stack (task_seen p first)
-  first_weighs lies lie covers = omega (
-    arith,
-    few_tasks begun begins_well p (record { states = states; refs = refs; tasks = first ∷ []; out = out; predicted = as_predicted []; visits = visits })
-        (begins lies lie covers),
-    sum_by-cons (task_weight stack) (task_seen p first) [],
-  )
 
 -- What a run has come to, where no task is left.
 pub record Ended (b : Begun) (p : List Held) (n : Now) : Type 0 where

@@ -9,7 +9,7 @@ use Rattle.layer_desk.specs.Need.{most_places}
 use Rattle.layer_eval.specs.Did.{as_predicted}
 use Rattle.pool_message.specs.Sent.{sent_seen}
 use Rattle.stack_queue.specs.Pending.{first_task, tasks_seen}
-use Rattle.stack_queue.proofs.Ends.{begins_well, begins, first_weighs, ended_at}
+use Rattle.stack_queue.proofs.Ends.{begins_well, begins, ended_at}
 use Rattle.stack_queue.proofs.Turn.{goes_with, placed_at, edge_at, output_fits, puts_out, falls_out, is_ready, counts_are, headers_are, slots_suffice, places_suffice, covers_it, visit_goes_on, visit_stands, falls}
 use Rattle.stack_queue.proofs.Passing.{carried, carried_lighter}
 use Rattle.stack_queue.proofs.turns.run.Goals as goal
@@ -30,16 +30,6 @@ loop-at-init g c =
       refl,
       refl,
     )
-
-pub push-requires : goal.push-requires
-push-requires g c =
-    let states = map (g.S.Stage.state c.args.pool.now) c.args.stages.now in
-    let refs = flat_map g.S.Stage.refs c.args.stages.now in
-    let accepts = accepted_is (stack_tree c.args.stack.now) c.args.stack.now.accepted in
-    let few : length (stack_tree c.args.stack.now) ≤ most_places = omega (arith, length-map c.args.stack.now.typed.layers.items rc_tree, c.args.stack.now.typed.few) in
-    let one = first_weighs (stack_tree c.args.stack.now) c.requires.typed accepts few c.args.pool.now states c.requires.chained c.args.first c.requires.first
-    c.requires.enters refs c.args.out.now.items c.args.visits.now c.requires.counts c.requires.slots c.requires.event c.requires.lie c.requires.covers in
-    omega (arith, one, c.requires.tasks.1, ap length c.requires.tasks.0)
 
 pub pass-here-requires-clause-goes : goal.pass-here-requires-clause-goes
 pass-here-requires-clause-goes g c = (
