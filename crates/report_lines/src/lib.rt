@@ -4,6 +4,7 @@
 
 mod cells;
 mod chain;
+mod digits;
 mod journal;
 mod line;
 mod lines;

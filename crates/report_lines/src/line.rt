@@ -4,6 +4,7 @@ ghost use Rattle.std.specs.Prelude.{◌≡◌, ◌++◌, ◌∷◌, [], OnOk};
 ghost use Rattle.std.specs.Fmt.{decimal};
 ghost use Rattle.script_mean.specs.EventText.{hex_text};
 
+use crate::digits::Digits;
 use itoa::Buffer;
 use msg_core::Memory;
 use std::alloc::Global;
@@ -13,6 +14,7 @@ use std::marker::Model;
 #[derive(Drop)]
 pub struct Line {
     bytes: Vec<u8>,
+    last: Digits,
 }
 
 impl Model for Line {
@@ -30,6 +32,7 @@ impl Line {
     {
         Line {
             bytes: Vec::new(alloc),
+            last: Digits::none(alloc),
         }
     }
 
@@ -83,13 +86,10 @@ impl Line {
         if bytes.is_empty() {
             return self.text(b"-");
         }
-        let start = self.bytes.len();
-        let digits = bytes.len().checked_mul(2).ok_or(Memory)?;
-        let end = start.checked_add(digits).ok_or(Memory)?;
-        self.bytes.resize(end, 0)?;
-        match hex::encode_to_slice(bytes, &mut self.bytes[start..]) {
-            Ok(()) => Ok(()),
-            Err(_) => unreachable!(),
+        if !self.last.is_of(bytes) {
+            self.last.become_those_of(bytes)?;
         }
+        self.bytes.extend_from_slice(self.last.slice())?;
+        Ok(())
     }
 }
