@@ -14,6 +14,10 @@ abbrev pub delivery_text : Delivery → List ℕ
 delivery_text Cast = codes "cast"
 delivery_text Send = codes "send"
 
+-- What stands in front of the body in the line of a delivery.
+abbrev pub delivery_front : ℕ → (word : List ℕ) → ℕ → List ℕ
+delivery_front id word peer = codes "deliver " ++ decimal id ++ codes " " ++ word ++ codes " " ++ decimal peer ++ codes " "
+
 -- What a packet's line ends with.
 abbrev pub contents_text : List LayerTree → List Header → List ℕ → List ℕ
 contents_text stack headers body = codes " " ++ chain_text stack headers ++ codes " " ++ hex_text body ++ codes "\n"

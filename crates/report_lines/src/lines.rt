@@ -1,12 +1,12 @@
 //! Single lines. Each ends with a line feed.
 
-ghost use Rattle.std.specs.Prelude.{◌≡◌, ◌++◌, ◌∷◌, [], OnOk, codes};
+ghost use Rattle.std.specs.Prelude.{◌≡◌, ◌++◌, ◌∷◌, ◌<◌, [], OnOk, codes};
 ghost use Rattle.std.specs.Fmt.{decimal};
 ghost use Rattle.event_graph.specs.Answer.{stack_tree};
 ghost use Rattle.run_mean.specs.Lines as report;
 ghost use Rattle.run_mean.specs.Report as whole;
 ghost use Rattle.view_core.specs.Refusals.{refusal_meant};
-ghost use Rattle.report_lines.specs.Deliveries.{contents_text, delivery_text, packet_text};
+ghost use Rattle.report_lines.specs.Deliveries.{contents_text, delivery_front, delivery_text, packet_text};
 
 use crate::chain::push_chain;
 use crate::line::Line;
@@ -29,6 +29,40 @@ pub(crate) fn push_word(line: &mut Line, word: &[u8], id: u8) -> Result<(), Memo
     line.spaced(u32::from(id))
 }
 
+/// Appends `deliver M cast P ` or `deliver M send P `, where both numbers have one digit, in one piece.
+fn push_digits(line: &mut Line, id: u8, delivery: Delivery, peer: u8) -> Result<(), Memory>
+    requires { (id < 10) × (peer < 10) }
+    ensures { OnOk result (line.new ≡ line.old ++ delivery_front id (delivery_text delivery) peer) }
+{
+    let (m, p) = (b'0' + id, b'0' + peer);
+    match delivery {
+        Delivery::Cast => line.text(&[
+            b'd', b'e', b'l', b'i', b'v', b'e', b'r', b' ', m, b' ', b'c', b'a', b's', b't', b' ',
+            p, b' ',
+        ]),
+        Delivery::Send => line.text(&[
+            b'd', b'e', b'l', b'i', b'v', b'e', b'r', b' ', m, b' ', b's', b'e', b'n', b'd', b' ',
+            p, b' ',
+        ]),
+    }
+}
+
+/// Appends `deliver M cast P ` or `deliver M send P `.
+fn push_delivery(line: &mut Line, id: u8, delivery: Delivery, peer: u32) -> Result<(), Memory>
+    ensures { OnOk result (line.new ≡ line.old ++ delivery_front id (delivery_text delivery) peer) }
+{
+    if id < 10 && peer < 10 {
+        return push_digits(line, id, delivery, peer as u8);
+    }
+    push_word(line, b"deliver", id)?;
+    match delivery {
+        Delivery::Cast => line.text(b" cast")?,
+        Delivery::Send => line.text(b" send")?,
+    }
+    line.spaced(peer)?;
+    line.text(b" ")
+}
+
 /// `deliver M cast P HEX` and `deliver M send P HEX`: a delivery at member M from rank P.
 pub fn deliver_line(
     line: &mut Line,
@@ -39,13 +73,7 @@ pub fn deliver_line(
 ) -> Result<(), Memory>
     ensures { OnOk result (line.new ≡ line.old ++ report.deliver_line id (delivery_text delivery) peer body.now) }
 {
-    push_word(line, b"deliver", id)?;
-    match delivery {
-        Delivery::Cast => line.text(b" cast")?,
-        Delivery::Send => line.text(b" send")?,
-    }
-    line.spaced(peer)?;
-    line.text(b" ")?;
+    push_delivery(line, id, delivery, peer)?;
     line.hex(body)?;
     line.text(b"\n")
 }
