@@ -1,6 +1,7 @@
 //! Whether headers are as a plan says.
 
-ghost use Rattle.std.specs.Prelude.{◌≡◌, ◌∷◌, [], option_map};
+ghost use Rattle.std.specs.Prelude.{◌≡◌, ◌<◌, ◌∷◌, [], length, option_map, slice_index_or};
+ghost use Rattle.msg_core.specs.declared.message.Header.{Header};
 ghost use Rattle.packet_mean.specs.Plan.{agree};
 ghost use Rattle.packet_short.specs.Carried.{headers_in};
 ghost use Rattle.packet_short.specs.Fits.{alike, behind};
@@ -36,6 +37,22 @@ fn behind<'a>(planned: &'a [Option<u32>], fields: &Fields) -> Option<&'a [Option
     Some(left)
 }
 
+/// The planned fields behind those of the header of a number, if its fields agree with theirs. Most headers have none, and aren't copied.
+fn behind_at<'a>(
+    planned: &'a [Option<u32>],
+    headers: &Carried<'_>,
+    number: usize,
+) -> Option<&'a [Option<u32>]>
+    requires { number < length (headers_in headers.now) }
+    ensures { (d : Header) → option_map (λ rest. rest.now) result ≡ behind planned.now (slice_index_or (headers_in headers.now) number d).fields }
+{
+    if headers.at(number).fields.len() == 0 {
+        return Some(planned);
+    }
+    let header = headers.at(number);
+    behind(planned, &header.fields)
+}
+
 /// Whether headers have a plan's tags, and fields as planned.
 pub(crate) fn is_alike(plan: &Plan, headers: &Carried<'_>) -> bool
     ensures { result ≡ alike plan.now.tags.items plan.now.fields.items (headers_in headers.now) }
@@ -43,14 +60,13 @@ pub(crate) fn is_alike(plan: &Plan, headers: &Carried<'_>) -> bool
     let mut tags = plan.tags.as_slice();
     let mut fields = plan.fields.as_slice();
     for place in 0..headers.len() {
-        let header = headers.at(place);
         let Some((tag, more)) = tags.split_first() else {
             return false
         };
-        if *tag != header.tag {
+        if *tag != headers.at(place).tag {
             return false;
         }
-        let Some(rest) = behind(fields, &header.fields) else {
+        let Some(rest) = behind_at(fields, headers, place) else {
             return false
         };
         tags = more;
