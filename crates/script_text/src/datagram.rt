@@ -20,7 +20,7 @@ pub(crate) fn body(alloc: Global, seed: &mut Seed, number: u32) -> Result<Bytes,
 fn counting(alloc: Global, number: u32, size: u32) -> Result<Vec<u8>, AllocError>
     ensures { IfOk result (λ bytes. bytes.items ≡ map (λ byte. byte % 256) (range_with_len number size)) }
 {
-    let mut bytes = Vec::new(alloc);
+    let mut bytes = Vec::with_capacity(alloc, size as usize)?;
     for place in 0..size {
         bytes.push(((u64::from(number) + u64::from(place)) % 256) as u8)?;
     }

@@ -7,7 +7,7 @@ ghost use Rattle.script_mean.specs.Form as form;
 ghost use Rattle.script_text.specs.Reading.{Takes, words_left};
 
 use crate::error::LineError;
-use crate::splits::cut;
+use crate::splits::cut_near;
 use crate::{address, values};
 use outside::Peer;
 use script_mean::Bytes;
@@ -80,7 +80,7 @@ impl<'a> Iterator for Words<'a> {
     ghost remaining = { item_count words_left };
 
     fn next(&mut self) -> Option<&'a [u8]> {
-        let (word, behind) = cut(b' ', self.rest?);
+        let (word, behind) = cut_near(b' ', self.rest?);
         self.rest = behind;
         Some(word)
     }
