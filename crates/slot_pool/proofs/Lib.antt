@@ -3,4 +3,5 @@ pub mod Held
 pub mod Map
 pub mod Places
 pub mod References
+pub mod Spots
 pub mod Times

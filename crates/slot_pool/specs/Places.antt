@@ -1,35 +1,27 @@
--- How the places of a pool's block show its slots, and what holds of them.
-use Rattle.std.specs.Prelude.{◌≡◌, ℕ, ◌-◌, ◌^◌, ◌<◌, ◌≤◌, List, [], ◌∷◌, ◌++◌, map, length, take, replicate, slice_index_or, All}
+-- How the places of a pool show its slots, and what holds of them.
+use Rattle.std.specs.Prelude.{◌≡◌, ℕ, ◌-◌, ◌^◌, ◌<◌, ◌≤◌, List, [], ◌∷◌, ◌++◌, map, length, take, replicate, All}
 use Rattle.slot_pool.specs.Held.{Held, held_if, unused, free_by}
 use Rattle.slot_pool.specs.Times.{times}
-use Rattle.slot_pool.specs.declared.place.Place.{Place}
-
--- what stands for a place that a list doesn't have
-abbrev pub no_place : Place
-no_place = record { count = 0; next = 0; len = 0; bytes = [] }
-
--- the i-th place
-abbrev pub place_at : List Place → ℕ → Place
-place_at ps i = slice_index_or ps i no_place
+use Rattle.slot_pool.specs.Spots.{Spot, spot_at}
 
 -- what the slot of a place holds
-abbrev pub shown_place : Place → Held
+abbrev pub shown_place : Spot → Held
 shown_place p = held_if p.count (take p.len p.bytes)
 
 -- n slots: those of the places ps, and the others, which were never used
-abbrev pub shown : List Place → ℕ → List Held
+abbrev pub shown : List Spot → ℕ → List Held
 shown ps n = map shown_place ps ++ replicate (n - length ps) unused
 
 -- the places fs are linked in their order, from at on, and the last one's link is n
-abbrev pub Linked : List Place → ℕ → ℕ → List ℕ → Type 0
+abbrev pub Linked : List Spot → ℕ → ℕ → List ℕ → Type 0
 Linked ps n at [] = at ≡ n
-Linked ps n at (f ∷ fs) = (at ≡ f) × (f < length ps) × Linked ps n (place_at ps f).next fs
+Linked ps n at (f ∷ fs) = (at ≡ f) × (f < length ps) × Linked ps n (spot_at ps f).next fs
 
--- in a block for n places each place without a reference stands once in the list from first on, and no other place does
-pub record IsPool (ps : List Place) (n first : ℕ) : Type 0 where
+-- among n places each place without a reference stands once in the list from first on, and no other place does
+pub record IsPool (ps : List Spot) (n first : ℕ) : Type 0 where
   pub few : n < 2 ^ 32
   pub room : length ps ≤ n
   pub sized : All (λ p. p.len ≤ 8192) ps
   pub free : List ℕ
   pub linked : Linked ps n first free
-  pub once : (i : ℕ) → i < length ps → times i free ≡ free_by (place_at ps i).count
+  pub once : (i : ℕ) → i < length ps → times i free ≡ free_by (spot_at ps i).count

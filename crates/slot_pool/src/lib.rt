@@ -4,6 +4,7 @@
 mod laws;
 mod place;
 mod pool;
+mod row;
 #[cfg(test)]
 mod tests;
 
@@ -15,3 +16,5 @@ pub use laws::{
 #[doc(hidden)]
 pub use place::Place;
 pub use pool::{Memory, Pool, Slot};
+#[doc(hidden)]
+pub use row::Row;

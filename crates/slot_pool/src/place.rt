@@ -1,36 +1,32 @@
-//! One place of the pool's block: a body with its count, or a link of the list of free places.
+//! One place of the pool's block: a count with a short body, or a link of the list of free places.
 ghost use Rattle.std.specs.Prelude.{◌≡◌, ℕ, ◌+◌, ◌-◌, ◌<◌, ◌≤◌, ◌↔◌, List, IsTrue, length, take};
 
-/// With a count of 0 it is free, and `next` is the free place behind it; else its body is the first `len` bytes.
+/// With a count of 0 it is free, and `next` is the free place behind it; else its body has `len` bytes, which are the first here where they
+/// are at most 512, and lie in a place of their own else.
 #[derive(Clone, Copy)]
 pub struct Place {
     pub(crate) count: u32,
     pub(crate) next: u32,
     pub(crate) len: u32,
-    pub(crate) bytes: [u8; 8192],
+    pub(crate) bytes: [u8; 512],
 }
 
 impl Place {
-    /// A place whose one reference is to a copy of `body`.
-    pub(crate) fn holding(body: &[u8]) -> Place
-        requires { length body.now ≤ 8192 }
-        ensures count { result.count ≡ 1 }
-        ensures len { result.len ≡ length body.now }
-        ensures body { take (length body.now) result.bytes ≡ body.now }
+    /// A place that was never used.
+    pub(crate) fn fresh() -> Place
+        ensures { result.len ≡ 0 }
     {
-        let mut place = Place {
+        Place {
             count: 0,
             next: 0,
             len: 0,
-            bytes: [0; 8192],
-        };
-        place.hold(body);
-        place
+            bytes: [0; 512],
+        }
     }
 
-    /// From now on the place's one reference is to a copy of `body`.
+    /// From now on the place's one reference is to a copy of a short `body`.
     pub(crate) fn hold(&mut self, body: &[u8])
-        requires { length body.now ≤ 8192 }
+        requires { length body.now ≤ 512 }
         ensures count { self.new.count ≡ 1 }
         ensures len { self.new.len ≡ length body.now }
         ensures body { take (length body.now) self.new.bytes ≡ body.now }
@@ -40,11 +36,12 @@ impl Place {
         self.bytes[..body.len()].copy_from_slice(body);
     }
 
-    pub(crate) fn body(&self) -> &[u8]
-        requires { self.now.len ≤ 8192 }
-        ensures { result.now ≡ take self.now.len self.now.bytes }
+    /// From now on the place's one reference is to a body of so many bytes that lies elsewhere.
+    pub(crate) fn hold_elsewhere(&mut self, len: u32)
+        ensures { self.new ≡ record self.old { count = 1; len = len } }
     {
-        &self.bytes[..self.len as usize]
+        self.count = 1;
+        self.len = len;
     }
 
     pub(crate) fn add_reference(&mut self)

@@ -2,8 +2,7 @@
 ghost use Rattle.std.specs.Prelude.{◌≡◌, ℕ, ◌+◌, ◌<◌, ◌≤◌, ◌↔◌, List, ◌++◌, length, take, slice_set, replicate, IfOk, IfSome, IfNone, IsNone, IsTrue};
 ghost use Rattle.slot_pool.specs.Held.{held, unused, held_at, count_at, bytes_at, one_less, range, IsFull, Puts};
 
-use crate::place::Place;
-use raw_block::Block;
+use crate::row::Row;
 use std::alloc::Global;
 use std::marker::Model;
 
@@ -26,7 +25,7 @@ impl Model for Slot {
 /// The unused places are linked through their own memory, as in a slab allocator.
 #[derive(Drop)]
 pub struct Pool {
-    block: Block<Place, Global>,
+    places: Row,
     first: u32,
 }
 
@@ -40,9 +39,9 @@ impl Model for Pool {
 
     ghost use Rattle.slot_pool.specs.Places.{shown, IsPool};
 
-    ghost view = { λ p. shown p.block.values p.block.capacity };
+    ghost view = { λ p. shown p.places.values p.places.capacity };
 
-    ghost invariant = { λ p. IsPool p.block.values p.block.capacity p.first };
+    ghost invariant = { λ p. IsPool p.places.values p.places.capacity p.first };
 }
 
 impl Pool {
@@ -50,9 +49,9 @@ impl Pool {
     pub fn with_slots(alloc: Global, slots: u32) -> Result<Pool, Memory>
         ensures { IfOk result (λ p. p ≡ replicate slots unused) }
     {
-        let block = Block::with_capacity(alloc, slots as usize)?;
+        let places = Row::of_places(alloc, slots)?;
         Ok(Pool {
-            block,
+            places,
             first: slots,
         })
     }
@@ -64,16 +63,15 @@ impl Pool {
         ensures none { IfNone result (self.new ≡ self.old) }
         ensures some { IfSome result (Puts self.old self.new bytes.now) }
     {
-        let used = self.block.len();
+        let used = self.places.len();
         let index = self.first;
         if (index as usize) < used {
-            let place = self.block.at_mut(index as usize);
-            self.first = place.next;
-            place.hold(bytes);
+            self.first = self.places.next(index as usize);
+            self.places.hold(index as usize, bytes);
             return Some(Slot { index });
         }
-        if has_new_place(&self.block) {
-            self.block.push(Place::holding(bytes));
+        if self.places.has_room() {
+            self.places.push(bytes);
             return Some(Slot { index: used as u32 });
         }
         None
@@ -87,8 +85,7 @@ impl Pool {
         ensures pool { self.new ≡ slice_set self.old s.now (held (count_at self.old s.now + 1) (bytes_at self.old s.now)) }
     {
         let index = s.index;
-        let place = self.block.at_mut(index as usize);
-        place.add_reference();
+        self.places.add_reference(index as usize);
         Slot { index }
     }
 
@@ -98,10 +95,8 @@ impl Pool {
         ensures { self.new ≡ slice_set self.old s (one_less (held_at self.old s)) }
     {
         let Slot { index } = s;
-        let first = self.first;
-        let place = self.block.at_mut(index as usize);
-        if place.end_reference() {
-            place.next = first;
+        if self.places.end_reference(index as usize) {
+            self.places.link(index as usize, self.first);
             self.first = index;
         }
     }
@@ -112,7 +107,7 @@ impl Pool {
         ensures bytes { result.now ≡ bytes_at self.now s.now }
         ensures fits { length result.now ≤ 8192 }
     {
-        self.block.as_slice()[s.index as usize].body()
+        self.places.body(s.index as usize)
     }
 
     /// A first reference to `a_len` bytes of `a` from `a_from` on and, behind them, `b_len` bytes of `b` from `b_from` on.
@@ -141,13 +136,6 @@ impl Pool {
         write_both(&mut body, front, back);
         self.put(&body[..whole])
     }
-}
-
-/// Whether a place is left that was never used.
-fn has_new_place(block: &Block<Place, Global>) -> bool
-    ensures { IsTrue result ↔ (length block.now.values < block.now.capacity) }
-{
-    block.len() < block.capacity()
 }
 
 fn part(bytes: &[u8], from: u32, len: u32) -> &[u8]
