@@ -6,7 +6,7 @@ ghost use Rattle.layer_stage.specs.Taken.{one_more};
 use crate::desk::FileDesk;
 use crate::maker::Maker;
 use crate::makes::{close, make, restart};
-use crate::passes::{lets_first_pass, lets_pass, none_header};
+use crate::passes::{lets_pass, none_header};
 use crate::visits::visit;
 use layer_ast::Dir;
 use layer_eval::Predicted;
@@ -171,10 +171,6 @@ impl Stage for FileLayer {
     #[tactic(auto, unfolding(crate::specs::Layer::place_of, crate::specs::Layer::tree_of, crate::specs::Layer::refs_of, crate::specs::Layer::state_in, crate::specs::Layer::taken_by, crate::specs::Layer::IsInOrder))]
     fn take(&mut self, pool: &mut Pool, events: &mut Events) -> Predicted {
         count_one(&mut self.taken);
-        if lets_first_pass(&self.layer, events) {
-            events.pass(none_header(self.place));
-            return Predicted::usual();
-        }
         visit(self.place, &self.layer, &mut self.desk, pool, events)
     }
 

@@ -1,17 +1,16 @@
 //! Events that a layer lets pass.
 
-ghost use Rattle.std.specs.Prelude.{◌≡◌, ◌<◌, List, length};
+ghost use Rattle.std.specs.Prelude.{◌≡◌, List};
 ghost use Rattle.slot_pool.specs.Held.{Held};
 ghost use Rattle.layer_ast.specs.declared.tokens.Dir.TheVariants.{Up};
 ghost use Rattle.layer_mean.specs.Visit as spec;
-ghost use Rattle.layer_stage.specs.Front.{first_way, first_seen};
 ghost use Rattle.layer_stage.specs.Passes.{is_passed};
 ghost use Rattle.pool_message.specs.Seen.{seen_if, event_seen};
 ghost use Rattle.typed_layer.specs.View.{layer_tree};
 
 use layer_ast::Dir;
 use msg_core::{Fields, Header};
-use pool_message::{Events, Place, PoolEvent};
+use pool_message::{Place, PoolEvent};
 use typed_layer::TypedLayer;
 
 /// Whether an event passes a layer as it is but for its header: the layer has no handler for it, and it goes down, or up behind the header
@@ -21,17 +20,6 @@ pub(crate) fn lets_pass(layer: &TypedLayer, direction: Dir, event: &PoolEvent) -
 {
     tag_met(direction, &event.message) == 0
         && layer.handlers.find(direction, event.kind, 0).is_none()
-}
-
-/// Whether the first of the events does.
-pub(crate) fn lets_first_pass(layer: &TypedLayer, events: &Events) -> bool
-    requires { 0 < length events.now.items }
-    ensures { (p : List Held) → result ≡ is_passed (layer_tree layer.now) (first_way events.now.items) (first_seen p events.now.items) }
-{
-    match events.first() {
-        Some((direction, event)) => lets_pass(layer, direction, event),
-        None => unreachable!(),
-    }
 }
 
 /// The tag of the header that a layer pops off a message; 0 where it pops none.

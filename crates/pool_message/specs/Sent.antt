@@ -53,10 +53,6 @@ abbrev pub message_passed : Dir → Header → PoolMessage → PoolMessage
 message_passed Up header m = without_first m
 message_passed Down header m = with_header header m
 
--- An event that passes a layer, with its message, if it has one.
-abbrev pub event_passed : Header → Dir × PoolEvent → Dir × PoolEvent
-event_passed header x = (x.0, record x.1 { message = option_map (message_passed x.0 header) x.1.message })
-
 -- An event without its message.
 abbrev pub bared : Dir × PoolEvent → Dir × PoolEvent
 bared x = (x.0, record x.1 { message = None })

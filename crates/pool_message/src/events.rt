@@ -8,15 +8,14 @@ ghost use Rattle.pool_message.specs.Moves.{CanKeep, Kept, Returned};
 ghost use Rattle.pool_message.specs.Piled.{without_last};
 ghost use Rattle.pool_message.specs.Put.{Puts};
 ghost use Rattle.pool_message.specs.Seen.{refs, event_refs};
-ghost use Rattle.pool_message.specs.Sent.{sent_refs, most_events, first_sent, sent_behind, message_passed, event_passed, bared, CanPass};
+ghost use Rattle.pool_message.specs.Sent.{sent_refs, most_events, first_sent, sent_behind, message_passed, CanPass};
 
 use crate::arrival::Arrival;
 use crate::event::PoolEvent;
+use crate::list::List;
 use crate::message::PoolMessage;
 use crate::messages::Messages;
-use crate::part::Part;
 use crate::place::Place;
-use circular_buffer::HeapCircularBuffer;
 use layer_ast::{Dir, Kind};
 use msg_core::{Header, Headers};
 use slot_pool::{Memory, Pool};
@@ -27,30 +26,19 @@ use std::marker::Model;
 pub const MOST_EVENTS: usize = 1_048_576;
 
 /// The events that were sent, in order, each with its direction. There is a number of places for them, at most `MOST_EVENTS`, which
-/// is chosen once. An event stays in its slot while the order moves on, and its slot is used again when it is gone, so few slots are ever
-/// touched. It can't be let go: it is emptied, and then closed.
+/// is chosen once. Two lists are swapped by their pointers. It can't be let go: it is emptied, and then closed.
 pub struct Events {
-    slots: Vec<(Dir, PoolEvent)>,
-    /// The numbers of the slots in which events stand.
-    order: HeapCircularBuffer<u32>,
-    /// The numbers of the others.
-    free: Vec<u32>,
+    list: Box<List>,
 }
 
 impl Model for Events {
-    ghost use Rattle.std.specs.Prelude.{◌≤◌, length, vec_capacity};
-    ghost use Rattle.circular_buffer.specs.Buffer.{Buffer, buffer};
+    ghost use Rattle.circular_buffer.specs.Buffer.{Buffer};
     ghost use Rattle.layer_ast.specs.declared.tokens.Dir.{Dir};
-    ghost use Rattle.pool_message.specs.Sent.{most_events};
-    ghost use Rattle.pool_message.specs.Slots.{standing, AreParted};
     ghost use Rattle.pool_message.specs.declared.event.PoolEvent.{PoolEvent};
 
     ghost Value = { Buffer (Dir × PoolEvent) };
 
-    ghost view = { λ e. buffer (standing e.slots.items e.order.items) e.order.capacity };
-
-    ghost invariant = { λ e. AreParted e.slots.items e.order.items e.free.items × (e.order.capacity ≤ most_events)
-        × (e.order.capacity ≤ vec_capacity e.slots) × (e.order.capacity ≤ vec_capacity e.free) × (length e.slots.items ≤ e.order.capacity) };
+    ghost view = { λ e. e.list.value };
 }
 
 impl Events {
@@ -62,10 +50,14 @@ impl Events {
         requires { places ≤ most_events }
         ensures { IfOk result (λ e. e ≡ buffer [] places) }
     {
-        let order = HeapCircularBuffer::with_capacity(alloc, places)?;
-        let free = Vec::with_capacity(alloc, places)?;
-        let slots = Vec::with_capacity(alloc, places)?;
-        Ok(Events { slots, order, free })
+        let list = List::fresh(alloc, places)?;
+        match Box::new(alloc, list) {
+            Ok(list) => Ok(Events { list }),
+            Err(error) => {
+                error.value.close();
+                Err(Memory)
+            }
+        }
     }
 
     /// How many there are.
@@ -73,7 +65,7 @@ impl Events {
         ensures count { result ≡ length self.now.items }
         ensures within { result ≤ self.now.capacity }
     {
-        self.order.len()
+        self.list.len()
     }
 
     /// How many there may be.
@@ -81,20 +73,14 @@ impl Events {
         ensures places { result ≡ self.now.capacity }
         ensures few { result ≤ most_events }
     {
-        self.order.capacity()
+        self.list.places()
     }
 
     /// The first one, if there is one.
     pub fn first(&self) -> Option<(Dir, &PoolEvent)>
         ensures { option_map (λ e. (e.0, e.1.now)) result ≡ slice_get self.now.items 0 }
     {
-        match self.order.front() {
-            Some(k) => {
-                let sent = &self.slots[*k as usize];
-                Some((sent.0, &sent.1))
-            }
-            None => None,
-        }
+        self.list.first()
     }
 
     /// The first one, to be changed where it lies.
@@ -103,41 +89,15 @@ impl Events {
         ensures* writes_back { sem 𝓛 (lends_first self.entry result) }
         ensures value { result.now ≡ first_sent self.old.items }
     {
-        let Some(k) = self.order.front().copied() else {
-            unreachable!();
-        };
-        &mut self.slots[k as usize]
-    }
-
-    /// The first one passes a layer and becomes the last: its message, if it has one, gets this header in front where it goes down, and loses
-    /// its first one where it goes up. Where it is the only one, nothing is moved.
-    pub fn pass(&mut self, header: Header)
-        requires some { 0 < length self.old.items }
-        requires room { CanPass (first_sent self.old.items).0 (first_sent self.old.items).1.message }
-        ensures { self.new ≡ buffer (drop 1 self.old.items ++ event_passed header (first_sent self.old.items) ∷ []) self.old.capacity }
-    {
-        let Some(k) = self.order.front() else {
-            unreachable!();
-        };
-        pass_event(&mut self.slots[*k as usize], header);
-        self.go_round();
+        self.list.first_mut()
     }
 
     /// The first one becomes the last.
-    fn go_round(&mut self)
+    pub fn go_round(&mut self)
         requires { 0 < length self.old.items }
         ensures { self.new ≡ buffer (drop 1 self.old.items ++ first_sent self.old.items ∷ []) self.old.capacity }
     {
-        if self.order.len() == 1 {
-            return;
-        }
-        let Some(k) = self.order.pop_front() else {
-            unreachable!();
-        };
-        match self.order.try_push_back(k) {
-            Ok(()) => {}
-            Err(_k) => unreachable!(),
-        }
+        self.list.go_round();
     }
 
     /// Puts an event of this kind, with these numbers and with what lies in a place, behind the others. The place is empty then.
@@ -154,11 +114,7 @@ impl Events {
         ensures pushed { self.new ≡ buffer (self.old.items ++ (direction, record { kind = kind; peer = peer; a = a; b = b; message = message.old }) ∷ []) self.old.capacity }
         ensures left { message.new ≡ None }
     {
-        self.push_bare(direction, kind, peer, a, b);
-        let Some(k) = self.order.back() else {
-            unreachable!();
-        };
-        fill_from(&mut self.slots[*k as usize], message);
+        self.list.push_from(direction, kind, peer, a, b, message);
     }
 
     /// Puts an event of this kind, with these numbers and with the message that arrived, if there is one, behind the others. None is left there.
@@ -175,11 +131,7 @@ impl Events {
         ensures pushed { self.new ≡ buffer (self.old.items ++ (direction, record { kind = kind; peer = peer; a = a; b = b; message = message.old }) ∷ []) self.old.capacity }
         ensures left { message.new ≡ None }
     {
-        self.push_bare(direction, kind, peer, a, b);
-        let Some(k) = self.order.back() else {
-            unreachable!();
-        };
-        fill_arrived(&mut self.slots[*k as usize], message);
+        self.list.push_arrived(direction, kind, peer, a, b, message);
     }
 
     /// Puts an event of this kind, with these numbers and without a message, behind the others.
@@ -187,29 +139,7 @@ impl Events {
         requires { length self.old.items < self.old.capacity }
         ensures { self.new ≡ buffer (self.old.items ++ (direction, record { kind = kind; peer = peer; a = a; b = b; message = None }) ∷ []) self.old.capacity }
     {
-        let k = match self.free.pop() {
-            Some(k) => {
-                begin_event(&mut self.slots[k as usize], direction, kind, peer, a, b);
-                k
-            }
-            None => {
-                let k = self.slots.len() as u32;
-                let message = Place::empty();
-                let event = PoolEvent {
-                    kind,
-                    peer,
-                    a,
-                    b,
-                    message,
-                };
-                self.slots.push_reserved((direction, event));
-                k
-            }
-        };
-        match self.order.try_push_back(k) {
-            Ok(()) => {}
-            Err(_k) => unreachable!(),
-        }
+        self.list.push_bare(direction, kind, peer, a, b);
     }
 
     /// Puts an event of this kind, with these numbers and with the last of some messages, if there is one, behind the others. That message is
@@ -227,11 +157,7 @@ impl Events {
         ensures pushed { self.new ≡ buffer (self.old.items ++ (direction, record { kind = kind; peer = peer; a = a; b = b; message = last_item messages.old.items }) ∷ []) self.old.capacity }
         ensures rest { messages.new ≡ buffer (without_last messages.old.items) messages.old.capacity }
     {
-        self.push_bare(direction, kind, peer, a, b);
-        let Some(k) = self.order.back() else {
-            unreachable!();
-        };
-        fill_last(&mut self.slots[*k as usize], messages);
+        self.list.push_last(direction, kind, peer, a, b, messages);
     }
 
     /// Puts an event of this kind, with these numbers and with a message of these headers and a copy of these bytes, behind the others: the
@@ -251,37 +177,8 @@ impl Events {
         requires fits { length bytes.now ≤ longest_body }
         ensures { Puts pool.old self.old direction kind peer a b (record { headers = headers.now; body = bytes.now }) pool.new self.new result }
     {
-        let Some(slot) = pool.put(bytes) else {
-            return false
-        };
-        let part = Part {
-            slot,
-            from: 0,
-            len: bytes.len() as u32,
-        };
-        self.push_made(direction, kind, peer, a, b, headers, part);
-        true
-    }
-
-    /// Puts an event of this kind, with these numbers and with a message of these headers before this body, behind the others.
-    fn push_made(
-        &mut self,
-        direction: Dir,
-        kind: Kind,
-        peer: u32,
-        a: u32,
-        b: u32,
-        headers: &Headers,
-        body: Part,
-    )
-        requires { length self.old.items < self.old.capacity }
-        ensures { self.new ≡ buffer (self.old.items ++ (direction, record { kind = kind; peer = peer; a = a; b = b; message = Some (record { headers = headers.now; body = Some body }) }) ∷ []) self.old.capacity }
-    {
-        self.push_bare(direction, kind, peer, a, b);
-        let Some(k) = self.order.back() else {
-            unreachable!();
-        };
-        fill_made(&mut self.slots[*k as usize], headers, body);
+        self.list
+            .push_put(direction, kind, peer, a, b, headers, bytes, pool)
     }
 
     /// Puts an event of this kind, with these numbers and with a message once more, which goes down behind this header, behind the others. The
@@ -304,17 +201,8 @@ impl Events {
         ensures pushed { self.new ≡ buffer (self.old.items ++ (direction, record { kind = kind; peer = peer; a = a; b = b; message = Some (sent_behind direction header message.now) }) ∷ []) self.old.capacity }
         ensures kept { Kept pool.old pool.new (refs message.now) }
     {
-        self.push_bare(direction, kind, peer, a, b);
-        let Some(k) = self.order.back() else {
-            unreachable!();
-        };
-        fill_kept(
-            &mut self.slots[*k as usize],
-            direction,
-            header,
-            message,
-            pool,
-        );
+        self.list
+            .push_kept(direction, kind, peer, a, b, header, message, pool);
     }
 
     /// The first one goes, and its message arrives where there was none.
@@ -324,11 +212,7 @@ impl Events {
         ensures message { message.new ≡ (first_sent self.old.items).1.message }
         ensures rest { self.new ≡ buffer (drop 1 self.old.items) self.old.capacity }
     {
-        let Some(k) = self.order.front() else {
-            unreachable!();
-        };
-        give_message(&mut self.slots[*k as usize], message);
-        self.end_first();
+        self.list.take_first(message);
     }
 
     /// The first one becomes the last of others.
@@ -338,11 +222,7 @@ impl Events {
         ensures rest { self.new ≡ buffer (drop 1 self.old.items) self.old.capacity }
         ensures moved { to.new ≡ buffer (to.old.items ++ first_sent self.old.items ∷ []) to.old.capacity }
     {
-        let Some(k) = self.order.front() else {
-            unreachable!();
-        };
-        move_event(&mut self.slots[*k as usize], to);
-        self.end_first();
+        self.list.move_first(&mut to.list);
     }
 
     /// The first one goes, and the reference of its message back.
@@ -352,23 +232,7 @@ impl Events {
         ensures rest { self.new ≡ buffer (drop 1 self.old.items) self.old.capacity }
         ensures returned { Returned pool.old pool.new (event_refs (first_sent self.old.items).1) }
     {
-        let Some(k) = self.order.front() else {
-            unreachable!();
-        };
-        drop_message(&mut self.slots[*k as usize], pool);
-        self.end_first();
-    }
-
-    /// The first one goes, which has no message.
-    fn end_first(&mut self)
-        requires some { 0 < length self.old.items }
-        requires bare { (first_sent self.old.items).1.message ≡ None }
-        ensures { self.new ≡ buffer (drop 1 self.old.items) self.old.capacity }
-    {
-        let Some(k) = self.order.pop_front() else {
-            unreachable!();
-        };
-        self.free.push_reserved(k);
+        self.list.drop_first(pool);
     }
 
     /// The direction of event number `k`, which is one of those that there are.
@@ -376,10 +240,7 @@ impl Events {
         requires { k < length self.now.items }
         ensures { option_map (λ e. e.0) (slice_get self.now.items k) ≡ Some result }
     {
-        match self.order.get(k) {
-            Some(slot) => self.slots[*slot as usize].0,
-            None => unreachable!(),
-        }
+        self.list.direction(k)
     }
 
     /// Lets all go, and gives the references of their messages back.
@@ -388,139 +249,16 @@ impl Events {
         ensures empty { self.new ≡ buffer [] self.old.capacity }
         ensures returned { Returned pool.old pool.new (sent_refs self.old.items) }
     {
-        while self.len() > 0 {
-            self.drop_first(pool);
-        }
+        self.list.clear(pool);
     }
 
     /// Ends a list without events.
     pub fn close(self)
         requires { self.items ≡ [] }
     {
-        let Events {
-            mut slots,
-            order,
-            free: _,
-        } = self;
-        while let Some((_direction, event)) = slots.pop() {
-            event.close();
-        }
-        slots.destroy_empty();
-        order.destroy_empty();
+        let Events { list } = self;
+        Box::into_inner(list).close();
     }
-}
-
-/// An event passes a layer, with its message.
-fn pass_event(sent: &mut (Dir, PoolEvent), header: Header)
-    requires { CanPass sent.old.0 sent.old.1.message }
-    ensures { sent.new ≡ event_passed header sent.old }
-{
-    pass_message(sent.0, header, &mut sent.1.message);
-}
-
-/// A slot without a message becomes that of an event.
-fn begin_event(sent: &mut (Dir, PoolEvent), direction: Dir, kind: Kind, peer: u32, a: u32, b: u32)
-    ensures { sent.new ≡ (direction, record { kind = kind; peer = peer; a = a; b = b; message = sent.old.1.message }) }
-{
-    sent.0 = direction;
-    sent.1.kind = kind;
-    sent.1.peer = peer;
-    sent.1.a = a;
-    sent.1.b = b;
-}
-
-/// An event without a message takes what lies in a place.
-fn fill_from(sent: &mut (Dir, PoolEvent), message: &mut Place)
-    requires { sent.old.1.message ≡ None }
-    ensures filled { sent.new ≡ (sent.old.0, record sent.old.1 { message = message.old }) }
-    ensures left { message.new ≡ None }
-{
-    sent.1.message.take_over(message);
-}
-
-/// An event without a message takes the one that arrived, if there is one.
-fn fill_arrived(sent: &mut (Dir, PoolEvent), message: &mut Arrival)
-    requires { sent.old.1.message ≡ None }
-    ensures filled { sent.new ≡ (sent.old.0, record sent.old.1 { message = message.old }) }
-    ensures left { message.new ≡ None }
-{
-    message.move_to(&mut sent.1.message);
-}
-
-/// An event without a message gets one of these headers before this body.
-fn fill_made(sent: &mut (Dir, PoolEvent), headers: &Headers, body: Part)
-    requires { sent.old.1.message ≡ None }
-    ensures { sent.new ≡ (sent.old.0, record sent.old.1 { message = Some (record { headers = headers.now; body = Some body }) }) }
-{
-    sent.1.message.make(headers, body);
-}
-
-/// An event without a message takes the last of some, if there is one.
-fn fill_last(sent: &mut (Dir, PoolEvent), messages: &mut Messages)
-    requires { sent.old.1.message ≡ None }
-    ensures filled { sent.new ≡ (sent.old.0, record sent.old.1 { message = last_item messages.old.items }) }
-    ensures rest { messages.new ≡ buffer (without_last messages.old.items) messages.old.capacity }
-{
-    messages.pop_to(&mut sent.1.message);
-}
-
-/// An event without a message gets one once more, which goes down behind a header.
-fn fill_kept(
-    sent: &mut (Dir, PoolEvent),
-    direction: Dir,
-    header: Header,
-    message: &PoolMessage,
-    pool: &mut Pool,
-)
-    requires bare { sent.old.1.message ≡ None }
-    requires room { CanPass direction (Some message.now) }
-    requires there { Covers pool.old (refs message.now) }
-    requires keeps { CanKeep pool.old (refs message.now) }
-    ensures filled { sent.new ≡ (sent.old.0, record sent.old.1 { message = Some (sent_behind direction header message.now) }) }
-    ensures kept { Kept pool.old pool.new (refs message.now) }
-{
-    let place = &mut sent.1.message;
-    place.keep_from(message, pool);
-    match direction {
-        Dir::Up => {}
-        Dir::Down => place.push_header(header),
-    }
-}
-
-/// An event goes to others, and leaves its slot without a message.
-fn move_event(sent: &mut (Dir, PoolEvent), to: &mut Events)
-    requires { length to.old.items < to.old.capacity }
-    ensures moved { to.new ≡ buffer (to.old.items ++ sent.old ∷ []) to.old.capacity }
-    ensures left { sent.new ≡ bared sent.old }
-{
-    let direction = sent.0;
-    let event = &mut sent.1;
-    to.push_from(
-        direction,
-        event.kind,
-        event.peer,
-        event.a,
-        event.b,
-        &mut event.message,
-    );
-}
-
-/// An event lets its message go, whose reference goes back.
-fn drop_message(sent: &mut (Dir, PoolEvent), pool: &mut Pool)
-    requires { Covers pool.old (event_refs sent.old.1) }
-    ensures left { sent.new ≡ bared sent.old }
-    ensures returned { Returned pool.old pool.new (event_refs sent.old.1) }
-{
-    sent.1.message.let_go(pool);
-}
-
-/// The message of an event arrives where there was none.
-fn give_message(sent: &mut (Dir, PoolEvent), message: &mut Arrival)
-    requires { message.old ≡ None }
-    ensures message { message.new ≡ sent.old.1.message }
-    ensures left { sent.new ≡ bared sent.old }
-{
-    message.take_over(&mut sent.1.message);
 }
 
 /// A message passes a layer, if there is one: going down it gets this header in front, and going up it loses its first one.

@@ -8,6 +8,7 @@ mod events;
 mod headers;
 mod join;
 mod laws;
+mod list;
 mod message;
 mod messages;
 mod optional;

@@ -165,7 +165,7 @@ impl PoolMessage {
     {
         self.headers.copy_from(&other.headers);
         other.headers.clear();
-        self.set_body(other.body.take());
+        mem::swap(&mut self.body, &mut other.body);
     }
 
     /// Becomes a message of these headers before this body. It has no bytes itself.

@@ -9,3 +9,4 @@ pub mod Stages
 pub mod Turn
 pub mod Entries
 pub mod Passing
+pub mod Round

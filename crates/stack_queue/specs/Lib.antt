@@ -3,4 +3,5 @@ pub mod Put
 pub mod Stages
 pub mod Going
 pub mod Passing
+pub mod Round
 pub mod Laws

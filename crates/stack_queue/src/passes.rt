@@ -2,6 +2,8 @@
 
 ghost use Rattle.std.specs.Prelude.{◌≡◌, [], ◌∷◌, map};
 ghost use Rattle.layer_mean.specs.Queue as spec;
+ghost use Rattle.pool_message.specs.Sent.{CanPass};
+ghost use Rattle.stack_queue.specs.Round.{Passes};
 ghost use Rattle.stack_queue.specs.Passing.{Rest, GoesWith, Continues, StaysAt, standing_at};
 
 use crate::places::beyond;
@@ -32,6 +34,14 @@ pub(crate) fn pass_along<S: Stage>(
         here = beyond(direction, here);
     }
     here
+}
+
+/// An event passes a layer, if that has no handler for it. Says whether it did; where it didn't, nothing has changed.
+pub(crate) fn pass_one<S: Stage>(stage: &mut S, sent: &mut (Dir, PoolEvent)) -> bool
+    requires { CanPass sent.old.0 sent.old.1.message }
+    ensures { Passes S.place S.layer S.refs S.ready S.state stage.old sent.old stage.new sent.new result }
+{
+    stage.pass(sent.0, &mut sent.1)
 }
 
 /// Whether one of so many layers stands at a place.

@@ -4,8 +4,8 @@ ghost use Rattle.std.specs.Prelude.{◌≡◌, ◌+◌, ◌<◌, ◌≤◌, [], 
 ghost use Rattle.circular_buffer.specs.Buffer.{buffer};
 ghost use Rattle.stack_mean.specs.Acceptance.{largest_weight};
 
-use crate::passes::pass_along;
-use crate::places::{end_first, go_on, put_place, stand_alone};
+use crate::passes::{pass_along, pass_one};
+use crate::places::{beyond, end_first, go_on, put_place, stand_alone};
 use crate::sent::events_for;
 use circular_buffer::HeapCircularBuffer;
 use event_graph::Stack;
@@ -57,7 +57,9 @@ impl Tasks {
     ghost use Rattle.layer_eval.specs.Did.{as_predicted};
     ghost use Rattle.layer_stage.specs.Room.{slots_needed, places_needed, headers_met, most_counted, CountsWithin};
     ghost use Rattle.pool_message.specs.Seen.{event_seen};
+    ghost use Rattle.pool_message.specs.Sent.{CanPass};
     ghost use Rattle.stack_queue.specs.Passing.{Rest, GoesWith, Continues, StaysAt};
+    ghost use Rattle.stack_queue.specs.Round.{PassesRound};
     ghost use Rattle.stack_queue.specs.Pending.{first_task, tasks_seen, tasks_refs, TasksLie};
     ghost use Rattle.stack_queue.specs.Put.{carrying_task, Puts};
 
@@ -153,6 +155,64 @@ impl Tasks {
 
     /// A layer takes the event of the first task, which stands at a place, and what it sends becomes tasks behind the others.
     pub(crate) fn visit<S: Stage>(&mut self, at: u16, stage: &mut S, pool: &mut Pool) -> Predicted
+        requires some { 0 < length self.old.items }
+        requires at { (first_task self.old.items).at ≡ at }
+        requires place { (1 ≤ at) × (at ≤ 255) }
+        requires ready { S.ready pool.old stage.old }
+        requires lie { TasksLie pool.old self.old.items }
+        requires covers { Covers pool.old (S.refs stage.old ++ tasks_refs self.old.items) }
+        requires counts { CountsWithin most_counted pool.old }
+        requires headers { headers_met (first_task self.old.items).direction (event_seen pool.old (first_task self.old.items).event) ≤ most_above }
+        requires slots { slots_needed (S.layer stage.old) (first_task self.old.items).direction (event_seen pool.old (first_task self.old.items).event) ≤ spare pool.old }
+        requires places { length (drop 1 self.old.items)
+            + places_needed (S.layer stage.old) (first_task self.old.items).direction (event_seen pool.old (first_task self.old.items).event) ≤ self.old.capacity }
+        ensures state { S.state pool.new stage.new ≡
+            (step (S.place stage.old) (S.layer stage.old) (S.state pool.old stage.old) (first_task self.old.items).direction (event_seen pool.old (first_task self.old.items).event)).state }
+        ensures tasks { tasks_seen pool.new self.new.items ≡ tasks_seen pool.old (drop 1 self.old.items) ++ tasks_of at
+            (step (S.place stage.old) (S.layer stage.old) (S.state pool.old stage.old) (first_task self.old.items).direction (event_seen pool.old (first_task self.old.items).event)).sent }
+        ensures predicted { result ≡ as_predicted
+            (step (S.place stage.old) (S.layer stage.old) (S.state pool.old stage.old) (first_task self.old.items).direction (event_seen pool.old (first_task self.old.items).event)).decided }
+
+        // Its references, and those of the tasks, have moved in the pool, and no others.
+        ensures moved { Moved pool.old pool.new (S.refs stage.old ++ tasks_refs self.old.items) (S.refs stage.new ++ tasks_refs self.new.items) }
+        ensures spent { spare pool.old ≤ spare pool.new
+            + slots_needed (S.layer stage.old) (first_task self.old.items).direction (event_seen pool.old (first_task self.old.items).event) }
+        ensures capacity { self.new.capacity ≡ self.old.capacity }
+        ensures ready { S.ready pool.new stage.new }
+        ensures lie { TasksLie pool.new self.new.items }
+        ensures place { S.place stage.new ≡ S.place stage.old }
+        ensures layer { S.layer stage.new ≡ S.layer stage.old }
+    {
+        if self.pass_round(at, stage) {
+            return Predicted::usual();
+        }
+        self.bring(at, stage, pool)
+    }
+
+    /// Where others are pending, the event of the first task passes a layer that has no handler for it, and the task becomes the last. Says whether
+    /// it did; where it didn't, nothing has changed. One that is alone was asked before.
+    fn pass_round<S: Stage>(&mut self, at: u16, stage: &mut S) -> bool
+        requires some { 0 < length self.old.items }
+        requires at { (first_task self.old.items).at ≡ at }
+        requires place { (1 ≤ at) × (at ≤ 255) }
+        requires room { CanPass (first_task self.old.items).direction (first_task self.old.items).event.message }
+        ensures { PassesRound S.place S.layer S.refs S.ready S.state stage.old self.old stage.new self.new result }
+    {
+        if self.events.len() < 2 {
+            return false;
+        }
+        if !pass_one(stage, self.events.first_mut()) {
+            return false;
+        }
+        let direction = self.events.direction(0);
+        self.events.go_round();
+        end_first(&mut self.places);
+        put_place(&mut self.places, beyond(direction, at));
+        true
+    }
+
+    /// The same of an event that doesn't pass.
+    fn bring<S: Stage>(&mut self, at: u16, stage: &mut S, pool: &mut Pool) -> Predicted
         requires some { 0 < length self.old.items }
         requires at { (first_task self.old.items).at ≡ at }
         requires place { (1 ≤ at) × (at ≤ 255) }

@@ -1,0 +1,20 @@
+use Rattle.std.proofs.Common.{drop, sym, ap, ◌∙◌, arith}
+use Rattle.circular_buffer.specs.Buffer.{buffer}
+use Rattle.pool_message.specs.Sent.{first_sent}
+use Rattle.pool_message.proofs.Slots.{front_within, front_value, front_stands}
+use Rattle.pool_message.proofs.list.List.take_first.Goals as goal
+
+pub index_mut-requires : goal.index_mut-requires
+index_mut-requires c = omega (arith, front_within c.self.inside.slots.items c.self.inside.order.items c.self.inside.free.items c.in-Some.k.now c.self.invariant.0 (sym c.in-Some.ensures), c.self.inside.slots.ok.0)
+
+pub end_first-requires-clause-bare : goal.end_first-requires-clause-bare
+end_first-requires-clause-bare c =
+    ap (λ es. (first_sent es).1.message) (front_stands c.self.inside.slots.items c.self.inside.order.items c.self.inside.free.items c.in-Some.k.now c.self.invariant.0 (sym c.in-Some.ensures) c.give_message.new.sent) ∙ ap (λ e. e.1.message) c.give_message.ensures.left
+
+pub returns-clause-rest : goal.returns-clause-rest
+returns-clause-rest c =
+    c.end_first.ensures ∙ ap (λ es. buffer (drop 1 es) c.self.inside.order.capacity) (front_stands c.self.inside.slots.items c.self.inside.order.items c.self.inside.free.items c.in-Some.k.now c.self.invariant.0 (sym c.in-Some.ensures) c.give_message.new.sent)
+    ∙ ap (λ b. buffer (drop 1 b.items) b.capacity) c.self.view_is
+
+pub returns-clause-message : goal.returns-clause-message
+returns-clause-message c = c.give_message.ensures.message ∙ ap (λ e. e.1.message) (front_value c.self.inside.slots.items c.self.inside.order.items c.self.inside.free.items c.in-Some.k.now c.self.invariant.0 (sym c.in-Some.ensures) c.index_mut.result.now c.index_mut.ensures.value ∙ ap (λ b. first_sent b.items) c.self.view_is)
