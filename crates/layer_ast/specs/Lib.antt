@@ -9,3 +9,4 @@ pub mod Stops
 pub mod Tree
 pub mod View
 pub mod WordBytes
+pub mod Reader
