@@ -5,16 +5,25 @@ use Rattle.layer_ast.specs.declared.tokens.Dir.{Dir}
 use Rattle.layer_ast.specs.declared.tokens.Dir.TheVariants.{Up, Down}
 use Rattle.layer_ast.specs.declared.tokens.Kind.{Kind}
 use Rattle.layer_ast.specs.declared.tokens.Kind.TheVariants.{Cast, Timer}
+use Rattle.layer_ast.specs.Reader.{file_of}
 use Rattle.layer_ast.specs.Samples.{at, name_at}
 use Rattle.layer_ast.specs.Spells.{Spells}
-use Rattle.layer_ast.specs.Tree.{NamesTree, StatementTrees, always, DeclarationTree, HandlerTree, FileTree}
+use Rattle.layer_ast.specs.Tree.{NamesTree, StatementTrees, always, DeclarationTree, HandlerTree, LayerTree, FileTree}
 use Rattle.file_faults.specs.Faults.{FileFault}
 use Rattle.file_faults.specs.FileFault.{file_fault}
 
--- A text spells a file, and this is the first fault of the file.
-pub record IsJudged (text : List ℕ) (file : FileTree) (fault : Option FileFault) : Type 0 where
-  pub spelled : Spells text file
-  pub judged : file_fault file ≡ fault
+-- The file that a text is read as, with these layers of the library.
+abbrev pub file_over : List LayerTree → List ℕ → FileTree
+file_over library text = record (file_of text) { library = library }
+
+-- A text spells the file that it is read as, and with these layers of the library this is the first fault of the file.
+pub record IsJudgedOver (library : List LayerTree) (text : List ℕ) (fault : Option FileFault) : Type 0 where
+  pub spelled : Spells text (file_over library text)
+  pub judged : file_fault (file_over library text) ≡ fault
+
+-- So without a library.
+abbrev pub IsJudged : List ℕ → Option FileFault → Type 0
+IsJudged = IsJudgedOver []
 
 -- The text of these lines.
 abbrev pub lines : List (List ℕ) → List ℕ

@@ -3,6 +3,7 @@ use Rattle.std.proofs.Common.{◌≡◌, ℕ, zero, suc, ◌<◌, [], ◌∷◌,
 use Rattle.std.specs.Prelude.{codes, slice_index_or}
 use Rattle.msg_core.specs.Chain.{plain}
 use Rattle.layer_ast.specs.declared.tokens.Kind.TheVariants.{Cast}
+use Rattle.layer_ast.specs.Reader.{file_of}
 use Rattle.layer_mean.specs.Visit.{fresh, no_state}
 use Rattle.file_mean.specs.CounterFile as counter
 use Rattle.file_mean.specs.QueuesFile as queues
@@ -19,6 +20,7 @@ use Rattle.file_laws.specs.Samples.{CounterIsTyped, QueuesAreTyped, SmallFilesAr
 use Rattle.file_laws.proofs.Files.{files_are_named, files_are_typed}
 
 counter_literal : LiteralFile counter.file
+unfolding file_of
 counter_literal = record {
   layers_are = (
     record {
@@ -35,13 +37,15 @@ counter_literal = record {
 }
 
 counter_means : stack_of counter.file ≡ counter.stack
-unfolding stack_of layer_of handler_of
+unfolding file_of stack_of layer_of handler_of
 counter_means = refl
 
 pub counter_is_typed : CounterIsTyped
+unfolding file_of
 counter_is_typed = (counter_literal, refl, subst TypedStack counter_means (files_are_typed counter.file counter_literal refl))
 
 queues_literal : LiteralFile queues.file
+unfolding file_of
 queues_literal = record {
   layers_are = (
     record {
@@ -79,13 +83,15 @@ queues_literal = record {
 }
 
 queues_mean : stack_of queues.file ≡ queues.stack
-unfolding stack_of layer_of handler_of
+unfolding file_of stack_of layer_of handler_of
 queues_mean = refl
 
 pub queues_are_typed : QueuesAreTyped
+unfolding file_of
 queues_are_typed = (queues_literal, refl, subst TypedStack queues_mean (files_are_typed queues.file queues_literal refl))
 
 pub small_files_are_named : SmallFilesAreNamed
+unfolding file_of
 small_files_are_named = (
   subst NamedStack counter_means (files_are_named counter.file refl),
   subst NamedStack queues_mean (files_are_named queues.file refl),

@@ -3,17 +3,12 @@
 use Rattle.std.specs.Prelude.{ℕ, List, [], ◌∷◌, ◌++◌, codes, true, false, Some, None}
 use Rattle.layer_ast.specs.declared.tokens.Dir.TheVariants.{Up, Down}
 use Rattle.layer_ast.specs.declared.tokens.Kind.TheVariants as kind
-use Rattle.layer_ast.specs.declared.syntax.Ending.TheVariants.{Passes, Ends}
 use Rattle.layer_ast.specs.declared.syntax.Function.TheVariants.{Bit, Count}
 use Rattle.layer_ast.specs.declared.syntax.Operator.TheVariants.{Add, Equal, Greater}
 use Rattle.layer_ast.specs.declared.syntax.Shape.TheVariants.{Square}
-use Rattle.layer_ast.specs.declared.syntax.Sort.TheVariants as sort
-use Rattle.layer_ast.specs.Samples.{at}
-use Rattle.layer_ast.specs.Tree as expected
-use Rattle.layer_ast.specs.Tree.{number, me, members, ltime, square, binary, apply, pick, queue, bare, built, nothing, cut, tail, join, value, content, fixed, sized, set_square, push, take, each, emit, none, HandlerTree, param, int, rows_cell, header, LayerTree, FileTree}
-use Rattle.layer_ast.specs.View.{trees}
+use Rattle.layer_ast.specs.Reader.{file_of}
+use Rattle.layer_ast.specs.Tree.{FileTree}
 use Rattle.layer_mean.specs.Tree as mean
-use Rattle.file_mean.specs.Terms.{name, named_at, names, arguments, pushed_as}
 
 -- Its text.
 abbrev pub text : List ℕ
@@ -35,73 +30,9 @@ text =
     ++ codes "}\n"
     ++ codes "stack { sums(most = 4); }\n"
 
--- `up Ack(o, c) common (c > 0) { .. }`
-abbrev pub up_ack : HandlerTree
-up_ack = record {
-  at = at 7 3;
-  direction = Up;
-  kind = kind.Ack;
-  names = names (name "o" 7 10) (name "c" 7 13 ∷ []);
-  popped = None;
-  expected = expected.common (binary (at 7 23) (named_at "c" 7 24) Greater (number (at 7 28) 0));
-  block = trees (
-      each (at 8 5) (name "i" 8 10) (members (at 8 18)) (sized (name "most" 8 24)) (trees (
-      set_square (at 8 31) (name "sum" 8 35) (named_at "o" 8 39) (named_at "i" 8 42)
-      (pick (at 8 47) (binary (at 8 52) (named_at "i" 8 53) Equal (me (at 8 58))) (apply (at 8 63) Bit (named_at "c" 8 67))
-      (square (name "sum" 8 71) (named_at "i" 8 75) (named_at "o" 8 78)))
-      ∷ []))
-      ∷ emit (at 9 5) Up kind.Ack
-      (arguments (value (named_at "o" 9 12)) (value (apply (at 9 15) Count (named_at "c" 9 21)) ∷ [])) None
-      ∷ []);
-}
-
--- `down Cast(p, m) { .. }`
-abbrev pub down_cast : HandlerTree
-down_cast = record {
-  at = at 11 3;
-  direction = Down;
-  kind = kind.Cast;
-  names = names (name "p" 11 13) (name "m" 11 16 ∷ []);
-  popped = None;
-  expected = expected.always;
-  block = trees (
-      take (at 12 5) (queue (name "kept" 12 10)) (names (name "old" 12 16) []) (trees (
-      emit (at 12 23) Down kind.Cast (arguments (value (named_at "p" 12 33)) (value (named_at "old" 12 36) ∷ []))
-      (pushed_as (name "last" 12 46) [])
-      ∷ [])) none
-      ∷ push (at 13 5) (queue (name "kept" 13 10))
-      (arguments (content (join (at 13 16)
-      (built (cut (at 13 21) (bare (name "m" 13 25)) (number (at 13 28) 0) (named_at "most" 13 31)))
-      (built (tail (at 13 38) (bare (name "m" 13 43)) (named_at "most" 13 46))))) []) (trees (
-      emit (at 13 61) Down kind.Send (arguments (value (named_at "p" 13 71)) (content (nothing (at 13 74)) ∷ []))
-      (pushed_as (name "some" 13 88) [])
-      ∷ []))
-      ∷ []);
-}
-
--- The layer `sums`.
-abbrev pub layer : LayerTree
-layer = record {
-  at = at 1 1;
-  name = name "sums" 1 7;
-  declarations =
-      param (at 2 3) (name "most" 2 9) 3
-      ∷ int (at 3 3) (name "sum" 3 13) Square (Some (binary (at 3 24) (named_at "most" 3 25) Add (ltime (at 3 32))))
-      ∷ rows_cell (at 4 3) (name "kept" 4 15) (fixed (at 4 20) 1) record
-      { first = record { name = name "m" 4 27; sort = sort.Msg }; rest = [] }
-      ∷ header (at 5 3) (name "last" 5 10) None Passes
-      ∷ header (at 6 3) (name "some" 6 10) None Ends
-      ∷ [];
-  handlers = up_ack ∷ down_cast ∷ [];
-}
-
 -- The file.
 abbrev pub file : FileTree
-file = record {
-  layers = layer ∷ [];
-  places = record { name = name "sums" 16 9; given = record { name = name "most" 16 14; value = 4 } ∷ [] } ∷ [];
-  library = [];
-}
+file = file_of text
 
 -- Its handler of acknowledgements, and that of casts on their way down.
 abbrev pub acknowledged : mean.HandlerTree

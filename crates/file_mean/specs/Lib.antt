@@ -4,7 +4,6 @@ pub mod Statements
 pub mod Layers
 pub mod Stack
 pub mod Library
-pub mod Terms
 pub mod CounterFile
 pub mod AliasFile
 pub mod PacesFile

@@ -6,6 +6,7 @@ use Rattle.file_mean.specs.Library.{SpellsLayer}
 use Rattle.layer_ast.specs.Cut.{cut}
 use Rattle.layer_ast.specs.Depth.{IsWithin}
 use Rattle.layer_ast.specs.Print as print
+use Rattle.layer_ast.specs.Reader.{file_of}
 use Rattle.layer_ast.specs.Spells.{longest_file}
 use Rattle.layer_ast.specs.Tree.{LayerTree}
 use Rattle.layer_lib.specs.Library.{library, library_text}
@@ -46,63 +47,63 @@ is_layer text l spells small within =
     }
 
 is_bottom : IsLayerText bottom
-unfolding bottom
+unfolding file_of bottom
 is_bottom = is_layer bottom _ bottom_text.spelled refl tt
 
 is_mnak : IsLayerText mnak
-unfolding mnak
+unfolding file_of mnak
 is_mnak = is_layer mnak _ mnak_text.spelled refl tt
 
 is_pt2pt : IsLayerText pt2pt
-unfolding pt2pt
+unfolding file_of pt2pt
 is_pt2pt = is_layer pt2pt _ pt2pt_text.spelled refl tt
 
 is_pt2ptw : IsLayerText pt2ptw
-unfolding pt2ptw
+unfolding file_of pt2ptw
 is_pt2ptw = is_layer pt2ptw _ pt2ptw_text.spelled refl tt
 
 is_mflow : IsLayerText mflow
-unfolding mflow
+unfolding file_of mflow
 is_mflow = is_layer mflow _ mflow_text.spelled refl tt
 
 is_frag : IsLayerText frag
-unfolding frag
+unfolding file_of frag
 is_frag = is_layer frag _ frag_text.spelled refl tt
 
 is_collect : IsLayerText collect
-unfolding collect
+unfolding file_of collect
 is_collect = is_layer collect _ collect_text.spelled refl tt
 
 is_stable : IsLayerText stable
-unfolding stable
+unfolding file_of stable
 is_stable = is_layer stable _ stable_text.spelled refl tt
 
 is_local : IsLayerText local
-unfolding local
+unfolding file_of local
 is_local = is_layer local _ local_text.spelled refl tt
 
 is_total : IsLayerText total
-unfolding total
+unfolding file_of total
 is_total = is_layer total _ total_text.spelled refl tt
 
 is_suspect : IsLayerText suspect
-unfolding suspect
+unfolding file_of suspect
 is_suspect = is_layer suspect _ suspect_text.spelled refl tt
 
 is_elect : IsLayerText elect
-unfolding elect
+unfolding file_of elect
 is_elect = is_layer elect _ elect_text.spelled refl tt
 
 is_sync : IsLayerText sync
-unfolding sync
+unfolding file_of sync
 is_sync = is_layer sync _ sync_text.spelled refl tt
 
 is_intra : IsLayerText intra
-unfolding intra
+unfolding file_of intra
 is_intra = is_layer intra _ intra_text.spelled refl tt
 
 is_top : IsLayerText top
-unfolding top
+unfolding file_of top
 is_top = is_layer top _ top_text.spelled refl tt
 
 -- each text of a table is one layer

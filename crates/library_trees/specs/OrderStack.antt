@@ -8,8 +8,8 @@ use Rattle.layer_ast.specs.declared.syntax.Likely.TheVariants.{First}
 use Rattle.layer_ast.specs.declared.syntax.Operator.TheVariants.{Add, Equal}
 use Rattle.layer_ast.specs.declared.syntax.Shape.TheVariants.{One}
 use Rattle.layer_mean.specs.Tree as mean
+use Rattle.layer_ast.specs.Reader.{file_of}
 use Rattle.layer_ast.specs.Tree.{FileTree}
-use Rattle.file_mean.specs.Terms.{name}
 use Rattle.library_trees.specs.Bottom as bottom
 use Rattle.library_trees.specs.Local as local
 use Rattle.library_trees.specs.Total as total
@@ -20,13 +20,7 @@ text = codes "stack { bottom; local; total; }\n"
 
 -- The file.
 abbrev pub file : FileTree
-file = record {
-  layers = [];
-  places =
-      record { name = name "bottom" 1 9; given = [] }
-      ∷ record { name = name "local" 1 17; given = [] }
-      ∷ record { name = name "total" 1 24; given = [] }
-      ∷ [];
+file = record (file_of text) {
   library = bottom.layer ∷ local.layer ∷ total.layer ∷ [];
 }
 

@@ -1,7 +1,7 @@
 -- A file of no layers whose stack is the whole library.
 use Rattle.std.specs.Prelude.{ℕ, List, [], ◌∷◌, ◌++◌, codes}
+use Rattle.layer_ast.specs.Reader.{file_of}
 use Rattle.layer_ast.specs.Tree.{FileTree}
-use Rattle.file_mean.specs.Terms.{name}
 use Rattle.library_trees.specs.Bottom as bottom
 use Rattle.library_trees.specs.Mnak as mnak
 use Rattle.library_trees.specs.Pt2pt as pt2pt
@@ -41,25 +41,7 @@ text =
 
 -- The file.
 abbrev pub file : FileTree
-file = record {
-  layers = [];
-  places =
-      record { name = name "bottom" 2 3; given = [] }
-      ∷ record { name = name "mnak" 3 3; given = [] }
-      ∷ record { name = name "pt2pt" 4 3; given = [] }
-      ∷ record { name = name "pt2ptw" 5 3; given = [] }
-      ∷ record { name = name "mflow" 6 3; given = [] }
-      ∷ record { name = name "frag" 7 3; given = [] }
-      ∷ record { name = name "collect" 8 3; given = [] }
-      ∷ record { name = name "stable" 9 3; given = [] }
-      ∷ record { name = name "local" 10 3; given = [] }
-      ∷ record { name = name "total" 11 3; given = [] }
-      ∷ record { name = name "suspect" 12 3; given = [] }
-      ∷ record { name = name "elect" 13 3; given = [] }
-      ∷ record { name = name "sync" 14 3; given = [] }
-      ∷ record { name = name "intra" 15 3; given = [] }
-      ∷ record { name = name "top" 16 3; given = [] }
-      ∷ [];
+file = record (file_of text) {
   library =
       bottom.layer
       ∷ mnak.layer

@@ -1,10 +1,10 @@
 -- A body that is cut into pieces, whose packets arrive in the opposite order: it is delivered whole.
 use Rattle.std.specs.Prelude.{◌≡◌, List, [], ◌∷◌, ◌++◌, codes}
+use Rattle.layer_ast.specs.Reader.{file_of}
 use Rattle.layer_ast.specs.Tree.{FileTree}
 use Rattle.script_mean.specs.declared.event.ScriptEvent.{ScriptEvent}
 use Rattle.script_mean.specs.declared.event.ScriptEvent.TheVariants as script
 use Rattle.file_mean.specs.Stack.{stack_of}
-use Rattle.file_mean.specs.Terms.{name}
 use Rattle.library_trees.specs.Bottom as bottom
 use Rattle.library_trees.specs.Mnak as mnak
 use Rattle.library_trees.specs.Frag as frag
@@ -12,12 +12,7 @@ use Rattle.run_rows.specs.Written.{reported}
 
 -- The file `stack { bottom; mnak; frag(piece = 2); }`.
 abbrev pub file : FileTree
-file = record {
-  layers = [];
-  places =
-      record { name = name "bottom" 1 9; given = [] }
-      ∷ record { name = name "mnak" 1 17; given = [] }
-      ∷ record { name = name "frag" 1 23; given = record { name = name "piece" 1 28; value = 2 } ∷ [] } ∷ [];
+file = record (file_of (codes "stack { bottom; mnak; frag(piece = 2); }")) {
   library = bottom.layer ∷ mnak.layer ∷ frag.layer ∷ [];
 }
 

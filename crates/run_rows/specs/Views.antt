@@ -1,11 +1,11 @@
 -- A view is agreed on and installed: a member that wasn't heard of is suspected, the lowest that is left is elected, blocks the others
 -- and announces the view without it.
 use Rattle.std.specs.Prelude.{◌≡◌, ℕ, List, [], ◌∷◌, ◌++◌, codes}
+use Rattle.layer_ast.specs.Reader.{file_of}
 use Rattle.layer_ast.specs.Tree.{FileTree}
 use Rattle.script_mean.specs.declared.event.ScriptEvent.{ScriptEvent}
 use Rattle.script_mean.specs.declared.event.ScriptEvent.TheVariants as script
 use Rattle.file_mean.specs.Stack.{stack_of}
-use Rattle.file_mean.specs.Terms.{name}
 use Rattle.library_trees.specs.Suspect as suspect
 use Rattle.library_trees.specs.Elect as elect
 use Rattle.library_trees.specs.Sync as sync
@@ -15,14 +15,7 @@ use Rattle.run_rows.specs.Written.{reported}
 
 -- The file `stack { suspect; elect; sync; intra; top; }`, and its stack.
 abbrev pub file : FileTree
-file = record {
-  layers = [];
-  places =
-      record { name = name "suspect" 1 9; given = [] }
-      ∷ record { name = name "elect" 1 18; given = [] }
-      ∷ record { name = name "sync" 1 25; given = [] }
-      ∷ record { name = name "intra" 1 31; given = [] }
-      ∷ record { name = name "top" 1 38; given = [] } ∷ [];
+file = record (file_of (codes "stack { suspect; elect; sync; intra; top; }")) {
   library = suspect.layer ∷ elect.layer ∷ sync.layer ∷ intra.layer ∷ top.layer ∷ [];
 }
 

@@ -1,12 +1,11 @@
 -- The text of `collect` spells its tree.
 use Rattle.std.proofs.Common.{refl}
-use Rattle.layer_ast.specs.Cut.{piece}
-use Rattle.layer_ast.specs.Spelling.{reserved, kinds, word_token, symbols, symbol_at}
+use Rattle.layer_ast.specs.Reader.{file_of}
 use Rattle.layer_ast.proofs.Laid.{fits_laid}
 use Rattle.layer_lib.specs.Order.{collect}
 use Rattle.file_mean.specs.Library.{SpellsLayer}
 use Rattle.library_trees.specs.Collect.{layer}
 
 pub spelled : SpellsLayer collect layer
-unfolding piece reserved kinds word_token symbols symbol_at collect
+unfolding file_of collect
 spelled = record { good = refl; fits = fits_laid _ _ refl }

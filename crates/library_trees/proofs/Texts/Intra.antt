@@ -1,12 +1,11 @@
 -- The text of `intra` spells its tree.
 use Rattle.std.proofs.Common.{refl}
-use Rattle.layer_ast.specs.Cut.{piece}
-use Rattle.layer_ast.specs.Spelling.{reserved, kinds, word_token, symbols, symbol_at}
+use Rattle.layer_ast.specs.Reader.{file_of}
 use Rattle.layer_ast.proofs.Laid.{fits_laid}
 use Rattle.layer_lib.specs.Membership.{intra}
 use Rattle.file_mean.specs.Library.{SpellsLayer}
 use Rattle.library_trees.specs.Intra.{layer}
 
 pub spelled : SpellsLayer intra layer
-unfolding piece reserved kinds word_token symbols symbol_at intra
+unfolding file_of intra
 spelled = record { good = refl; fits = fits_laid _ _ refl }

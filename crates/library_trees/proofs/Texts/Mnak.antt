@@ -1,12 +1,11 @@
 -- The text of `mnak` spells its tree.
 use Rattle.std.proofs.Common.{refl}
-use Rattle.layer_ast.specs.Cut.{piece}
-use Rattle.layer_ast.specs.Spelling.{reserved, kinds, word_token, symbols, symbol_at}
+use Rattle.layer_ast.specs.Reader.{file_of}
 use Rattle.layer_ast.proofs.Laid.{fits_laid}
 use Rattle.layer_lib.specs.Reliable.{mnak}
 use Rattle.file_mean.specs.Library.{SpellsLayer}
 use Rattle.library_trees.specs.Mnak.{layer}
 
 pub spelled : SpellsLayer mnak layer
-unfolding piece reserved kinds word_token symbols symbol_at mnak
+unfolding file_of mnak
 spelled = record { good = refl; fits = fits_laid _ _ refl }

@@ -1,12 +1,11 @@
 -- The text of `suspect` spells its tree.
 use Rattle.std.proofs.Common.{refl}
-use Rattle.layer_ast.specs.Cut.{piece}
-use Rattle.layer_ast.specs.Spelling.{reserved, kinds, word_token, symbols, symbol_at}
+use Rattle.layer_ast.specs.Reader.{file_of}
 use Rattle.layer_ast.proofs.Laid.{fits_laid}
 use Rattle.layer_lib.specs.Membership.{suspect}
 use Rattle.file_mean.specs.Library.{SpellsLayer}
 use Rattle.library_trees.specs.Suspect.{layer}
 
 pub spelled : SpellsLayer suspect layer
-unfolding piece reserved kinds word_token symbols symbol_at suspect
+unfolding file_of suspect
 spelled = record { good = refl; fits = fits_laid _ _ refl }

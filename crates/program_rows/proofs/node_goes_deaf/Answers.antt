@@ -3,8 +3,7 @@ use Rattle.std.specs.Fmt.{digits}
 use Rattle.std.proofs.lemmas.List.Elements.{All-cons, All-nil}
 use lib.Count.{ones, ones_in, count_trailing_zeros}
 use Rattle.hex.proofs.OnLiterals.{hex_on_literals}
-use Rattle.layer_ast.specs.Cut.{piece}
-use Rattle.layer_ast.specs.Spelling.{reserved, kinds, word_token, symbols, symbol_at}
+use Rattle.layer_ast.specs.Reader.{file_of}
 use Rattle.layer_ast.proofs.Laid.{fits_laid}
 use Rattle.layer_lib.specs.Library.{library}
 use Rattle.layer_mean.specs.Visit.{step}
@@ -29,7 +28,7 @@ three_below = All-cons below 0 (1 ∷ 2 ∷ []) (omega arith)
     (All-cons below 1 (2 ∷ []) (omega arith) (All-cons below 2 [] (omega arith) (All-nil below)))
 
 pub returns-clause-ends : goal.returns-clause-ends
-unfolding piece reserved kinds word_token symbols symbol_at library stack_of layer_of handler_of output_in report_lines happens received drawn_shape has_second_case run step digits ones ones_in count_trailing_zeros hex_on_literals
+unfolding file_of library stack_of layer_of handler_of output_in report_lines happens received drawn_shape has_second_case run step digits ones ones_in count_trailing_zeros hex_on_literals
 returns-clause-ends c = record {
   node = record {
     stack = stack_of counter.file;
@@ -65,7 +64,7 @@ returns-clause-ends c = record {
 }
 
 pub returns-clause-patient : goal.returns-clause-patient
-unfolding piece reserved kinds word_token symbols symbol_at library stack_of layer_of handler_of output_in report_lines happens received drawn_shape has_second_case run step digits ones ones_in count_trailing_zeros hex_on_literals
+unfolding file_of library stack_of layer_of handler_of output_in report_lines happens received drawn_shape has_second_case run step digits ones ones_in count_trailing_zeros hex_on_literals
 returns-clause-patient c = record {
   node = record {
     stack = stack_of counter.file;

@@ -2,8 +2,7 @@ use Rattle.std.proofs.Common.{refl, arith}
 use Rattle.std.specs.Fmt.{digits}
 use lib.Count.{ones, ones_in, count_trailing_zeros}
 use Rattle.hex.proofs.OnLiterals.{hex_on_literals}
-use Rattle.layer_ast.specs.Cut.{piece}
-use Rattle.layer_ast.specs.Spelling.{reserved, kinds, word_token, symbols, symbol_at}
+use Rattle.layer_ast.specs.Reader.{file_of}
 use Rattle.layer_ast.proofs.Laid.{fits_laid}
 use Rattle.layer_lib.specs.Library.{library}
 use Rattle.layer_mean.specs.Visit.{step}
@@ -20,7 +19,7 @@ use Rattle.file_mean.specs.CounterFile as counter
 use Rattle.program_rows.proofs.replays_short.Goals as goal
 
 pub returns : goal.returns
-unfolding piece reserved kinds word_token symbols symbol_at library stack_of layer_of handler_of output_in report_lines happens received drawn_shape has_second_case run step digits ones ones_in count_trailing_zeros hex_on_literals
+unfolding file_of library stack_of layer_of handler_of output_in report_lines happens received drawn_shape has_second_case run step digits ones ones_in count_trailing_zeros hex_on_literals
 returns c = record {
   stack = stack_of counter.file;
   means = record {

@@ -3,6 +3,8 @@ use Rattle.std.proofs.Common.{refl}
 use Rattle.std.specs.Fmt.{digits}
 use lib.Count.{ones, ones_in, count_trailing_zeros}
 use Rattle.hex.proofs.OnLiterals.{hex_on_literals}
+use Rattle.layer_ast.specs.Reader.{file_of}
+use Rattle.layer_lib.specs.Membership.{suspect, elect, sync, intra, top}
 use Rattle.layer_mean.specs.Visit.{step}
 use Rattle.layer_mean.specs.Queue.{run}
 use Rattle.stack_mean.specs.Shape.{drawn_shape, has_second_case}
@@ -14,5 +16,5 @@ use Rattle.run_mean.specs.Report.{report_lines, output_in}
 use Rattle.run_rows.proofs.installs_views.Goals as goal
 
 pub returns : goal.returns
-unfolding stack_of layer_of handler_of output_in report_lines happens received drawn_shape has_second_case run step digits ones ones_in count_trailing_zeros hex_on_literals
+unfolding file_of suspect elect sync intra top stack_of layer_of handler_of output_in report_lines happens received drawn_shape has_second_case run step digits ones ones_in count_trailing_zeros hex_on_literals
 returns c = refl

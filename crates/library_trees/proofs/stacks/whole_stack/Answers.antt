@@ -1,6 +1,5 @@
 use Rattle.std.proofs.Common.{refl}
-use Rattle.layer_ast.specs.Cut.{piece}
-use Rattle.layer_ast.specs.Spelling.{reserved, kinds, word_token, symbols, symbol_at}
+use Rattle.layer_ast.specs.Reader.{file_of}
 use Rattle.layer_ast.proofs.Laid.{fits_laid}
 use Rattle.layer_lib.specs.Library.{library}
 use Rattle.library_trees.proofs.Texts.Bottom as bottom
@@ -21,7 +20,7 @@ use Rattle.library_trees.proofs.Texts.Top as top
 use Rattle.library_trees.proofs.stacks.whole_stack.Goals as goal
 
 pub returns : goal.returns
-unfolding piece reserved kinds word_token symbols symbol_at library
+unfolding file_of library
 returns c = record {
   spelled = record { good = refl; fits = fits_laid _ _ refl; within = tt; placed = λ none. cc };
   library = (bottom.spelled, (mnak.spelled, (pt2pt.spelled, (pt2ptw.spelled, (mflow.spelled, (frag.spelled, (collect.spelled, (stable.spelled, (local.spelled, (total.spelled, (suspect.spelled, (elect.spelled, (sync.spelled, (intra.spelled, (top.spelled, tt)))))))))))))));
