@@ -1,9 +1,10 @@
 -- What expressions are worth at a desk.
-use Rattle.std.specs.Prelude.{ℕ, ◌+◌, nat_le, if◌then◌else◌, length, List, map}
+use Rattle.std.specs.Prelude.{ℕ, ◌+◌, nat_le, if◌then◌else◌, length, List, map, Option, option_map}
 use Rattle.msg_core.specs.Chain.{Content}
 use Rattle.msg_core.specs.Parts.{longest_body}
-use Rattle.layer_mean.specs.Tree.{part, ExpressionTree, MessageTree, held, tail, join}
+use Rattle.layer_mean.specs.Tree.{part, ExpressionTree, MessageTree, EmissionTree, held, tail, join}
 use Rattle.layer_mean.specs.Value.{val, mval}
+use Rattle.layer_mean.specs.Effect.{header_of, sent_as}
 use Rattle.layer_desk.specs.Laid.{Laid}
 use Rattle.layer_desk.specs.Need.{Need, message_need}
 
@@ -34,3 +35,7 @@ bare m = m
 -- Its need.
 abbrev pub bare_need : MessageTree → Need
 bare_need m = record (message_need m) { misfits = 0 }
+
+-- The message of an emission, if it has one, with the header that is pushed on it going down.
+abbrev pub message_sent : ℕ → EmissionTree → Laid → Option Content
+message_sent place e p = option_map (λ c. sent_as e.direction (header_of place c p.state p.scope) (message_of c.message p)) e.content

@@ -1,27 +1,28 @@
 //! What statements do.
 
-ghost use Rattle.std.specs.Prelude.{◌≡◌, true, Option, OnOk};
+ghost use Rattle.std.specs.Prelude.{◌≡◌, true, map, Option, OnOk};
 ghost use Rattle.msg_core.specs.Chain.{Content as Bytes};
 ghost use Rattle.layer_mean.specs.Event.{event_of};
 ghost use Rattle.layer_mean.specs.State.{has_room};
 ghost use Rattle.layer_mean.specs.Effect.{row_of, emitted};
-ghost use Rattle.typed_layer.specs.View.{row_tree, emission_tree, statement_tree, block_tree};
+ghost use Rattle.typed_layer.specs.View.{expression_tree, row_tree, emission_tree, statement_tree, block_tree};
 ghost use Rattle.layer_desk.specs.Laid.{event_in, queued, sends};
 ghost use Rattle.layer_desk.specs.Need.{push_need, emission_need, statement_need, block_need};
 ghost use Rattle.layer_desk.specs.Spent.{Spent};
+ghost use Rattle.layer_eval.specs.Worth.{numbers_of, message_sent};
 ghost use Rattle.layer_eval.specs.Did.{Did, statement_does, block_does};
 
 use crate::message::make;
 use crate::predicted::Predicted;
-use crate::value::{fields, number};
+use crate::value::{fields, nth_number, number};
 use layer_ast::Kind;
 use layer_desk::{Desk, Envelope, NoRoom, Start};
-use msg_core::{Fields, Header};
+use msg_core::Header;
 use slot_pool::Pool;
 use typed_layer::{Block, Emission, MessageExpression, Row, Statement};
 
 /// Runs the statements of a block of the layer at a place, and keeps account of whether all has gone as predicted. Many blocks are empty: these
-/// cost no call.
+/// cost no call. Of the others most have one statement: these cost no loop.
 #[cycle(effect)]
 #[inline(always)]
 pub fn run_block<K: Start, D: Desk>(
@@ -38,10 +39,34 @@ pub fn run_block<K: Start, D: Desk>(
     ensures spent { Spent (D.free pool.old desk.old) (D.free pool.new desk.new)
         (block_need K.begun.layout (block_tree block.now)) result }
 {
-    if block.statements.is_empty() {
+    let statements = block.statements.as_slice();
+    if statements.is_empty() {
         return Ok(());
     }
+    if statements.len() == 1 {
+        return run_alone::<K, D>(place, &statements[0], desk, pool, predicted);
+    }
     run_statements::<K, D>(place, block, desk, pool, predicted)
+}
+
+/// Runs a statement that is all of a block.
+#[cycle(effect)]
+#[inline(never)]
+fn run_alone<K: Start, D: Desk>(
+    place: u8,
+    statement: &Statement,
+    desk: &mut D,
+    pool: &mut Pool,
+    predicted: &mut Predicted,
+) -> Result<(), NoRoom>
+    requires { D.ready K.begun pool.old desk.old }
+    ensures ready { D.ready K.begun pool.new desk.new }
+    ensures did { OnOk result (Did (statement_does place (statement_tree statement.now) (D.shown pool.old desk.old))
+        (D.shown pool.old desk.old) (D.shown pool.new desk.new) predicted.old predicted.new) }
+    ensures spent { Spent (D.free pool.old desk.old) (D.free pool.new desk.new)
+        (statement_need K.begun.layout (statement_tree statement.now)) result }
+{
+    run_statement::<K, D>(place, statement, desk, pool, predicted)
 }
 
 #[cycle(effect)]
@@ -151,11 +176,11 @@ fn run_statement<K: Start, D: Desk>(
         } => {
             if number::<K, D>(condition, desk, pool) != 0 {
                 run_block::<K, D>(place, block, desk, pool, predicted)?;
-                *predicted = Predicted::chosen(true, *likely).and(*predicted);
+                predicted.choose(true, *likely);
                 Ok(())
             } else {
                 run_block::<K, D>(place, otherwise, desk, pool, predicted)?;
-                *predicted = Predicted::chosen(false, *likely).and(*predicted);
+                predicted.choose(false, *likely);
                 Ok(())
             }
         }
@@ -206,6 +231,7 @@ fn push<K: Start, D: Desk>(
 }
 
 /// Sends an event, whose arguments are evaluated at once.
+#[inline(never)]
 fn emit<K: Start, D: Desk>(
     place: u8,
     emission: &Emission,
@@ -219,8 +245,25 @@ fn emit<K: Start, D: Desk>(
         (D.shown pool.old desk.old)) }
     ensures spent { Spent (D.free pool.old desk.old) (D.free pool.new desk.new) (emission_need (emission_tree emission.now)) result }
 {
-    let numbers = fields::<K, D>(&emission.numbers, desk, pool);
-    let envelope = envelope(emission.kind, &numbers);
+    let envelope = envelope::<K, D>(emission, desk, pool);
+    send::<K, D>(place, emission, envelope, desk, pool)
+}
+
+/// Sends an event with an emission's message.
+#[inline(always)]
+fn send<K: Start, D: Desk>(
+    place: u8,
+    emission: &Emission,
+    envelope: Envelope,
+    desk: &mut D,
+    pool: &mut Pool,
+) -> Result<(), NoRoom>
+    requires { D.ready K.begun pool.old desk.old }
+    ensures ready { D.ready K.begun pool.new desk.new }
+    ensures shown { OnOk result (D.shown pool.new desk.new ≡ sends emission.now.direction
+        (event_in envelope (message_sent place (emission_tree emission.now) (D.shown pool.old desk.old))) (D.shown pool.old desk.old)) }
+    ensures spent { Spent (D.free pool.old desk.old) (D.free pool.new desk.new) (emission_need (emission_tree emission.now)) result }
+{
     match &emission.content {
         None => desk.send::<K>(pool, emission.direction, envelope),
         Some(content) => {
@@ -238,22 +281,26 @@ fn emit<K: Start, D: Desk>(
     }
 }
 
-/// An event of a kind with these number arguments, in the order in which they are written.
-fn envelope(kind: Kind, numbers: &Fields) -> Envelope
-    ensures { (message : Option Bytes) → event_in result message ≡ event_of kind numbers.now message }
+/// An emission without its message: its number arguments are evaluated.
+#[inline(always)]
+fn envelope<K: Start, D: Desk>(emission: &Emission, desk: &D, pool: &Pool) -> Envelope
+    requires { D.ready K.begun pool.now desk.now }
+    ensures { (message : Option Bytes) → event_in result message ≡
+        event_of emission.now.kind (numbers_of (map expression_tree emission.now.numbers) (D.shown pool.now desk.now)) message }
 {
-    match kind {
+    let first = nth_number::<K, D>(&emission.numbers, 0, desk, pool);
+    match emission.kind {
         Kind::Cast | Kind::Send => Envelope {
-            kind,
-            peer: numbers.at(0),
+            kind: emission.kind,
+            peer: first,
             a: 0,
             b: 0,
         },
         _ => Envelope {
-            kind,
+            kind: emission.kind,
             peer: 0,
-            a: numbers.at(0),
-            b: numbers.at(1),
+            a: first,
+            b: nth_number::<K, D>(&emission.numbers, 1, desk, pool),
         },
     }
 }

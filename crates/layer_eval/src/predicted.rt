@@ -54,6 +54,31 @@ impl Predicted {
         }
     }
 
+    /// Counts a condition's decision in; most change nothing.
+    pub fn choose(&mut self, holds: bool, likely: Likely)
+        ensures { self.new ≡ both (as_predicted (decision holds likely ∷ [])) self.old }
+    {
+        match likely {
+            Likely::First => {
+                if !holds {
+                    *self = Predicted::unusual();
+                }
+            }
+            Likely::Else => {
+                if holds {
+                    *self = Predicted::unusual();
+                }
+            }
+            Likely::Two => {
+                if holds {
+                    self.second = false;
+                } else {
+                    self.first = false;
+                }
+            }
+        }
+    }
+
     /// Both what was decided before and what was decided behind it went as predicted.
     pub fn and(self, behind: Predicted) -> Predicted
         ensures { result ≡ both self behind }

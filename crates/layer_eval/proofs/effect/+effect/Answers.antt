@@ -60,7 +60,7 @@ run_statement-returns-in_ok-run_block-in-Branch-clause-did g t c =
     branch_first c.args.place c.in-Branch.likely (expression_tree c.in-Branch.condition) (block_tree c.in-Branch.block)
     (block_tree c.in-Branch.otherwise) (statement_tree c.args.statement.now) (g.D.Desk.shown c.args.pool.now c.args.desk.now)
     (g.D.Desk.shown c.run_block-then-number-ne0.new.pool c.run_block-then-number-ne0.new.desk) c.number.result
-    c.args.predicted.now c.run_block-then-number-ne0.new.predicted c.and.result
+    c.args.predicted.now c.run_block-then-number-ne0.new.predicted c.choose.new.self
     (ap statement_tree c.in-Branch.is ∙ branch_tree c.in-Branch.likely c.in-Branch.condition c.in-Branch.block c.in-Branch.otherwise)
     c.number.ensures (search rules) c.in_ok-run_block-in-Branch.ensures.did (search rules)
 
