@@ -1,5 +1,5 @@
 -- Events that were sent, each with its direction.
-use Rattle.std.specs.Prelude.{ℕ, ◌<◌, List, [], ◌∷◌, map, length, Option, Some, None, option_map}
+use Rattle.std.specs.Prelude.{ℕ, ◌<◌, List, [], ◌∷◌, map, length, Option, Some, None}
 use Rattle.std.specs.List.{flat_map, AllByRecursion}
 use Rattle.slot_pool.specs.Held.{Held}
 use Rattle.msg_core.specs.Chain.{first_of, rest_of}
