@@ -1,3 +1,4 @@
 pub mod Joined
+pub mod Nones
 pub mod Rows
 pub mod Spelled

@@ -6,7 +6,7 @@ ghost use Rattle.std.specs.Fmt.{decimal};
 ghost use Rattle.event_graph.specs.Answer.{stack_tree};
 ghost use Rattle.run_mean.specs.Text.{header_text, chain_text, header_name, layer_number};
 ghost use Rattle.report_lines.specs.Layer.{layer_or_none};
-ghost use Rattle.report_lines.specs.Lead.{lead, no_header};
+ghost use Rattle.report_lines.specs.Lead.{lead, no_header, none_of, trail};
 
 use crate::line::Line;
 use event_graph::Stack;
@@ -25,6 +25,7 @@ fn layer_at(stack: &Stack, place: u8) -> Option<&TypedLayer>
 }
 
 /// The name of the layer at a place.
+#[inline(always)]
 fn push_layer_name(line: &mut Line, layer: Option<&TypedLayer>) -> Result<(), Memory>
     ensures { OnOk result (line.new ≡ line.old ++ (layer_or_none layer.entry).name) }
 {
@@ -69,16 +70,31 @@ pub(crate) fn push_fields(line: &mut Line, fields: &Fields) -> Result<(), Memory
     Ok(())
 }
 
+/// The separator, if there are more.
+fn push_trail(line: &mut Line, more: bool) -> Result<(), Memory>
+    ensures { OnOk result (line.new ≡ line.old ++ trail (47 ∷ []) more) }
+{
+    if more { line.text(b"/") } else { Ok(()) }
+}
+
+/// `LAYER.none()`, as most headers are, and the separator if there are more.
+fn push_none(line: &mut Line, stack: &Stack, place: u8, more: bool) -> Result<(), Memory>
+    ensures { OnOk result (line.new ≡ line.old ++ header_text (stack_tree stack.now) (none_of place) ++ trail (47 ∷ []) more) }
+{
+    push_layer_name(line, layer_at(stack, place))?;
+    if more {
+        line.text(b".none()/")
+    } else {
+        line.text(b".none()")
+    }
+}
+
 /// `LAYER.HEADER(F,F)`
 fn push_header(line: &mut Line, stack: &Stack, header: &Header) -> Result<(), Memory>
     ensures { OnOk result (line.new ≡ line.old ++ header_text (stack_tree stack.now) header.now) }
 {
     let layer = layer_at(stack, header.layer);
     push_layer_name(line, layer)?;
-    // as most headers are
-    if header.tag == 0 && header.fields.len() == 0 {
-        return line.text(b".none()");
-    }
     line.text(b".")?;
     push_header_name(line, layer, header.tag)?;
     line.text(b"(")?;
@@ -86,16 +102,36 @@ fn push_header(line: &mut Line, stack: &Stack, header: &Header) -> Result<(), Me
     line.text(b")")
 }
 
-/// The header number `k` of some, behind what separates it from the one in front.
-fn push_next(line: &mut Line, stack: &Stack, headers: &Headers, k: u32) -> Result<(), Memory>
+/// The header number `k` of some.
+fn push_numbered(line: &mut Line, stack: &Stack, headers: &Headers, k: u32) -> Result<(), Memory>
     requires { k < length headers.now }
-    ensures { OnOk result (line.new ≡ line.old ++ lead (47 ∷ []) k ++ header_text (stack_tree stack.now) (slice_index_or headers.now k no_header)) }
+    ensures { OnOk result (line.new ≡ line.old ++ header_text (stack_tree stack.now) (slice_index_or headers.now k no_header)) }
 {
-    push_lead(line, b"/", k)?;
     match headers.at(k) {
         Some(header) => push_header(line, stack, &header),
         None => unreachable!(),
     }
+}
+
+/// The header number `k` of some, and the separator if there are more. Most headers are `none`, and aren't copied.
+fn push_next(
+    line: &mut Line,
+    stack: &Stack,
+    headers: &Headers,
+    k: u32,
+    more: bool,
+) -> Result<(), Memory>
+    requires { k < length headers.now }
+    ensures { OnOk result (line.new ≡ line.old ++ header_text (stack_tree stack.now) (slice_index_or headers.now k no_header) ++ trail (47 ∷ []) more) }
+{
+    let Some(header) = headers.at(k) else {
+        unreachable!()
+    };
+    if header.tag == 0 && header.fields.len() == 0 {
+        return push_none(line, stack, header.layer, more);
+    }
+    push_numbered(line, stack, headers, k)?;
+    push_trail(line, more)
 }
 
 /// Headers, lowest first, with `/` between, or `-` for none.
@@ -107,7 +143,7 @@ pub fn push_chain(line: &mut Line, stack: &Stack, headers: &Headers) -> Result<(
         return line.text(b"-");
     }
     for k in 0..count {
-        push_next(line, stack, headers, k)?;
+        push_next(line, stack, headers, k, k + 1 < count)?;
     }
     Ok(())
 }
