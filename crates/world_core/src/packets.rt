@@ -1,6 +1,6 @@
 //! The packets of a group.
 
-ghost use Rattle.std.specs.Prelude.{◌≡◌, ◌^◌, ◌<◌, ◌≤◌, [], ◌∷◌, ◌++◌, Some, OnOk, length, slice_get};
+ghost use Rattle.std.specs.Prelude.{◌≡◌, ◌+◌, ◌^◌, ◌<◌, ◌≤◌, [], ◌∷◌, ◌++◌, Some, OnOk, length, slice_get, vec_len, vec_capacity};
 ghost use Rattle.std.specs.Option.{option_map};
 ghost use Rattle.packet_full.specs.Sent.{sent_packet};
 ghost use Rattle.packet_mean.specs.Spelling.{full_bytes};
@@ -14,6 +14,9 @@ use packet_mean::Here;
 use std::alloc::Global;
 use std::marker::Model;
 use step_outputs::{OutputView, Outputs, PacketView};
+
+/// For how many bytes more room is made at least.
+const LEAST_ROOM: usize = 1_048_576;
 
 /// Every packet ever sent, as its full spelling, in the order of output: the bytes of all, one behind the other, and where each ends.
 #[derive(Drop)]
@@ -51,6 +54,17 @@ fn part<'b>(bytes: &'b [u8], ends: &[usize], index: usize) -> &'b [u8]
     let from = start(ends, index);
     let end = ends[index];
     &bytes[from..end]
+}
+
+/// Makes room for so many bytes more, and where there is too little, for many at once.
+fn make_room(bytes: &mut Vec<u8>, more: usize) -> Result<(), Memory>
+    ensures items { bytes.new.items ≡ bytes.old.items }
+    ensures ok { OnOk result (vec_len bytes.new + more ≤ vec_capacity bytes.new) }
+{
+    if bytes.capacity() - bytes.len() < more {
+        bytes.reserve(more.max(LEAST_ROOM))?;
+    }
+    Ok(())
 }
 
 impl Packets {
@@ -92,7 +106,7 @@ impl Packets {
             ++ full_bytes (sent_packet here.now packet.now.dest packet.now.headers.now packet.now.body.now) ∷ []) }
     {
         self.ends.reserve(1)?;
-        self.bytes.reserve(room_of(packet.headers, packet.body))?;
+        make_room(&mut self.bytes, room_of(packet.headers, packet.body))?;
         put_full_of(
             here,
             packet.dest,
