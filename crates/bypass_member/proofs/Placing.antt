@@ -90,14 +90,15 @@ opened_member stack most view id old new w typed is_view same opening = (
 
 -- what a step works over is sound
 pub ground_is : (m : Inside) (g : Ground) (view : View) → IsMember m → m.view ≡ Some view → g.stack.now ≡ rc_value m.stack →
-    g.plans.now ≡ rc_value m.plans → g.entries.now ≡ rc_value m.entries → g.here.view ≡ view → g.here.group < 2 ^ 32 → g.here.stamp < 2 ^ 32 →
+    g.plans.now ≡ rc_value m.plans → g.entries.now ≡ rc_value m.entries → g.bare.now ≡ m.bare → g.here.view ≡ view → g.here.group < 2 ^ 32 → g.here.stamp < 2 ^ 32 →
     g.here.rank < 32 → IsGround g
-ground_is m g view is at stack plans entries here group stamp rank =
+ground_is m g view is at stack plans entries bare here group stamp rank =
     let there : IsAt (stack_tree (rc_value m.stack)) m.most (Some view) (states_in m.works) =
     subst (λ (v : Option View). IsAt (stack_tree (rc_value m.stack)) m.most v (states_in m.works)) at is.at in record {
       typed = subst (λ (s : Stack). TypedStack (stack_tree s)) (sym stack) is.typed;
       plans = ap plans_tree plans ∙ is.plans_are ∙ ap (λ (s : Stack). plans_of (stack_tree s)) (sym stack);
       entries = entries ∙ is.entries_are ∙ (λ i. short_shapes (stack_tree (sym stack i)) (plans_tree (sym plans i)));
+      bare = bare ∙ is.bare;
       here = record {
         group = group;
         stamp = stamp;

@@ -1,5 +1,5 @@
 -- What a contract sees of a member, and what is so of each.
-use Rattle.std.specs.Prelude.{◌≡◌}
+use Rattle.std.specs.Prelude.{◌≡◌, []}
 use Rattle.std.specs.Rc.{rc_value}
 use Rattle.stack_mean.specs.Plans.{plans_of}
 use Rattle.chain_laws.specs.Runs.{TypedStack}
@@ -25,10 +25,11 @@ placed m = record {
   refs = refs_in m.works;
 }
 
--- Its stack is typed, the plans and the entries are the stack's, and it is between two steps, in a view with chained states or in none.
+-- Its stack is typed, the plans and the entries are the stack's, its bare headers are none, and it is between two steps, in a view with chained states or in none.
 pub record IsMember (m : Inside) : Type 0 where
   pub typed : TypedStack (stack_tree (rc_value m.stack))
   pub plans_are : plans_tree (rc_value m.plans) ≡ plans_of (stack_tree (rc_value m.stack))
   pub entries_are : rc_value m.entries ≡ short_shapes (stack_tree (rc_value m.stack)) (plans_tree (rc_value m.plans))
+  pub bare : m.bare ≡ []
   pub ready : IsReady (stack_tree (rc_value m.stack)) m.most m.works
   pub at : IsAt (stack_tree (rc_value m.stack)) m.most m.view (states_in m.works)

@@ -1,5 +1,5 @@
 -- A step of a member in a view, over what it works with.
-use Rattle.std.specs.Prelude.{◌≡◌, ℕ, ◌+◌, List, map, Option, None}
+use Rattle.std.specs.Prelude.{◌≡◌, ℕ, ◌+◌, List, [], map, Option, None}
 use Rattle.layer_mean.specs.State.{State}
 use Rattle.layer_mean.specs.Tree.{LayerTree}
 use Rattle.stack_mean.specs.Plan.{Plan}
@@ -31,11 +31,12 @@ stack_of g = stack_tree g.stack.now
 abbrev pub plans_in : Ground → List Plan
 plans_in g = plans_tree g.plans.now
 
--- The stack is typed, the plans and the entries are the stack's, and it stands in a view.
+-- The stack is typed, the plans and the entries are the stack's, the bare headers are none, and it stands in a view.
 pub record IsGround (g : Ground) : Type 0 where
   pub typed : TypedStack (stack_of g)
   pub plans : plans_in g ≡ plans_of (stack_of g)
   pub entries : g.entries.now ≡ short_shapes (stack_of g) (plans_in g)
+  pub bare : g.bare.now ≡ []
   pub here : IsHere g.here
 
 -- The step of a member whose layers have these states, from what entered.

@@ -57,12 +57,14 @@ pub(crate) fn enter(
     entry: Entry<'_>,
     here: &Here,
     stack: &Stack,
+    bare: &Headers,
     tasks: &mut Tasks,
     pool: &mut Pool,
 )
     requires lies { LiesWithin entry }
     requires fits { length (body_of entry) ≤ longest_body }
     requires room { IsFull pool.old → ⊥ }
+    requires bare { bare.now ≡ [] }
     requires none { tasks.old.items ≡ [] }
     requires places { 0 < tasks.old.capacity }
     ensures brings { Brings (stack_tree stack.now) here.now.rank pool.old pool.new (entry_meant here.now entry.entry) (first_task tasks.new.items) }
@@ -70,9 +72,17 @@ pub(crate) fn enter(
 {
     match entry {
         Entry::Cast(body) => {
-            enter_above(Kind::Cast, u32::from(here.rank), body, stack, tasks, pool);
+            enter_above(
+                Kind::Cast,
+                u32::from(here.rank),
+                body,
+                stack,
+                bare,
+                tasks,
+                pool,
+            );
         }
-        Entry::Send(to, body) => enter_above(Kind::Send, to, body, stack, tasks, pool),
+        Entry::Send(to, body) => enter_above(Kind::Send, to, body, stack, bare, tasks, pool),
         Entry::Leave => {
             tasks.push_bare(u16::from(stack.places()), Dir::Down, Kind::Leave, 0, 0, 0);
         }
@@ -81,23 +91,24 @@ pub(crate) fn enter(
     }
 }
 
-/// A cast or a send of the application becomes the last task, at the top.
+/// A cast or a send of the application becomes the last task, at the top, without a header.
 fn enter_above(
     kind: Kind,
     peer: u32,
     body: &[u8],
     stack: &Stack,
+    bare: &Headers,
     tasks: &mut Tasks,
     pool: &mut Pool,
 )
     requires fits { length body.now ≤ longest_body }
+    requires bare { bare.now ≡ [] }
     requires room { IsFull pool.old → ⊥ }
     requires places { length tasks.old.items < tasks.old.capacity }
     ensures { PutLast pool.old tasks.old (carrying_task (length (stack_tree stack.now)) dir.Down kind peer 0 0 (record { headers = []; body = body.now })) pool.new tasks.new }
 {
     let top = u16::from(stack.places());
-    let none = Headers::none();
-    carry(top, Dir::Down, kind, peer, &none, body, tasks, pool);
+    carry(top, Dir::Down, kind, peer, bare, body, tasks, pool);
 }
 
 /// A packet that came becomes the last task, at the lowest place.

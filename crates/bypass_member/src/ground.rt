@@ -7,18 +7,20 @@ ghost use Rattle.bypass_member.specs.Behind.{view_behind};
 
 use entry_shapes::EntryShapes;
 use event_graph::Stack;
-use msg_core::View;
+use msg_core::{Headers, View};
 use packet_full::member_count;
 use packet_mean::Here;
 use packet_plans::Plans;
 use view_core::{Change, rank};
 
-/// What a member in a view works over: its stack with what is known of it, where it stands, its id, and how many members its first view had.
+/// What a member in a view works over: its stack with what is known of it, headers that are none, where it stands, its id, and how many members
+/// its first view had.
 #[derive(Drop)]
 pub(crate) struct Ground<'a> {
     pub(crate) stack: &'a Stack,
     pub(crate) plans: &'a Plans,
     pub(crate) entries: &'a EntryShapes,
+    pub(crate) bare: &'a Headers,
     pub(crate) here: Here,
     pub(crate) id: u8,
     pub(crate) most: u8,

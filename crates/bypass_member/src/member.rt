@@ -10,7 +10,7 @@ use entry_shapes::EntryShapes;
 use event_graph::Stack;
 use file_layer::Maker;
 use member_shown::Shown;
-use msg_core::View;
+use msg_core::{Headers, View};
 use packet_full::{Scan, member_count};
 use packet_plans::Plans;
 use std::alloc::Global;
@@ -34,6 +34,10 @@ pub struct Member {
     most: u8,
     /// The view that it is in, if it is in one.
     view: Option<View>,
+    /// What the last datagram said.
+    scan: Scan,
+    /// No headers.
+    bare: Headers,
     works: Works,
 }
 
@@ -117,6 +121,8 @@ impl Member {
             id,
             most,
             view: Some(view),
+            scan: Scan::none(),
+            bare: Headers::none(),
             works,
         })
     }
@@ -134,8 +140,7 @@ impl Member {
             return Stepped::Refused(Refusal::Out)
         };
         let here = here_of(self.group, self.stamp, view, self.id);
-        let mut scan = Scan::none();
-        let entry = match judge(&self.stack, &self.plans, &here, input, &mut scan) {
+        let entry = match judge(&self.stack, &self.plans, &here, input, &mut self.scan) {
             Ok(entry) => entry,
             Err(reason) => return Stepped::Refused(reason),
         };
@@ -143,6 +148,7 @@ impl Member {
             stack: &self.stack,
             plans: &self.plans,
             entries: &self.entries,
+            bare: &self.bare,
             here,
             id: self.id,
             most: self.most,
@@ -170,6 +176,8 @@ impl Member {
             id: _,
             most: _,
             view: _,
+            scan: _,
+            bare: _,
             works,
         } = self;
         close_works(works);

@@ -42,6 +42,7 @@ fn play(
         entry,
         &ground.here,
         ground.stack,
+        ground.bare,
         &mut works.tasks,
         &mut works.pool,
     );

@@ -24,7 +24,7 @@ returns-in-Err-clause-step c =
       why = subst (λ (p : Placed). step_of p (input_meant c.args.input) ≡ Err (refusal_meant c.in-Err.reason)) c.self.view_is
           (refused_in (placed c.self.inside) c.in-Some.view (states_in c.self.inside.works) (input_meant c.args.input)
           (ap (λ (v : Option View). member_in v (states_in c.self.inside.works)) c.in-Some.is) c.in-Err.reason not);
-      same = refl;
+      same = c.self.view_is;
       none = ap (λ (o : Gathered). o.outputs) c.clear.ensures;
       visits = refl;
     }
@@ -33,7 +33,7 @@ pub take-common-requires-clause-ground : goal.take-common-requires-clause-ground
 take-common-requires-clause-ground c =
     let here = c.here_of-here.ensures.here in
     let group = ap (λ (h : Here). h.group) here in let stamp = ap (λ (h : Here). h.stamp) here in
-    ground_is c.self.inside _ c.in-Some.view c.self.invariant c.in-Some.is c.deref-3.ensures c.deref-4.ensures c.deref-5.ensures
+    ground_is c.self.inside _ c.in-Some.view c.self.invariant c.in-Some.is c.deref-3.ensures c.deref-4.ensures c.deref-5.ensures refl
     (ap (λ (h : Here). h.view) here) (omega (arith, group, c.here_of-here.ensures.numbers.0)) (omega (arith, stamp, c.here_of-here.ensures.numbers.1))
     c.here_of-here.ensures.few
 
