@@ -34,26 +34,6 @@ impl Predicted {
         }
     }
 
-    /// How a condition's decision went.
-    pub fn chosen(holds: bool, likely: Likely) -> Predicted
-        ensures { result ≡ as_predicted (decision holds likely ∷ []) }
-    {
-        match likely {
-            Likely::First => Predicted {
-                first: holds,
-                second: holds,
-            },
-            Likely::Else => Predicted {
-                first: !holds,
-                second: !holds,
-            },
-            Likely::Two => Predicted {
-                first: holds,
-                second: !holds,
-            },
-        }
-    }
-
     /// Counts a condition's decision in; most change nothing.
     pub fn choose(&mut self, holds: bool, likely: Likely)
         ensures { self.new ≡ both (as_predicted (decision holds likely ∷ [])) self.old }
