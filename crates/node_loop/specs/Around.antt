@@ -7,6 +7,7 @@ use Rattle.outside.specs.Links.{Network}
 use Rattle.outside.specs.declared.links.Links as links
 use Rattle.outside.specs.declared.sink.Sink as outputs
 use Rattle.sink_lines.specs.Tells as sink
+use Rattle.sink_lines.specs.Tells.{output_of}
 
 -- What the output tells; how many listens and receives failed, and how many sends; and what the network tells.
 pub record Around : Type 0 where
@@ -18,10 +19,7 @@ pub record Around : Type 0 where
 abbrev pub surrounding : sink.Tells → ℕ → ℕ → Option Network → Around
 surrounding output faults sends told = record { output = output; faults = faults; sends = sends; told = told }
 
--- What an output tells, and what it and links tell together.
-abbrev pub output_of : {O : Type 0} → outputs.Ghosts O → O → sink.Tells
-output_of o out = sink.tells (o.contents out) (o.failures out) (o.faults out)
-
+-- What an output and links tell together.
 abbrev pub around : {O N : Type 0} → outputs.Ghosts O → links.Ghosts N → O → N → Around
 around o n out links = surrounding (output_of o out) (n.faults links) (n.send_faults links) (n.told links)
 

@@ -6,3 +6,4 @@ pub mod Bearing
 pub mod Course
 pub mod Serve
 pub mod Listening
+pub mod Source

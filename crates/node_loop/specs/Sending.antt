@@ -7,7 +7,6 @@ use Rattle.stack_mean.specs.Plan.{Plan}
 use Rattle.run_mean.specs.Journal.{Handed, handed_output}
 use Rattle.run_mean.specs.Lines.{refused_line}
 use Rattle.run_mean.specs.Member.{Output}
-use Rattle.report_text.specs.Numbered.{number_after}
 use Rattle.report_text.specs.Told.{change_lines}
 use Rattle.view_core.specs.Refusals.{refusal_meant}
 use Rattle.view_core.specs.declared.step.Stepped.{Stepped}
@@ -31,8 +30,3 @@ abbrev pub stepped_acts : List LayerTree → List Plan → (id first : ℕ) → 
 stepped_acts stack plans id first outs (Taken common change) failed =
     outputs_acts stack plans id first outs failed ++ map puts (change_lines id change)
 stepped_acts stack plans id first outs (Refused refusal) failed = puts (refused_line id (refusal_meant refusal)) ∷ []
-
--- The number of the next packet behind a step.
-abbrev pub stepped_number : ℕ → List (Output × Option ℕ) → Stepped → ℕ
-stepped_number number outs (Taken common change) = number_after number outs
-stepped_number number outs (Refused refusal) = number

@@ -7,14 +7,16 @@ ghost use Rattle.member_laws.specs.Members.{IsGivenEvent};
 ghost use Rattle.script_mean.specs.Event.{member_of};
 ghost use Rattle.run_mean.specs.World.{World};
 ghost use Rattle.sink_lines.specs.Lines.{Wrote};
+ghost use Rattle.sink_lines.specs.Tells.{output_of};
 ghost use Rattle.node_laws.specs.Losses as losses;
-ghost use Rattle.node_loop.specs.Around.{around, output_of};
+ghost use Rattle.node_loop.specs.Around.{around};
 ghost use Rattle.node_loop.specs.Course.{FedOn, plans_in, stack_in};
 ghost use Rattle.node_loop.specs.Feeding.{Feeds, IsOwn, IsUp, Rests, RestsAgain};
 
 use crate::course::Course;
 use crate::desk::Desk;
 use crate::outputs::pass_stepped;
+use crate::source::Source;
 use msg_core::Memory;
 use outside::{Links, Sink, SinkError};
 use report_lines::{Line, journal_line};
@@ -87,24 +89,19 @@ pub(crate) fn feed_event<F: Feed, O: Sink, N: Links>(
     write_journal(&mut desk.tools.line, event, out)?;
     course.stack.is_within_limits();
     is_given(event);
-    let mut number = feed.next_number();
+    let number = feed.next_number();
     let mut visits = 0;
     match feed.feed(event, &mut desk.outputs, &mut visits) {
         Ok(Did::Stepped(stepped)) => {
             an_accepted_stack_is_light(course.stack);
             desk.outputs.has_places_for_all();
-            let id = member_of(event);
-            pass_stepped(
-                &mut desk.tools,
-                course.stack,
-                course.plans,
-                id,
-                &mut number,
-                &desk.outputs,
-                stepped,
-                out,
-                links,
-            )?;
+            let source = Source {
+                stack: course.stack,
+                plans: course.plans,
+                id: member_of(event),
+                number,
+            };
+            pass_stepped(&mut desk.tools, source, &desk.outputs, stepped, out, links)?;
             desk.events += 1;
             Ok(())
         }

@@ -9,6 +9,7 @@ mod outputs;
 mod receivers;
 mod sending;
 mod serving;
+mod source;
 mod tools;
 mod turns;
 

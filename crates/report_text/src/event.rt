@@ -7,7 +7,7 @@ ghost use Rattle.run_mean.specs.Lines as report;
 ghost use Rattle.run_mean.specs.Report.{end_line, packet_given, visits_line};
 ghost use Rattle.script_mean.specs.Event.{member_of};
 ghost use Rattle.sink_lines.specs.Lines.{Wrote};
-ghost use Rattle.sink_lines.specs.Tells.{tells};
+ghost use Rattle.sink_lines.specs.Tells.{output_of};
 ghost use Rattle.view_core.specs.Refusals.{refusal_meant};
 ghost use Rattle.report_text.specs.Numbered.{full_annex};
 ghost use Rattle.report_text.specs.Told.{AreFull, change_line, change_lines, stepped_lines, taken_lines, told_lines};
@@ -69,8 +69,7 @@ pub fn write_change<O: Sink>(
     out: &mut O,
 ) -> Result<(), SinkError>
     ensures { Wrote (change_lines id change)
-        (tells (O.contents out.old) (O.failures out.old) (O.faults out.old))
-        (tells (O.contents out.new) (O.failures out.new) (O.faults out.new)) result }
+        (output_of O.Sink out.old) (output_of O.Sink out.new) result }
 {
     let Some(change) = change else { return Ok(()) };
     pen.line.clear();
@@ -93,8 +92,7 @@ fn write_taken<O: Sink>(
 ) -> Result<(), SinkError>
     requires { first + length outputs.now.outputs < 2 ^ 64 }
     ensures { Wrote (taken_lines (stack_tree stack.now) (full_annex wire) id first outputs.now.outputs change)
-        (tells (O.contents out.old) (O.failures out.old) (O.faults out.old))
-        (tells (O.contents out.new) (O.failures out.new) (O.faults out.new)) result }
+        (output_of O.Sink out.old) (output_of O.Sink out.new) result }
 {
     write_outputs(pen, stack, id, first, outputs, wire, out)?;
     write_change(pen, id, change, out)
@@ -108,8 +106,7 @@ pub fn write_refusal<O: Sink>(
     out: &mut O,
 ) -> Result<(), SinkError>
     ensures { Wrote (report.refused_line id (refusal_meant refusal) ∷ [])
-        (tells (O.contents out.old) (O.failures out.old) (O.faults out.old))
-        (tells (O.contents out.new) (O.failures out.new) (O.faults out.new)) result }
+        (output_of O.Sink out.old) (output_of O.Sink out.new) result }
 {
     pen.line.clear();
     match refused_line(&mut pen.line, id, refusal) {
@@ -131,8 +128,7 @@ fn write_stepped<O: Sink>(
 ) -> Result<(), SinkError>
     requires { first + length outputs.now.outputs < 2 ^ 64 }
     ensures { Wrote (stepped_lines (stack_tree stack.now) (full_annex wire) id first outputs.now.outputs stepped)
-        (tells (O.contents out.old) (O.failures out.old) (O.faults out.old))
-        (tells (O.contents out.new) (O.failures out.new) (O.faults out.new)) result }
+        (output_of O.Sink out.old) (output_of O.Sink out.new) result }
 {
     match stepped {
         Stepped::Taken { common: _, change } => {
@@ -145,8 +141,7 @@ fn write_stepped<O: Sink>(
 /// Puts the line of a packet that isn't there.
 fn write_absent<O: Sink>(pen: &mut Pen, id: u8, number: u32, out: &mut O) -> Result<(), SinkError>
     ensures { Wrote (report.absent_line id number ∷ [])
-        (tells (O.contents out.old) (O.failures out.old) (O.faults out.old))
-        (tells (O.contents out.new) (O.failures out.new) (O.faults out.new)) result }
+        (output_of O.Sink out.old) (output_of O.Sink out.new) result }
 {
     pen.line.clear();
     match absent_line(&mut pen.line, id, number) {
@@ -173,8 +168,7 @@ pub fn write_event<O: Sink>(
     requires few { first + length outputs.now.outputs < 2 ^ 64 }
     requires full { AreFull outputs.now.outputs }
     ensures { Wrote (told_lines (stack_tree stack.now) (plans_tree _plans.now) wire event.now did outputs.now.outputs shown.now first)
-        (tells (O.contents out.old) (O.failures out.old) (O.faults out.old))
-        (tells (O.contents out.new) (O.failures out.new) (O.faults out.new)) result }
+        (output_of O.Sink out.old) (output_of O.Sink out.new) result }
 {
     let id = member_of(event);
     match did {
@@ -189,8 +183,7 @@ pub fn write_event<O: Sink>(
 /// Puts the last line of a report.
 pub fn write_end<O: Sink>(pen: &mut Pen, events: u64, out: &mut O) -> Result<(), SinkError>
     ensures { Wrote (end_line events ∷ [])
-        (tells (O.contents out.old) (O.failures out.old) (O.faults out.old))
-        (tells (O.contents out.new) (O.failures out.new) (O.faults out.new)) result }
+        (output_of O.Sink out.old) (output_of O.Sink out.new) result }
 {
     pen.line.clear();
     match report_lines::end_line(&mut pen.line, events) {
@@ -202,8 +195,7 @@ pub fn write_end<O: Sink>(pen: &mut Pen, events: u64, out: &mut O) -> Result<(),
 /// Puts the line of how many visits were counted.
 pub fn write_visits<O: Sink>(pen: &mut Pen, visits: u64, out: &mut O) -> Result<(), SinkError>
     ensures { Wrote (visits_line visits ∷ [])
-        (tells (O.contents out.old) (O.failures out.old) (O.faults out.old))
-        (tells (O.contents out.new) (O.failures out.new) (O.faults out.new)) result }
+        (output_of O.Sink out.old) (output_of O.Sink out.new) result }
 {
     pen.line.clear();
     match report_lines::visits_line(&mut pen.line, visits) {

@@ -7,7 +7,7 @@ ghost use Rattle.packet_mean.specs.Spelling.{full_bytes};
 ghost use Rattle.run_mean.specs.Lines as report;
 ghost use Rattle.run_mean.specs.Report.{lines_of_outputs, number_behind, output_lines};
 ghost use Rattle.sink_lines.specs.Lines.{Wrote};
-ghost use Rattle.sink_lines.specs.Tells.{tells};
+ghost use Rattle.sink_lines.specs.Tells.{output_of};
 ghost use Rattle.step_outputs.specs.Views.{output_meant};
 ghost use Rattle.report_text.specs.Numbered.{full_annex, line_if};
 
@@ -67,8 +67,7 @@ pub fn put_output<O: Sink>(
     out: &mut O,
 ) -> Result<(), SinkError>
     ensures { Wrote (output_lines (stack_tree stack.now) id number (output_meant here.now output.now).0)
-        (tells (O.contents out.old) (O.failures out.old) (O.faults out.old))
-        (tells (O.contents out.new) (O.failures out.new) (O.faults out.new)) result }
+        (output_of O.Sink out.old) (output_of O.Sink out.new) result }
 {
     pen.line.clear();
     match build_output(&mut pen.line, stack, here, id, number, output) {
@@ -104,8 +103,7 @@ fn put_wire<O: Sink>(
     out: &mut O,
 ) -> Result<(), SinkError>
     ensures { Wrote (full_annex true number (output_meant here.now output.now))
-        (tells (O.contents out.old) (O.failures out.old) (O.faults out.old))
-        (tells (O.contents out.new) (O.failures out.new) (O.faults out.new)) result }
+        (output_of O.Sink out.old) (output_of O.Sink out.new) result }
 {
     let OutputView::Packet(packet) = output else {
         return Ok(())
@@ -130,8 +128,7 @@ fn write_output<O: Sink>(
 ) -> Result<(), SinkError>
     ensures { Wrote (output_lines (stack_tree stack.now) id number (output_meant here.now output.now).0
         ++ full_annex wire number (output_meant here.now output.now))
-        (tells (O.contents out.old) (O.failures out.old) (O.faults out.old))
-        (tells (O.contents out.new) (O.failures out.new) (O.faults out.new)) result }
+        (output_of O.Sink out.old) (output_of O.Sink out.new) result }
 {
     put_output(pen, stack, here, id, number, output, out)?;
     if wire {
@@ -165,8 +162,7 @@ pub(crate) fn write_outputs<O: Sink>(
 ) -> Result<(), SinkError>
     requires { first + length outputs.now.outputs < 2 ^ 64 }
     ensures { Wrote (lines_of_outputs (stack_tree stack.now) (full_annex wire) id first outputs.now.outputs)
-        (tells (O.contents out.old) (O.failures out.old) (O.faults out.old))
-        (tells (O.contents out.new) (O.failures out.new) (O.faults out.new)) result }
+        (output_of O.Sink out.old) (output_of O.Sink out.new) result }
 {
     let here = outputs.here();
     let mut number = first;

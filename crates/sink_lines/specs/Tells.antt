@@ -1,5 +1,6 @@
 -- What a sink tells.
 use Rattle.std.specs.Prelude.{ℕ, List, Option}
+use Rattle.outside.specs.declared.sink.Sink as outputs
 
 -- Its contents, which of the puts to come are to fail and after how many bytes, and its count of faults.
 pub record Tells : Type 0 where
@@ -9,3 +10,7 @@ pub record Tells : Type 0 where
 
 abbrev pub tells : Option (List ℕ) → Option (List (Option ℕ)) → ℕ → Tells
 tells contents failures faults = record { contents = contents; failures = failures; faults = faults }
+
+-- What a sink of this kind tells.
+abbrev pub output_of : {O : Type 0} → outputs.Ghosts O → O → Tells
+output_of o out = tells (o.contents out) (o.failures out) (o.faults out)

@@ -12,7 +12,7 @@ ghost use Rattle.job_mean.specs.Job.{layered};
 ghost use Rattle.run_mean.specs.Report.{end_line, mode_if, moment_lines, output_in, run_of, visits_of};
 ghost use Rattle.run_mean.specs.World as mean;
 ghost use Rattle.sink_lines.specs.Lines.{Wrote};
-ghost use Rattle.sink_lines.specs.Tells.{tells};
+ghost use Rattle.sink_lines.specs.Tells.{output_of};
 ghost use Rattle.world_core.specs.Standing.{Stands};
 ghost use Rattle.stack_play.specs.Play.{Plays, most_events};
 ghost use Rattle.stack_play.specs.Turns.{IsAtFirst, IsReady, Keeps, SomeWorld, TellsEvent, visits_if};
@@ -44,8 +44,7 @@ pub fn play<O: Sink>(
     requires runs { IsRunnable script.now }
     requires few { length script.now.events ≤ most_events }
     ensures { Plays (stack_tree stack) script.now.members (output_in (stack_tree stack) (plans_of (stack_tree stack)) script.now layered wire count)
-        (tells (O.contents out.old) (O.failures out.old) (O.faults out.old))
-        (tells (O.contents out.new) (O.failures out.new) (O.faults out.new)) result }
+        (output_of O.Sink out.old) (output_of O.Sink out.new) result }
 {
     match open(alloc, stack, script.group, script.stamp, script.members) {
         Ok(opened) => {
@@ -76,8 +75,7 @@ fn write_report<O: Sink>(
     requires runs { IsRunnable script.now }
     requires few { length script.now.events ≤ most_events }
     ensures { Wrote (output_in (stack_tree stack.now) (plans_tree plans.now) script.now layered wire count)
-        (tells (O.contents out.old) (O.failures out.old) (O.faults out.old))
-        (tells (O.contents out.new) (O.failures out.new) (O.faults out.new)) result }
+        (output_of O.Sink out.old) (output_of O.Sink out.new) result }
 {
     write_events(stack, plans, run, script, wire, out)?;
     let events = script.events.slice().len() as u64;
@@ -94,8 +92,7 @@ fn write_last<O: Sink>(
     out: &mut O,
 ) -> Result<(), SinkError>
     ensures { Wrote (end_line events ∷ visits_if count visits)
-        (tells (O.contents out.old) (O.failures out.old) (O.faults out.old))
-        (tells (O.contents out.new) (O.failures out.new) (O.faults out.new)) result }
+        (output_of O.Sink out.old) (output_of O.Sink out.new) result }
 {
     write_end(pen, events, out)?;
     if count {
@@ -119,8 +116,7 @@ fn write_events<O: Sink>(
     requires few { length script.now.events ≤ most_events }
     ensures lines { Wrote (flat_map (moment_lines (stack_tree stack.now) (plans_tree plans.now) (mode_if wire layered))
         (run_of (stack_tree stack.now) (plans_tree plans.now) script.now))
-        (tells (O.contents out.old) (O.failures out.old) (O.faults out.old))
-        (tells (O.contents out.new) (O.failures out.new) (O.faults out.new)) result }
+        (output_of O.Sink out.old) (output_of O.Sink out.new) result }
     ensures visits { OnOk result (run.new.visits
         ≡ sum_by (visits_of layered (stack_tree stack.now) (plans_tree plans.now)) (run_of (stack_tree stack.now) (plans_tree plans.now) script.now)) }
 {
@@ -146,8 +142,7 @@ fn play_event<O: Sink>(
     ensures kept { Keeps (stack_tree stack.now) (plans_tree plans.now) run.old run.new }
     ensures told { (w : mean.World) → Stands run.old.world w →
         TellsEvent (stack_tree stack.now) (plans_tree plans.now) wire w event.now run.old run.new
-        (tells (O.contents out.old) (O.failures out.old) (O.faults out.old))
-        (tells (O.contents out.new) (O.failures out.new) (O.faults out.new)) result }
+        (output_of O.Sink out.old) (output_of O.Sink out.new) result }
 {
     let first = run.world.next_number();
     match run.world.feed(event, &mut run.outputs, &mut run.visits) {

@@ -11,26 +11,19 @@ returns-in_err-write_journal-clause-fed g c =
     let p = err_from_is_err_and c.from_residual.result c.from_residual.ensures.1 in
     rw (p.1, p.2) (λ n w r. breaks_first _ _ _ _ (line_stops _ _ _ _ _ c.in_err-write_journal.ensures) refl refl refl)
 
-pub pass_stepped-requires-clause-few : goal.pass_stepped-requires-clause-few
-pass_stepped-requires-clause-few g c =
+pub pass_stepped-requires : goal.pass_stepped-requires
+pass_stepped-requires g c =
+    let at = c.requires.up.rests.somewhere in
     let places = c.in-Ok-Stepped.ensures.places ∙ c.requires.up.rests.places in
-    omega (arith, c.next_number-number.ensures.small, c.has_places_for_all.ensures, places, c.an_accepted_stack_is_light.ensures)
-
-pub pass_stepped-requires-clause-full : goal.pass_stepped-requires-clause-full
-pass_stepped-requires-clause-full g c =
-    let at = c.requires.up.rests.somewhere in
     let h = happened (stack_in c.args.course) (plans_in c.args.course) c.requires.up.world c.args.event.now (g.F.Feed.group c.args.feed.now)
     (g.F.Feed.group c.feed.new.self) c.feed.new.out.outputs 0 c.feed.new.visits _ _ at.stack_is at.plans_are c.in-Ok-Stepped.field-0-is (c.in-Ok-Stepped.ensures.fed c.requires.up.world at.stands) in
-    told_full _ _ _ _ _ _ _ h.told
-
-pub pass_stepped-requires-clause-sendable : goal.pass_stepped-requires-clause-sendable
-pass_stepped-requires-clause-sendable g c =
-    let at = c.requires.up.rests.somewhere in
-    let h = happened (stack_in c.args.course) (plans_in c.args.course) c.requires.up.world c.args.event.now (g.F.Feed.group c.args.feed.now)
-    (g.F.Feed.group c.feed.new.self) c.feed.new.out.outputs 0 c.feed.new.visits _ _ at.stack_is at.plans_are c.in-Ok-Stepped.field-0-is (c.in-Ok-Stepped.ensures.fed c.requires.up.world at.stands) in
-    own_sendable _ _ _ _ c.requires.up.members _ _ _ _ _ _ (g.N.Links.listening c.args.links.now)
-    (record { places = c.is_within_limits.ensures.places; fields = c.is_within_limits.ensures.fields }) c.requires.up.typed c.requires.up.numbered c.is_given.ensures
-    at.chained at.within h c.member_of-id.ensures c.requires.up.listen.0.1
+    record {
+      few = omega (arith, c.next_number-number.ensures.small, c.has_places_for_all.ensures, places, c.an_accepted_stack_is_light.ensures);
+      full = told_full _ _ _ _ _ _ _ h.told;
+      sendable = own_sendable _ _ _ _ c.requires.up.members _ _ _ _ _ _ (g.N.Links.listening c.args.links.now)
+          (record { places = c.is_within_limits.ensures.places; fields = c.is_within_limits.ensures.fields }) c.requires.up.typed c.requires.up.numbered c.is_given.ensures
+          at.chained at.within h c.member_of.ensures c.requires.up.listen.0.1;
+    }
 
 pub returns-in_err-pass_stepped-in-Ok-Stepped-clause-fed : goal.returns-in_err-pass_stepped-in-Ok-Stepped-clause-fed
 returns-in_err-pass_stepped-in-Ok-Stepped-clause-fed g c =
@@ -39,7 +32,7 @@ returns-in_err-pass_stepped-in-Ok-Stepped-clause-fed g c =
     let at = r.somewhere in
     let h = happened (stack_in c.args.course) (plans_in c.args.course) w c.args.event.now (g.F.Feed.group c.args.feed.now)
     (g.F.Feed.group c.feed.new.self) c.feed.new.out.outputs 0 c.feed.new.visits _ _ at.stack_is at.plans_are c.in-Ok-Stepped.field-0-is (c.in-Ok-Stepped.ensures.fed w at.stands) in
-    journal_cut _ _ w _ _ _ _ _ _ _ _ _ _ _ _ h c.member_of-id.ensures
+    journal_cut _ _ w _ _ _ _ _ _ _ _ _ _ _ _ h c.member_of.ensures
     (first_is _ _ w (g.F.Feed.group c.args.feed.now) n _ at c.next_number-number.ensures.number) c.in_ok-write_journal.ensures refl refl refl
     c.in_err-pass_stepped-in-Ok-Stepped.ensures.handed)
 
@@ -52,7 +45,7 @@ returns-in_ok-pass_stepped-in-Ok-Stepped-clause-fed g c = λ n w r.
       rests = rests_again _ _ w _ n _ _ _ _ _ _ _ _ c.requires.up.typed c.requires.up.numbered c.is_given.ensures r c.in-Ok-Stepped.ensures.stays h
           c.in-Ok-Stepped.ensures.places;
       counted = refl;
-      passed = journal_then _ _ w _ _ _ _ _ _ _ _ _ _ _ h c.member_of-id.ensures
+      passed = journal_then _ _ w _ _ _ _ _ _ _ _ _ _ _ h c.member_of.ensures
           (first_is _ _ w (g.F.Feed.group c.args.feed.now) n _ at c.next_number-number.ensures.number) c.in_ok-write_journal.ensures refl refl refl
           c.in_ok-pass_stepped-in-Ok-Stepped.ensures.handed;
     }

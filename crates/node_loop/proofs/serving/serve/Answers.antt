@@ -4,7 +4,8 @@ use Rattle.std.specs.Prelude.{Ok, Err}
 use Rattle.std.proofs.lemmas.Result.{err_from_is_err_and}
 use Rattle.packet_laws.specs.Strays.{AreNumbered}
 use Rattle.step_laws.proofs.Numbered.{plans_are_numbered}
-use Rattle.node_loop.specs.Around.{around, output_of, surrounding}
+use Rattle.sink_lines.specs.Tells.{output_of}
+use Rattle.node_loop.specs.Around.{around, surrounding}
 use Rattle.node_loop.specs.Course.{now, plans_in, stack_in}
 use Rattle.node_loop.specs.Serve.{Serves, layered_words, whereabouts}
 use Rattle.node_loop.proofs.Ends.{all_served, made_first, not_all_listen, not_all_made, not_begun, reached, rests_first, up_first}

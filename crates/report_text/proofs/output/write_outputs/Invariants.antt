@@ -2,15 +2,15 @@ use Rattle.std.proofs.Common.{◌≡◌, ◌+◌, ◌≤◌, take}
 use Rattle.event_graph.specs.Answer.{stack_tree}
 use Rattle.run_mean.specs.Report.{lines_of_outputs}
 use Rattle.sink_lines.specs.Lines.{Gains}
-use Rattle.sink_lines.specs.Tells.{tells}
+use Rattle.sink_lines.specs.Tells.{output_of}
 use Rattle.report_text.specs.Numbered.{full_annex, number_after}
 use Rattle.report_text.proofs.output.write_outputs.Given as goal
 
 abbrev pub invariant-loop-k : goal.invariant-loop-k
 invariant-loop-k g l = record {
   gained : Gains
-      (tells (g.O.Sink.contents l.initial.out) (g.O.Sink.failures l.initial.out) (g.O.Sink.faults l.initial.out))
-      (tells (g.O.Sink.contents l.out) (g.O.Sink.failures l.out) (g.O.Sink.faults l.out))
+      (output_of g.O.Sink l.initial.out)
+      (output_of g.O.Sink l.out)
       (lines_of_outputs (stack_tree l.stack) (full_annex l.wire) l.id l.first (take l.k l.outputs.outputs));
   numbered : l.number ≡ number_after l.first (take l.k l.outputs.outputs);
   few : l.number ≤ l.first + l.k;

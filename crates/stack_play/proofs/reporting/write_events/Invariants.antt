@@ -1,10 +1,10 @@
 use Rattle.event_graph.specs.Answer.{stack_tree}
 use Rattle.packet_plans.specs.Trees.{plans_tree}
-use Rattle.sink_lines.specs.Tells.{tells}
+use Rattle.sink_lines.specs.Tells.{output_of}
 use Rattle.stack_play.proofs.Held.{Held}
 use Rattle.stack_play.proofs.reporting.write_events.Given as goal
 
 abbrev pub invariant-loop-event : goal.invariant-loop-event
 invariant-loop-event g l = Held (stack_tree l.stack) (plans_tree l.plans) l.wire l.script l.event-index l.run
-    (tells (g.O.Sink.contents l.initial.out) (g.O.Sink.failures l.initial.out) (g.O.Sink.faults l.initial.out))
-    (tells (g.O.Sink.contents l.out) (g.O.Sink.failures l.out) (g.O.Sink.faults l.out))
+    (output_of g.O.Sink l.initial.out)
+    (output_of g.O.Sink l.out)
