@@ -8,7 +8,7 @@ members in full and in short. Each of the two reaches member 1 so many times,
     as it is                read whole, fitted to its plan, and a repeat, which the second layer drops: two visits
 
 and is compared with the same bytes for another group, which are refused when only what stands before the group was read. So the script and its reading cost the same.
-It also prints how much oftener memory is asked for than for the other group: never.
+It also prints how much oftener memory is asked for than for the other group: for broken chains never, else a few times in all, as the report's buffers grow.
 """
 import os
 import re
