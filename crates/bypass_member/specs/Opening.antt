@@ -1,48 +1,62 @@
--- What opening a member comes to.
+-- What opening a member asks for, and what it comes to.
 use Rattle.std.specs.Prelude.{◌≡◌, ℕ, ◌+◌, ◌<◌, ◌≤◌, List, length, Result, Ok, Err}
+use Rattle.std.specs.Rc.{rc_value}
 use Rattle.msg_core.specs.View.{member_count}
 use Rattle.msg_core.specs.declared.packet.View.{View}
 use Rattle.layer_mean.specs.Tree.{LayerTree}
 use Rattle.stack_mean.specs.Acceptance.{rows_of, most_rows}
 use Rattle.stack_mean.specs.Plan.{Plan}
+use Rattle.stack_mean.specs.Plans.{plans_of}
+use Rattle.chain_laws.specs.Runs.{TypedStack}
+use Rattle.event_graph.specs.Answer.{stack_tree}
+use Rattle.packet_plans.specs.Trees.{plans_tree}
+use Rattle.entry_shapes.specs.Shapes.{short_shapes}
 use Rattle.run_mean.specs.Member.{opened}
 use Rattle.file_layer.specs.Making.{Making}
 use Rattle.bypass_member.specs.Placed.{Placed}
 use Rattle.bypass_member.specs.declared.error.OpenError.{OpenError}
 use Rattle.bypass_member.specs.declared.error.OpenError.TheVariants.{TooLarge, Memory}
+use Rattle.bypass_member.specs.declared.opening.Opening.{Opening}
 
--- A member is asked for: a stack with its plans, a group and its stamp, the first view, and the id.
-pub record Asked : Type 0 where
-  pub stack : List LayerTree
-  pub plans : List Plan
-  pub group : ℕ
-  pub stamp : ℕ
-  pub view : View
-  pub id : ℕ
+-- The stack of a group that is to be opened, and the plans beside it.
+abbrev pub stack_in : Opening → List LayerTree
+stack_in o = stack_tree (rc_value o.stack.now)
 
-abbrev pub rows_asked : Asked → ℕ
-rows_asked a = rows_of a.stack (member_count a.view)
+abbrev pub plans_in : Opening → List Plan
+plans_in o = plans_tree (rc_value o.plans.now)
 
--- It is opened: as asked for, with fresh layers, each of which was made.
-pub record IsOpen (a : Asked) (before after : Making) (m : Placed) : Type 0 where
-  pub member : m.member ≡ opened a.stack a.view a.id
-  pub stack : m.stack ≡ a.stack
-  pub plans : m.plans ≡ a.plans
-  pub group : m.group ≡ a.group
-  pub stamp : m.stamp ≡ a.stamp
-  pub id : m.id ≡ a.id
-  pub most : m.most ≡ member_count a.view
-  pub few : rows_asked a ≤ most_rows
+-- It can be opened by a maker that has made at most so many layers: its stack is the maker's, and typed, and the plans and the entries are the stack's.
+pub record CanOpen (most : ℕ) (maker : Making) (o : Opening) : Type 0 where
+  pub same : maker.stack ≡ stack_in o
+  pub typed : TypedStack (stack_in o)
+  pub plans_are : plans_in o ≡ plans_of (stack_in o)
+  pub entries_are : rc_value o.entries.now ≡ short_shapes (stack_in o) (plans_in o)
+  pub made : maker.made ≤ most
+
+-- How many rows with messages a member in a view may keep.
+abbrev pub rows_in : Opening → View → ℕ
+rows_in o view = rows_of (stack_in o) (member_count view)
+
+-- The member of this id is opened in its first view, with fresh layers, each of which was made.
+pub record IsOpen (o : Opening) (view : View) (id : ℕ) (before after : Making) (m : Placed) : Type 0 where
+  pub member : m.member ≡ opened (stack_in o) view id
+  pub stack_is : m.stack ≡ stack_in o
+  pub plans_are : m.plans ≡ plans_in o
+  pub group_is : m.group ≡ o.group
+  pub stamp_is : m.stamp ≡ o.stamp
+  pub id_is : m.id ≡ id
+  pub most : m.most ≡ member_count view
+  pub few : rows_in o view ≤ most_rows
   pub same : after.stack ≡ before.stack
-  pub made : after.made ≡ before.made + length a.stack
+  pub made : after.made ≡ before.made + length (stack_in o)
 
 -- There is no memory; as many layers were made as there are, or fewer.
-pub record NoMemory (a : Asked) (before after : Making) : Type 0 where
+pub record NoMemory (o : Opening) (before after : Making) : Type 0 where
   pub same : after.stack ≡ before.stack
-  pub made : after.made ≤ before.made + length a.stack
+  pub made : after.made ≤ before.made + length (stack_in o)
 
--- A member as it was asked for, or that its layers may keep too many rows, or want of memory.
-abbrev pub Opens : Asked → (before after : Making) → Result Placed OpenError → Type 0
-Opens a before after (Ok m) = IsOpen a before after m
-Opens a before after (Err TooLarge) = (most_rows < rows_asked a) × (after ≡ before)
-Opens a before after (Err Memory) = NoMemory a before after
+-- It is opened, or its layers may keep too many rows, or there is no memory.
+abbrev pub Opens : Opening → View → (id : ℕ) → (before after : Making) → Result Placed OpenError → Type 0
+Opens o view id before after (Ok m) = IsOpen o view id before after m
+Opens o view id before after (Err TooLarge) = (most_rows < rows_in o view) × (after ≡ before)
+Opens o view id before after (Err Memory) = NoMemory o before after

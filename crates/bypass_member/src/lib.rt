@@ -8,6 +8,7 @@ mod error;
 mod gathers;
 mod ground;
 mod member;
+mod opening;
 mod opens;
 mod runs;
 mod steps;
@@ -16,5 +17,6 @@ mod works;
 
 pub use error::OpenError;
 pub use member::Member;
+pub use opening::Opening;
 #[doc(hidden)]
 pub use works::Works;

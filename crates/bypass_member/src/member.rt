@@ -3,6 +3,7 @@
 use crate::entry::judge;
 use crate::error::OpenError;
 use crate::ground::{Ground, Took, here_of, view_after};
+use crate::opening::Opening;
 use crate::opens::{close_works, open_works};
 use crate::steps::take;
 use crate::works::Works;
@@ -58,66 +59,45 @@ impl Model for Member {
 
 impl Member {
     ghost use Rattle.std.specs.Prelude.{◌≡◌, ◌^◌, ◌≤◌, true, is_some, Ok};
-    ghost use Rattle.std.specs.Rc.{rc_value};
     ghost use Rattle.chain_laws.specs.Runs.{TypedStack};
-    ghost use Rattle.entry_shapes.specs.Shapes.{short_shapes};
-    ghost use Rattle.event_graph.specs.Answer.{stack_tree};
     ghost use Rattle.file_layer.specs.Making.{making};
     ghost use Rattle.member_laws.specs.Members.{IsChainedMember};
     ghost use Rattle.msg_core.specs.View.{rank};
-    ghost use Rattle.packet_plans.specs.Trees.{plans_tree};
     ghost use Rattle.slot_pool.specs.References.{Exact};
     ghost use Rattle.stack_mean.specs.Acceptance.{accepted, largest_weight};
     ghost use Rattle.stack_mean.specs.Plans.{plans_of};
     ghost use Rattle.view_core.specs.Steps.{input_meant};
-    ghost use Rattle.bypass_member.specs.Opening.{Opens};
+    ghost use Rattle.bypass_member.specs.Opening.{CanOpen, Opens};
     ghost use Rattle.bypass_member.specs.Placed.{Steps, StandsAt};
 
-    /// A member of this id in its first view, over a maker's stack, with the stack's plans and the shapes of its entries. All memory is
-    /// taken here. Err where its layers may keep more than 8,192 rows with messages, or where memory runs out.
+    /// The member of a group that has this id, in its first view, its layers made by the maker of the group's stack. All memory is taken here.
+    /// Err where its layers may keep more than 8,192 rows with messages, or where memory runs out.
     pub fn begin(
         alloc: Global,
         maker: &mut Maker,
-        stack: &Rc<Stack>,
-        plans: &Rc<Plans>,
-        entries: &Rc<EntryShapes>,
-        group: u32,
-        stamp: u32,
+        opening: Opening<'_>,
         view: View,
         id: u8,
     ) -> Result<Member, OpenError>
-        requires same { (making maker.old).stack ≡ stack_tree (rc_value stack.now) }
-        requires typed { TypedStack (stack_tree (rc_value stack.now)) }
-        requires plans { plans_tree (rc_value plans.now) ≡ plans_of (stack_tree (rc_value stack.now)) }
-        requires entries { rc_value entries.now ≡ short_shapes (stack_tree (rc_value stack.now)) (plans_tree (rc_value plans.now)) }
-        requires made { (making maker.old).made ≤ 2 ^ 62 }
+        requires opening { CanOpen (2 ^ 62) (making maker.old) opening }
         requires member { is_some (rank view id) ≡ true }
-        ensures { Opens
-            (record {
-              stack = stack_tree (rc_value stack.now);
-              plans = plans_tree (rc_value plans.now);
-              group = group;
-              stamp = stamp;
-              view = view;
-              id = id;
-            })
-            (making maker.old) (making maker.new) result }
+        ensures { Opens opening.entry view id (making maker.old) (making maker.new) result }
     {
         let most = member_count(view) as u8;
-        let rows = stack.rows(most);
+        let rows = opening.stack.rows(most);
         if rows > MOST_ROWS {
             return Err(OpenError::TooLarge);
         }
-        let shared = stack.clone()?;
-        let plans = plans.clone()?;
-        let entries = entries.clone()?;
-        let works = open_works(alloc, maker, stack, view, id, rows)?;
+        let stack = opening.stack.clone()?;
+        let plans = opening.plans.clone()?;
+        let entries = opening.entries.clone()?;
+        let works = open_works(alloc, maker, opening.stack, view, id, rows)?;
         Ok(Member {
-            stack: shared,
+            stack,
             plans,
             entries,
-            group,
-            stamp,
+            group: opening.group,
+            stamp: opening.stamp,
             id,
             most,
             view: Some(view),

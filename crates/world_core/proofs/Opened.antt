@@ -5,20 +5,18 @@ use Rattle.std.proofs.lemmas.List.{map-append}
 use Rattle.std.proofs.lemmas.List.FromFn.{map-range_with_len_more}
 use Rattle.std.proofs.lemmas.Nat.{mul-le}
 use Rattle.std.specs.List.{range_with_len}
-use Rattle.msg_core.specs.View.{member_count}
 use Rattle.msg_core.specs.declared.packet.View.{View}
-use Rattle.layer_mean.specs.Tree.{LayerTree}
 use Rattle.stack_mean.specs.Acceptance.{rows_of, most_rows}
-use Rattle.stack_mean.specs.Plan.{Plan}
 use Rattle.run_mean.specs.Member.{opened}
 use Rattle.run_mean.specs.View.{first_view}
 use Rattle.file_layer.specs.Making.{Making}
-use Rattle.bypass_member.specs.Opening.{Asked, IsOpen, Opens}
+use Rattle.bypass_member.specs.Opening.{IsOpen, Opens, plans_in, rows_in, stack_in}
 use Rattle.bypass_member.specs.Placed.{Placed}
 use Rattle.bypass_member.specs.declared.error.OpenError.{OpenError}
 use Rattle.bypass_member.specs.declared.error.OpenError.TheVariants.{TooLarge, Memory}
+use Rattle.bypass_member.specs.declared.opening.Opening.{Opening}
 use Rattle.world_core.proofs.FirstView.{count_of_first}
-use Rattle.world_core.specs.Opening.{AreOpen, OpensAll}
+use Rattle.world_core.specs.Opening.{AreOpen, IsNotOpen}
 use Rattle.world_core.specs.Seats.{member_of, seat_of, seat}
 
 -- one more, where each is told by its number
@@ -41,60 +39,56 @@ pub times_few : (k l : ℕ) → k ≤ 32 → l ≤ 24 → k * l ≤ 768
 times_few k l few less = mul-le k l 32 24 few less
 
 -- the members below an id are open
-pub record AreBelow (stack : List LayerTree) (plans : List Plan) (group stamp n id : ℕ) (before now : Making) (members : List Placed) : Type 0 where
-  pub opened_are : map member_of members ≡ map (opened stack (first_view n)) (range_with_len 0 id)
-  pub seated : map seat_of members ≡ map (seat stack plans group stamp) (range_with_len 0 id)
-  pub few : 0 < id → rows_of stack n ≤ most_rows
+pub record AreBelow (o : Opening) (n id : ℕ) (before now : Making) (members : List Placed) : Type 0 where
+  pub opened_are : map member_of members ≡ map (opened (stack_in o) (first_view n)) (range_with_len 0 id)
+  pub seated : map seat_of members ≡ map (seat (stack_in o) (plans_in o) o.group o.stamp) (range_with_len 0 id)
+  pub few : 0 < id → rows_of (stack_in o) n ≤ most_rows
   pub same : now.stack ≡ before.stack
-  pub made : now.made ≡ before.made + id * length stack
-
-abbrev asked : List LayerTree → List Plan → (group stamp : ℕ) → View → ℕ → Asked
-asked stack plans group stamp view id = record { stack = stack; plans = plans; group = group; stamp = stamp; view = view; id = id }
+  pub made : now.made ≡ before.made + id * length (stack_in o)
 
 same_making : (a b : Making) → a.stack ≡ b.stack → a.made ≡ b.made → a ≡ b
 same_making a b stack made i = record { stack = stack i; made = made i }
 
-module _ (stack : List LayerTree) (plans : List Plan) (group stamp n id : ℕ) (view : View) (before now new : Making) (members : List Placed) where
-  rows_are : view ≡ first_view n → n ≤ 32 → rows_of stack (member_count view) ≡ rows_of stack n
-  rows_are first most = ap (λ v. rows_of stack (member_count v)) first ∙ ap (rows_of stack) (count_of_first n most)
+module _ (o : Opening) (n id : ℕ) (view : View) (before now new : Making) (members : List Placed) where
+  rows_are : view ≡ first_view n → n ≤ 32 → rows_in o view ≡ rows_of (stack_in o) n
+  rows_are first most = ap (λ v. rows_in o v) first ∙ ap (rows_of (stack_in o)) (count_of_first n most)
 
   -- the next is opened
-  pub open_next : (m : Placed) (more : List Placed) → AreBelow stack plans group stamp n id before now members → view ≡ first_view n → n ≤ 32 →
-      IsOpen (asked stack plans group stamp view id) now new m → more ≡ members ++ m ∷ [] →
-      AreBelow stack plans group stamp n (id + 1) before new more
+  pub open_next : (m : Placed) (more : List Placed) → AreBelow o n id before now members → view ≡ first_view n → n ≤ 32 →
+      IsOpen o view id now new m → more ≡ members ++ m ∷ [] → AreBelow o n (id + 1) before new more
   open_next m more below first most is put = record {
-    opened_are = told_next member_of (opened stack (first_view n)) members more m id below.opened_are
-        (is.member ∙ ap (λ v. opened stack v id) first) put;
-    seated = told_next seat_of (seat stack plans group stamp) members more m id below.seated
-        (λ i. record { stack = is.stack i; plans = is.plans i; group = is.group i; stamp = is.stamp i; id = is.id i }) put;
+    opened_are = told_next member_of (opened (stack_in o) (first_view n)) members more m id below.opened_are
+        (is.member ∙ ap (λ v. opened (stack_in o) v id) first) put;
+    seated = told_next seat_of (seat (stack_in o) (plans_in o) o.group o.stamp) members more m id below.seated
+        (λ i. record { stack = is.stack_is i; plans = is.plans_are i; group = is.group_is i; stamp = is.stamp_is i; id = is.id_is i }) put;
     few = λ _. subst (λ r. r ≤ most_rows) (rows_are first most) is.few;
     same = is.same ∙ below.same;
-    made = let next = times_next id (length stack) in let one = is.made in let all = below.made in omega (arith, next, one, all);
+    made = let next = times_next id (length (stack_in o)) in let one = is.made in let all = below.made in omega (arith, next, one, all);
   }
 
   -- there is no member where the first has too many rows
-  first_one : AreBelow stack plans group stamp n id before now members → most_rows < rows_of stack n → id ≡ 0
+  first_one : AreBelow o n id before now members → most_rows < rows_of (stack_in o) n → id ≡ 0
   first_one below large = go id below.few where
-    go : (k : ℕ) → (0 < k → rows_of stack n ≤ most_rows) → k ≡ 0
+    go : (k : ℕ) → (0 < k → rows_of (stack_in o) n ≤ most_rows) → k ≡ 0
     go zero few = refl
     go (suc k) few = let le = few (omega arith) in absurd (omega arith)
 
   -- it isn't
-  pub open_fails : (e : OpenError) → AreBelow stack plans group stamp n id before now members → id < n → view ≡ first_view n → n ≤ 32 →
-      Opens (asked stack plans group stamp view id) now new (Err e) → OpensAll stack plans group stamp n before new (Err e)
+  pub open_fails : (e : OpenError) → AreBelow o n id before now members → id < n → view ≡ first_view n → n ≤ 32 →
+      Opens o view id now new (Err e) → IsNotOpen o n before new e
   open_fails TooLarge below lt first most is =
-      let large : most_rows < rows_of stack n = subst (λ r. most_rows < r) (rows_are first most) is.0 in
+      let large : most_rows < rows_of (stack_in o) n = subst (λ r. most_rows < r) (rows_are first most) is.0 in
       let none : id ≡ 0 = first_one below large in
-      let made : now.made ≡ before.made = below.made ∙ ap (λ k. before.made + k * length stack) none ∙ omega arith in
+      let made : now.made ≡ before.made = below.made ∙ ap (λ k. before.made + k * length (stack_in o)) none ∙ omega arith in
       (large, is.1 ∙ same_making now before below.same made)
   open_fails Memory below lt first most is = record {
     same = is.same ∙ below.same;
-    made = let within = times_within id n (length stack) lt in let one = is.made in let all = below.made in omega (arith, within, one, all);
+    made = let within = times_within id n (length (stack_in o)) lt in let one = is.made in let all = below.made in omega (arith, within, one, all);
   }
 
 -- all of them
-pub all_open : (stack : List LayerTree) (plans : List Plan) (group stamp n id : ℕ) (before now : Making) (members : List Placed) →
-    AreBelow stack plans group stamp n id before now members → id ≡ n → 1 ≤ n → AreOpen stack plans group stamp n before now members
-all_open stack plans group stamp n id before now members below last least =
-    let all = subst (λ k. AreBelow stack plans group stamp n k before now members) last below in
+pub all_open : (o : Opening) (n id : ℕ) (before now : Making) (members : List Placed) → AreBelow o n id before now members → id ≡ n → 1 ≤ n →
+    AreOpen o n before now members
+all_open o n id before now members below last least =
+    let all = subst (λ k. AreBelow o n k before now members) last below in
     record { opened_are = all.opened_are; seated = all.seated; few = all.few least; same = all.same; made = all.made }

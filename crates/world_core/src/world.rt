@@ -3,15 +3,11 @@
 ghost use Rattle.std.specs.Prelude.{◌≡◌, ◌+◌, ◌^◌, ◌<◌, ◌≤◌, IfOk, length, slice_index_or};
 ghost use Rattle.std.specs.Rc.{rc_value};
 ghost use Rattle.stack_mean.specs.Acceptance.{largest_weight};
-ghost use Rattle.stack_mean.specs.Plans.{plans_of};
-ghost use Rattle.chain_laws.specs.Runs.{TypedStack};
-ghost use Rattle.event_graph.specs.Answer.{stack_tree};
-ghost use Rattle.packet_plans.specs.Trees.{plans_tree};
 ghost use Rattle.file_layer.specs.Making.{making};
-ghost use Rattle.entry_shapes.specs.Shapes.{short_shapes};
 ghost use Rattle.run_mean.specs.Member.{out as is_in_none};
 ghost use Rattle.run_mean.specs.World as mean;
 ghost use Rattle.view_core.specs.Steps.{input_meant};
+ghost use Rattle.bypass_member.specs.Opening.{CanOpen};
 ghost use Rattle.world_core.specs.Feeding.{Fed};
 ghost use Rattle.world_core.specs.Opening.{Begins};
 ghost use Rattle.world_core.specs.Standing.{Stands, Stays};
@@ -19,8 +15,7 @@ ghost use Rattle.world_core.specs.Standing.{Stands, Stays};
 use crate::feed::Feed;
 use crate::members::{close_all, open_all};
 use crate::packets::Packets;
-use bypass_member::{Member, OpenError};
-use entry_shapes::EntryShapes;
+use bypass_member::{Member, OpenError, Opening};
 use event_graph::Stack;
 use file_layer::Maker;
 use member_shown::Shown;
@@ -82,32 +77,23 @@ impl World {
     pub fn begin(
         alloc: Global,
         maker: &mut Maker,
-        stack: &Rc<Stack>,
-        plans: &Rc<Plans>,
-        entries: &Rc<EntryShapes>,
-        group: u32,
-        stamp: u32,
+        opening: Opening<'_>,
         n: u8,
     ) -> Result<World, OpenError>
-        requires same { (making maker.old).stack ≡ stack_tree (rc_value stack.now) }
-        requires typed { TypedStack (stack_tree (rc_value stack.now)) }
-        requires plans { plans_tree (rc_value plans.now) ≡ plans_of (stack_tree (rc_value stack.now)) }
-        requires entries { rc_value entries.now
-            ≡ short_shapes (stack_tree (rc_value stack.now)) (plans_tree (rc_value plans.now)) }
-        requires made { (making maker.old).made ≤ 2 ^ 61 }
+        requires opening { CanOpen (2 ^ 61) (making maker.old) opening }
         requires members { (1 ≤ n) × (n ≤ 32) }
-        ensures { Begins (stack_tree (rc_value stack.now)) (plans_tree (rc_value plans.now)) group stamp n (making maker.old) (making maker.new) result }
+        ensures { Begins opening.entry n (making maker.old) (making maker.new) result }
     {
-        let (own_stack, own_plans) = match share(stack, plans) {
+        let (stack, plans) = match share(opening.stack, opening.plans) {
             Ok(shared) => shared,
             Err(_) => return Err(OpenError::Memory),
         };
-        match open_all(alloc, maker, stack, plans, entries, group, stamp, n) {
+        match open_all(alloc, maker, opening, n) {
             Ok(members) => Ok(World {
-                stack: own_stack,
-                plans: own_plans,
-                group,
-                stamp,
+                stack,
+                plans,
+                group: opening.group,
+                stamp: opening.stamp,
                 members,
                 packets: Packets::none(alloc),
             }),

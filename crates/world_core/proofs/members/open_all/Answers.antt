@@ -1,7 +1,6 @@
 use Rattle.std.proofs.Common.{◌≤◌, ◌∙◌, ap, arith, rules, refl, length, is_some}
 use Rattle.msg_core.specs.View.{rank}
-use Rattle.std.specs.Rc.{rc_value}
-use Rattle.event_graph.specs.Answer.{stack_tree}
+use Rattle.bypass_member.specs.Opening.{stack_in}
 use Rattle.world_core.proofs.FirstView.{rank_in_first}
 use Rattle.world_core.proofs.Opened.{open_next, open_fails, all_open, times_few}
 use Rattle.world_core.proofs.members.open_all.Goals as goal
@@ -12,15 +11,18 @@ loop-id-init c = record {
   room = search rules;
 }
 
-pub begin-requires-clause-same : goal.begin-requires-clause-same
-begin-requires-clause-same c = c.loop-id.invariant.below.same ∙ c.requires.same
-
-pub begin-requires-clause-made : goal.begin-requires-clause-made
-begin-requires-clause-made c =
+pub begin-requires-clause-opening : goal.begin-requires-clause-opening
+begin-requires-clause-opening c =
+    let can = c.requires.opening in
     let made = c.loop-id.invariant.below.made in
-    let places : length (stack_tree (rc_value c.args.stack.now)) ≤ 24 = search rules in
-    let few = times_few c.loop-id.id (length (stack_tree (rc_value c.args.stack.now))) (omega arith) places in
-    omega (arith, made, few)
+    let places : length (stack_in c.args.opening) ≤ 24 = search rules in
+    let few = times_few c.loop-id.id (length (stack_in c.args.opening)) (omega arith) places in record {
+      same = c.loop-id.invariant.below.same ∙ can.same;
+      typed = can.typed;
+      plans_are = can.plans_are;
+      entries_are = can.entries_are;
+      made = omega (arith, made, few, can.made);
+    }
 
 pub begin-requires-clause-member : goal.begin-requires-clause-member
 begin-requires-clause-member c =
@@ -29,14 +31,14 @@ begin-requires-clause-member c =
 
 pub loop-id-preserved : goal.loop-id-preserved
 loop-id-preserved c = record {
-  below = open_next _ _ _ _ _ c.loop-id.id c.first_view-view.result _ _ _ _ c.in-Ok-begin.member _ c.loop-id.invariant.below
+  below = open_next _ _ c.loop-id.id c.first_view-view.result _ _ _ _ c.in-Ok-begin.member _ c.loop-id.invariant.below
       c.first_view-view.ensures c.requires.members.1 c.in-Ok-begin.ensures c.push_reserved.ensures.items;
   room = search rules;
 }
 
 pub returns-in-Err-begin : goal.returns-in-Err-begin
-returns-in-Err-begin c = open_fails _ _ _ _ _ c.loop-id.id c.first_view-view.result _ _ _ _ c.in-Err-begin.error c.loop-id.invariant.below
+returns-in-Err-begin c = open_fails _ _ c.loop-id.id c.first_view-view.result _ _ _ _ c.in-Err-begin.error c.loop-id.invariant.below
     c.loop-id-test.true c.first_view-view.ensures c.requires.members.1 c.in-Err-begin.ensures
 
 pub returns : goal.returns
-returns c = all_open _ _ _ _ _ c.loop-id.id _ _ _ c.loop-id.invariant.below (omega arith) c.requires.members.0
+returns c = all_open _ _ c.loop-id.id _ _ _ c.loop-id.invariant.below (omega arith) c.requires.members.0

@@ -10,9 +10,9 @@ use Rattle.bypass_member.proofs.member.Member.begin.Goals as goal
 
 pub invariant_of-result : goal.invariant_of-result
 invariant_of-result c =
-    let same : rc_value c.in_ok-shared.shared ≡ rc_value c.args.stack.now = search rules in
-    let its : c.deref-2.result.now ≡ rc_value c.in_ok-shared.shared = c.deref-2.ensures ∙ sym same in
-    let typed = subst (λ (s : Stack). TypedStack (stack_tree s)) (sym c.deref-2.ensures) c.requires.typed in
+    let same : rc_value c.in_ok-stack.stack ≡ rc_value c.args.opening.stack.now = search rules in
+    let its : c.deref-2.result.now ≡ rc_value c.in_ok-stack.stack = c.deref-2.ensures ∙ sym same in
+    let typed = subst (λ (s : Stack). TypedStack (stack_tree s)) (sym c.deref-2.ensures) c.requires.opening.typed in
     let both = opened_member (stack_tree c.deref-2.result.now) c.member_count-most.result c.args.view c.args.id _ _ c.in_ok-works.works typed
     (record { ltime = omega arith; mask = omega arith }) c.member_count-most.ensures.count c.in_ok-works.ensures in record {
       typed = search rules;
