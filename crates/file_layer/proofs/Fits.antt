@@ -45,7 +45,7 @@ pub can_keep : (b : Begun) (p : List Held) (d : FileDesk) → IsReady b p d → 
 can_keep b p d is xs = record {
   below = λ i some.
       let few = is.pool.few i in let counts = is.pool.moved.counts i in let whole = parts i (stock_of d) in
-      let own = own_few b.layout (stock_of d) i is.fits in let sent = sent_few d.sent.items d.first i in
+      let own = own_few b.layout (stock_of d) i is.fits in let sent = sent_few d.tray.sent.items d.first i in
       let old = is.sent.old i in let more = is.sent.few in let before = is.sent.before in let there = is.fits.sent in
       let places = ap (λ (l : Layout). l.places) is.layout in omega arith;
 }

@@ -144,12 +144,12 @@ begins_again layer p me n ltime d e is few new = subst (IsFresh layer me n ltime
 
 -- The layout of a desk with this room.
 pub layout_at_first : (layer : LayerTree) (me n ltime : ℕ) (d : FileDesk) → KeepsFew (room.layout_of layer 0) → d.cells ≡ kept_fresh layer me n ltime n →
-    vec_capacity d.numbers ≡ (room.layout_of layer 0).numbers + 6 → d.messages.capacity ≡ (room.layout_of layer 0).messages + 1 →
+    vec_capacity d.numbers ≡ (room.layout_of layer 0).numbers + 6 → d.tray.messages.capacity ≡ (room.layout_of layer 0).messages + 1 →
     d.hand.capacity ≡ min (room.layout_of layer 0).hand 4294967295 → d.places ≡ 0 → layout_of d ≡ room.layout_of layer 0
 layout_at_first layer me n ltime d keeps cells for_numbers messages in_hand places =
     let own = keeps.own in
     let rows : map capacity_of d.cells.cells ≡ (room.layout_of layer 0).rows = ap (λ (k : Kept PoolRow). map capacity_of k.cells) cells ∙ all_rows me n ltime layer.cells in
     let one : vec_capacity d.numbers - 6 ≡ (room.layout_of layer 0).numbers = omega arith in
-    let two : d.messages.capacity - 1 ≡ (room.layout_of layer 0).messages = omega arith in
+    let two : d.tray.messages.capacity - 1 ≡ (room.layout_of layer 0).messages = omega arith in
     let three : d.hand.capacity ≡ (room.layout_of layer 0).hand = in_hand ∙ min-eq_left (omega arith) in
     λ j. record { rows = rows j; numbers = one j; messages = two j; hand = three j; places = places j }

@@ -24,6 +24,7 @@ pub mod Scope
 pub mod Sent
 pub mod Sending
 pub mod Stays
+pub mod Tray
 pub mod Steps
 pub mod Typed
 pub mod Visit

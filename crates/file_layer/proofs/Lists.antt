@@ -1,5 +1,5 @@
 -- Lists whose items have references, and what holds of each item.
-use Rattle.std.proofs.Common.{◌≡◌, ℕ, zero, suc, ◌+◌, ◌-◌, ◌<◌, ◌≤◌, take, List, [], ◌∷◌, ◌++◌, map, reverse, length, get_or, set, slice_get, Option, Some, None, flat_map, refl, sym, ap, subst, ◌∙◌, arith}
+use Rattle.std.proofs.Common.{◌≡◌, ℕ, zero, suc, ◌+◌, ◌-◌, ◌<◌, ◌≤◌, take, List, [], ◌∷◌, ◌++◌, map, reverse, length, get_or, set, slice_get, Bor, Option, Some, None, option_copied, flat_map, refl, sym, ap, subst, ◌∙◌, arith}
 use Rattle.std.specs.List.{AllByRecursion}
 use Rattle.std.specs.Prelude.{IfSome, IfNone}
 use Rattle.std.proofs.lemmas.Grind.{flat_map-append}
@@ -79,6 +79,16 @@ pub item_there : {A : Type 0} (xs : List A) (k : ℕ) (x : A) → slice_get xs k
 item_there [] k x is = absurd (cc)
 item_there (y ∷ xs) zero x is = let same : x ≡ y = cc in (omega arith, ap (λ z. z ∷ xs) same)
 item_there (y ∷ xs) (suc k) x is = let rest = item_there xs k x is in let below = rest.0 in (omega arith, ap (λ ys. y ∷ ys) rest.1)
+
+pub item_within : {A : Type 0} (xs : List A) (k : ℕ) (d : A) → k < length xs → slice_get xs k ≡ Some (get_or xs k d)
+item_within [] k d below = absurd (omega (arith, below))
+item_within (y ∷ xs) zero d below = refl
+item_within (y ∷ xs) (suc k) d below = item_within xs k d (omega (arith, below))
+
+-- An item that was read stands there.
+pub read_there : {A : Type 0} (xs : List A) (k : ℕ) (d : A) (o : Option (Bor A)) (x : Bor A) → option_copied o ≡ slice_get xs k → o ≡ Some x →
+    slice_get xs k ≡ Some (get_or xs k d)
+read_there xs k d o x is some = item_within xs k d (item_there xs k x.now (sym is ∙ ap option_copied some)).0
 
 -- Items of a pile.
 pub items_are : {A : Type 0} (b : Buffer A) (xs : List A) (n : ℕ) → b ≡ buffer xs n → b.items ≡ xs

@@ -1,5 +1,5 @@
 -- The scope of a desk that has no more than it is made for.
-use Rattle.std.proofs.Common.{◌≡◌, ℕ, suc, ◌+◌, ◌≤◌, List, [], ◌∷◌, ◌++◌, Option, Some, None, option_to_list, length, refl, sym, ap, subst, ◌∙◌, arith}
+use Rattle.std.proofs.Common.{◌≡◌, ℕ, suc, ◌+◌, ◌≤◌, List, [], ◌∷◌, ◌++◌, Option, Some, None, option_to_list, length, refl, sym, ap, subst, arith}
 use Rattle.std.specs.List.{AllByRecursion}
 use Rattle.std.proofs.lemmas.List.{append-nil, length-append, map-append}
 use Rattle.slot_pool.specs.Held.{Held}
@@ -12,7 +12,7 @@ use Rattle.pool_message.specs.Moves.{Returned}
 use Rattle.pool_message.specs.Piled.{pile_refs}
 use Rattle.pool_message.specs.declared.message.PoolMessage.{PoolMessage}
 use Rattle.file_layer.specs.Stock.{Stock, laid}
-use Rattle.file_layer.specs.Scope.{without_messages}
+use Rattle.file_layer.specs.Scope.{without_messages, with_messages_alone}
 use Rattle.file_layer.specs.Entered.{with_arrived, with_bare}
 use Rattle.file_layer.specs.Steps.{InPool}
 use Rattle.file_layer.specs.Fits.{most_bound, IsShort, IsShortIf, StockFits}
@@ -41,45 +41,34 @@ module _ (b : Begun) (p q : List Held) (s : Stock) (is : InPool b p s) (fits : S
   scope_covered = record { covers = λ i. omega (arith, (covered b p s is).covers i, messages_within i s) }
 
   -- They are given back.
-  pub messages_back : (none : List PoolMessage) → none ≡ [] → Returned p q (pile_refs s.messages) →
-      InPool b q (record s { messages = none }) × StockFits b.layout (record s { messages = none }) ×
-      (laid q (record s { messages = none }) ≡ without_messages (laid p s))
-  messages_back none empty gone =
+  pub messages_back : Returned p q (pile_refs s.messages) →
+      InPool b q (record s { messages = [] }) × StockFits b.layout (record s { messages = [] }) ×
+      (laid q (record s { messages = [] }) ≡ without_messages (laid p s))
+  messages_back gone =
       let step = messages_gone b p q s is gone in
-      subst (λ ms. InPool b q (record s { messages = ms }) × StockFits b.layout (record s { messages = ms }) ×
-      (laid q (record s { messages = ms }) ≡ without_messages (laid p s))) (sym empty)
       (step.0, fits_scope b.layout s s.numbers [] s.arrived fits fits.numbers (omega arith) tt, step.1)
 
   -- The numbers go, and the message that arrived is given back.
-  pub arrived_back : (ns : List ℕ) (none : Option PoolMessage) → ns ≡ [] → none ≡ None → Returned p q (refs_if s.arrived) →
-      InPool b q (record s { numbers = ns; arrived = none }) × StockFits b.layout (record s { numbers = ns; arrived = none }) ×
-      (laid q (record s { numbers = ns; arrived = none }) ≡
-      record (laid p s) { scope = record { numbers = []; messages = (laid p s).scope.messages }; arrived = None })
-  arrived_back ns none empty is_none gone =
+  pub arrived_back : (ns : List ℕ) → ns ≡ [] → Returned p q (refs_if s.arrived) →
+      InPool b q (record s { numbers = ns; arrived = None }) × StockFits b.layout (record s { numbers = ns; arrived = None }) ×
+      (laid q (record s { numbers = ns; arrived = None }) ≡ with_messages_alone (laid p s))
+  arrived_back ns empty gone =
       let step = arrived_gone b p q s is gone in
-      let whole = numbers_step b q (record s { arrived = None }) step.0 [] in
-      subst (λ ns. InPool b q (record s { numbers = ns; arrived = none }) × StockFits b.layout (record s { numbers = ns; arrived = none }) ×
-      (laid q (record s { numbers = ns; arrived = none }) ≡
-      record (laid p s) { scope = record { numbers = []; messages = (laid p s).scope.messages }; arrived = None })) (sym empty)
-      (subst (λ m. InPool b q (record s { numbers = []; arrived = m }) × StockFits b.layout (record s { numbers = []; arrived = m }) ×
-      (laid q (record s { numbers = []; arrived = m }) ≡
-      record (laid p s) { scope = record { numbers = []; messages = (laid p s).scope.messages }; arrived = None })) (sym is_none) (
-        whole,
+      subst (λ ns. InPool b q (record s { numbers = ns; arrived = None }) × StockFits b.layout (record s { numbers = ns; arrived = None }) ×
+      (laid q (record s { numbers = ns; arrived = None }) ≡ with_messages_alone (laid p s))) (sym empty) (
+        numbers_step b q (record s { arrived = None }) step.0 [],
         fits_scope b.layout s [] s.messages None fits (omega arith) fits.messages fits.short,
         ap (λ (l : Laid). record l { scope = record { numbers = []; messages = l.scope.messages } }) step.1,
-      ))
+      )
 
--- The message that arrived comes into the scope, if there is one.
-pub arrived_in : (b : Begun) (p : List Held) (s : Stock) → InPool b p s → StockFits b.layout s → (ms : List PoolMessage) (none : Option PoolMessage) →
-    ms ≡ s.messages ++ option_to_list s.arrived → none ≡ None → length s.messages + 1 ≤ b.layout.messages + 1 → IsShortIf s.arrived →
-    InPool b p (record s { messages = ms; arrived = none }) × StockFits b.layout (record s { messages = ms; arrived = none }) ×
-    (laid p (record s { messages = ms; arrived = none }) ≡ with_arrived (laid p s))
-arrived_in b p s is fits ms none new gone few short =
-    subst (λ ms. InPool b p (record s { messages = ms; arrived = none }) × StockFits b.layout (record s { messages = ms; arrived = none }) ×
-    (laid p (record s { messages = ms; arrived = none }) ≡ with_arrived (laid p s))) (sym new)
-    (subst (λ a. InPool b p (record s { messages = s.messages ++ option_to_list s.arrived; arrived = a }) ×
-    StockFits b.layout (record s { messages = s.messages ++ option_to_list s.arrived; arrived = a }) ×
-    (laid p (record s { messages = s.messages ++ option_to_list s.arrived; arrived = a }) ≡ with_arrived (laid p s))) (sym gone) (go s.arrived refl short))
+-- The message that arrived comes into an empty scope, if there is one.
+pub arrived_in : (b : Begun) (p : List Held) (s : Stock) → InPool b p s → StockFits b.layout s → s.messages ≡ [] → IsShortIf s.arrived →
+    InPool b p (record s { messages = option_to_list s.arrived; arrived = None }) ×
+    StockFits b.layout (record s { messages = option_to_list s.arrived; arrived = None }) ×
+    (laid p (record s { messages = option_to_list s.arrived; arrived = None }) ≡ with_arrived (laid p s))
+arrived_in b p s is fits empty short =
+    subst (λ ms. InPool b p (record s { messages = ms; arrived = None }) × StockFits b.layout (record s { messages = ms; arrived = None }) ×
+    (laid p (record s { messages = ms; arrived = None }) ≡ with_arrived (laid p s))) (ap (λ ms. ms ++ option_to_list s.arrived) empty) (go s.arrived refl short)
   where
     go : (o : Option PoolMessage) → s.arrived ≡ o → IsShortIf o →
         InPool b p (record s { messages = s.messages ++ option_to_list o; arrived = None }) ×
@@ -94,21 +83,19 @@ arrived_in b p s is fits ms none new gone few short =
     go (Some m) at short =
         let step = arrived_bound b p s is m at in (
           step.0,
-          fits_scope b.layout s s.numbers (s.messages ++ m ∷ []) None fits fits.numbers (omega (arith, length-append s.messages (m ∷ []), few))
+          fits_scope b.layout s s.numbers (s.messages ++ m ∷ []) None fits fits.numbers (omega (arith, length-append s.messages (m ∷ []), ap length empty))
               (all-append IsShort s.messages (m ∷ []) fits.short (short, tt)),
           step.1,
         )
 
 -- A message without bytes comes into the scope.
-pub bare_more : (b : Begun) (p : List Held) (s : Stock) → InPool b p s → StockFits b.layout s → (m : PoolMessage) (ms : List PoolMessage) →
-    ms ≡ s.messages ++ m ∷ [] → m ≡ bodiless [] → length s.messages + 1 ≤ b.layout.messages + 1 →
-    InPool b p (record s { messages = ms }) × StockFits b.layout (record s { messages = ms }) × ((k : ℕ) → with_bare k (laid p (record s { messages = ms })) ≡ with_bare (suc k) (laid p s))
-bare_more b p s is fits m ms new bare few =
-    let step = bare_bound b p s is (bodiless []) refl tt in
-    subst (λ ms. InPool b p (record s { messages = ms }) × StockFits b.layout (record s { messages = ms }) × ((k : ℕ) → with_bare k (laid p (record s { messages = ms })) ≡ with_bare (suc k) (laid p s)))
-    (sym (new ∙ ap (λ x. s.messages ++ x ∷ []) bare)) (
+pub bare_more : (b : Begun) (p : List Held) (s : Stock) → InPool b p s → StockFits b.layout s → length s.messages + 1 ≤ b.layout.messages + 1 →
+    InPool b p (record s { messages = s.messages ++ bodiless [] ∷ [] }) × StockFits b.layout (record s { messages = s.messages ++ bodiless [] ∷ [] }) ×
+    ((k : ℕ) → with_bare k (laid p (record s { messages = s.messages ++ bodiless [] ∷ [] })) ≡ with_bare (suc k) (laid p s))
+bare_more b p s is fits few =
+    let step = bare_bound b p s is (bodiless []) refl tt in (
       step.0,
-      fits_scope b.layout s s.numbers (s.messages ++ bodiless [] ∷ []) s.arrived fits fits.numbers (omega (arith, length-append s.messages (bodiless [] ∷ [])))
+      fits_scope b.layout s s.numbers (s.messages ++ bodiless [] ∷ []) s.arrived fits fits.numbers (omega (arith, length-append s.messages (bodiless [] ∷ []), few))
           (all-append IsShort s.messages (bodiless [] ∷ []) fits.short (omega arith, tt)),
       λ k. ap (with_bare k) step.1,
     )

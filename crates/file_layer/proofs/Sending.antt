@@ -1,5 +1,5 @@
 -- Steps at what is sent.
-use Rattle.std.proofs.Common.{◌≡◌, ℕ, List, [], ◌∷◌, ◌++◌, Option, Some, None, option_map, flat_map, refl, sym, ap, subst, ◌∙◌}
+use Rattle.std.proofs.Common.{◌≡◌, ℕ, List, [], ◌∷◌, ◌++◌, Option, Some, None, option_map, slice_get, set, flat_map, refl, sym, ap, subst, ◌∙◌}
 use Rattle.std.specs.List.{AllByRecursion}
 use Rattle.std.proofs.lemmas.List.{append-nil, map-append}
 use Rattle.slot_pool.specs.Held.{Held}
@@ -21,8 +21,8 @@ use Rattle.pool_message.proofs.Stays.{message_stays}
 use Rattle.file_layer.specs.Stock.{Stock, laid, StockLies, pool_event}
 use Rattle.file_layer.specs.Steps.{InPool, TakesOut}
 use Rattle.file_layer.proofs.Hand.{laid_top}
-use Rattle.file_layer.proofs.Lists.{all-append, all-front, all-behind}
-use Rattle.file_layer.proofs.Parts.{none_out, hand_out, arrived_out, sent_out}
+use Rattle.file_layer.proofs.Lists.{all-append, all-at, all-front, all-behind, all-set, item_there}
+use Rattle.file_layer.proofs.Parts.{none_out, hand_out, message_out, arrived_out, sent_out}
 use Rattle.file_layer.proofs.Sent.{is_derived}
 use Rattle.file_layer.proofs.Steps.{rest_stays, stepped}
 
@@ -88,6 +88,29 @@ module _ (b : Begun) (p : List Held) (s : Stock) (is : InPool b p s) where
         laid_sent q s dir event ∙ ap (λ c. sends dir (event_in e (Some c)) (laid q s)) (made.shows q ∙ ap (sent_as dir header) stays.1) ∙
             ap (sends dir (event_in e (Some (sent_as dir header (seen p m))))) rest.1,
       )
+
+  -- An event is sent with a message of the scope, in whose place stands one without bytes.
+  pub scope_sent : (dir : Dir) (e : Envelope) (header : Header) (k : ℕ) (m : PoolMessage) → slice_get s.messages k ≡ Some m →
+      InPool b p (record s { messages = set s.messages k (bodiless []); sent = s.sent ++ (dir, pool_event e (Some (sent_behind dir header m))) ∷ [] }) ×
+      (laid p (record s { messages = set s.messages k (bodiless []); sent = s.sent ++ (dir, pool_event e (Some (sent_behind dir header m))) ∷ [] }) ≡
+      sends dir (event_in e (Some (sent_as dir header (seen p m)))) (laid p (record s { messages = set s.messages k (bodiless []) })))
+  scope_sent dir e header k m there =
+      let made : Derived (sent_as dir header) m (sent_behind dir header m) = is_derived dir header m in
+      let item = item_there s.messages k m there in
+      let t : Stock = record s { messages = set s.messages k (bodiless []) } in
+      let out : TakesOut s t (refs m) =
+      subst (λ ms. TakesOut (record s { messages = ms }) t (refs m)) item.1 (message_out s s.messages k m (bodiless []) refl item.0) in
+      let left : StockLies p t =
+      record {
+        kept = is.lies.kept;
+        messages = all-set (Lies p) s.messages k (bodiless []) is.lies.messages tt;
+        arrived = is.lies.arrived;
+        hand = is.lies.hand;
+        sent = is.lies.sent;
+      } in
+      let step = sent_step t (refs m) out left dir (pool_event e (Some (sent_behind dir header m))) made.slots
+      (made.lies p (all-at (Lies p) s.messages k m there is.lies.messages)) in
+      (step.0, step.1 ∙ ap (λ c. sends dir (event_in e (Some c)) (laid p t)) (made.shows p))
 
   -- An event is sent with the message in front of the hand.
   pub sent_first : (dir : Dir) (e : Envelope) (header : Header) (rest : List PoolMessage) (x y : PoolMessage) → s.hand ≡ rest ++ x ∷ [] →

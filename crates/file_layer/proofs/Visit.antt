@@ -31,7 +31,7 @@ use Rattle.file_layer.proofs.Parts.{parts}
 
 -- How a visit at a desk begins.
 abbrev pub begun_at : List Held → FileDesk → Begun
-begun_at p d = record { pool = p; refs = stock_refs (stock_of d); layout = layout_of d; list = d.sent.capacity; forms = forms_of d }
+begun_at p d = record { pool = p; refs = stock_refs (stock_of d); layout = layout_of d; list = d.tray.sent.capacity; forms = forms_of d }
 
 -- The references of a desk on which there are rows, a message that arrived and what was sent.
 refs_at : (i : ℕ) (s : Stock) → s.messages ≡ [] → s.hand ≡ [] →
@@ -129,17 +129,17 @@ module _ (layer : LayerTree) (p q : List Held) (d e : FileDesk) (rest : IsAtRest
     (ready : IsReady (begun_at p (begins event.message out d)) q e)
     (shown : Laid) (is : laid q (stock_of e) ≡ shown) (scope : shown.scope ≡ no_scope) (arrived : shown.arrived ≡ None)
     (hand : shown.hand ≡ reverse (map (seen p) d.hand.items)) where
-  messages_gone : e.messages.items ≡ []
-  messages_gone = no_messages q e.messages.items (ap (λ (l : Laid). l.scope.messages) is ∙ ap (λ (l : Scope). l.messages) scope)
+  pub messages_gone : e.tray.messages.items ≡ []
+  messages_gone = no_messages q e.tray.messages.items (ap (λ (l : Laid). l.scope.messages) is ∙ ap (λ (l : Scope). l.messages) scope)
 
-  arrived_gone : e.arrived ≡ None
-  arrived_gone = no_message q e.arrived (ap (λ (l : Laid). l.arrived) is ∙ arrived)
+  pub arrived_gone : e.tray.arrived ≡ None
+  arrived_gone = no_message q e.tray.arrived (ap (λ (l : Laid). l.arrived) is ∙ arrived)
 
   hand_gone : e.hand.items ≡ []
   hand_gone = empty_hand q e.hand.items d.hand.items p rest.hand (ap (λ (l : Laid). l.hand) is ∙ hand)
 
-  pub ends_at_rest : IsAtRest layer q (ends d.sent e)
-  ends_at_rest =
+  pub ends_at_rest : (none : Buffer (Dir × PoolEvent)) → none.items ≡ [] → IsAtRest layer q (ends none e)
+  ends_at_rest none empty =
       let made = ready.layout in record {
         lie = ready.pool.lies.kept;
         cells = ready.fits.cells;
@@ -148,7 +148,7 @@ module _ (layer : LayerTree) (p q : List Held) (d e : FileDesk) (rest : IsAtRest
         messages = messages_gone;
         arrived = arrived_gone;
         hand = hand_gone;
-        sent = rest.sent;
+        sent = empty;
         numbers_room = ready.numbers;
         messages_room = ready.messages;
         few = subst KeepsFew (sym (ap (λ (l : Layout). record l { places = 0 }) made)) (record { rows = rest.few.rows; own = rest.few.own });
@@ -157,14 +157,14 @@ module _ (layer : LayerTree) (p q : List Held) (d e : FileDesk) (rest : IsAtRest
       }
 
   pub ends_moved : Moved p q (stock_refs (stock_of (begins event.message out d))) (stock_refs (stock_of e)) →
-      Moved p q (kept_refs d.cells ++ (event_refs event ++ sent_refs out.items)) (kept_refs e.cells ++ sent_refs e.sent.items)
+      Moved p q (kept_refs d.cells ++ (event_refs event ++ sent_refs out.items)) (kept_refs e.cells ++ sent_refs e.tray.sent.items)
   ends_moved moved =
       moved-reordered p q (stock_refs (stock_of (begins event.message out d))) (stock_refs (stock_of e))
-      (kept_refs d.cells ++ (event_refs event ++ sent_refs out.items)) (kept_refs e.cells ++ sent_refs e.sent.items)
+      (kept_refs d.cells ++ (event_refs event ++ sent_refs out.items)) (kept_refs e.cells ++ sent_refs e.tray.sent.items)
       (λ i.
       let all = refs_at i (stock_of (begins event.message out d)) rest.messages rest.hand in
       omega (arith, times-append i (kept_refs d.cells) (event_refs event ++ sent_refs out.items), times-append i (event_refs event) (sent_refs out.items)))
       (λ i.
       let all = refs_at i (stock_of e) messages_gone hand_gone in let none = ap (λ m. times i (refs_if m)) arrived_gone in
-      omega (arith, times-append i (kept_refs e.cells) (sent_refs e.sent.items)))
+      omega (arith, times-append i (kept_refs e.cells) (sent_refs e.tray.sent.items)))
       moved

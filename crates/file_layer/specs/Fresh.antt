@@ -20,12 +20,12 @@ use Rattle.file_layer.specs.declared.desk.FileDesk.{FileDesk}
 pub record IsEmpty (layer : LayerTree) (me n ltime : ℕ) (d : FileDesk) : Type 0 where
   pub cells : d.cells ≡ kept_fresh layer me n ltime n
   pub numbers : d.numbers.items ≡ []
-  pub messages : d.messages.items ≡ []
-  pub arrived : d.arrived ≡ None
+  pub messages : d.tray.messages.items ≡ []
+  pub arrived : d.tray.arrived ≡ None
   pub hand : d.hand.items ≡ []
-  pub sent : d.sent ≡ buffer [] 0
+  pub sent : d.tray.sent ≡ buffer [] 0
   pub numbers_room : most_bound ≤ vec_capacity d.numbers
-  pub messages_room : 1 ≤ d.messages.capacity
+  pub messages_room : 1 ≤ d.tray.messages.capacity
   pub layout : layout_of d ≡ room.layout_of layer 0
 
 -- The layer at a desk has seen no event: it is at rest in any pool, refers to none, and its state is that of a layer at first.

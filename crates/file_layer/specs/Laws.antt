@@ -22,5 +22,5 @@ hand_left b p d is =
 pub places_left : (b : Begun) (p : List Held) (d : FileDesk) → IsReady b p d → (room_of p d).places + length (laid p (stock_of d)).sent ≡ b.layout.places
 places_left b p d is =
     let made = ap (λ (l : Layout). l.places) is.layout in let few = is.fits.sent in
-    let shown : length (sent_seen p d.sent.items) ≡ length d.sent.items =
-    length-map {B = Dir × Event} d.sent.items (λ (e : Dir × PoolEvent). (e.0, event_seen p e.1)) in omega arith
+    let shown : length (sent_seen p d.tray.sent.items) ≡ length d.tray.sent.items =
+    length-map {B = Dir × Event} d.tray.sent.items (λ (e : Dir × PoolEvent). (e.0, event_seen p e.1)) in omega arith

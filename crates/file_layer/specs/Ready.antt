@@ -15,10 +15,10 @@ abbrev pub stock_of : FileDesk → Stock
 stock_of d = record {
   kept = d.cells;
   numbers = d.numbers.items;
-  messages = d.messages.items;
-  arrived = d.arrived;
+  messages = d.tray.messages.items;
+  arrived = d.tray.arrived;
   hand = d.hand.items;
-  sent = d.sent.items;
+  sent = d.tray.sent.items;
 }
 
 -- What its cells are: the shape of each, and the capacity where it has queues.
@@ -30,7 +30,7 @@ abbrev pub layout_of : FileDesk → Layout
 layout_of d = record {
   rows = map capacity_of d.cells.cells;
   numbers = vec_capacity d.numbers - most_bound;
-  messages = d.messages.capacity - 1;
+  messages = d.tray.messages.capacity - 1;
   hand = d.hand.capacity;
   places = d.places;
 }
@@ -38,7 +38,7 @@ layout_of d = record {
 abbrev pub room_of : List Held → FileDesk → Room
 room_of p d = record {
   slots = spare p;
-  places = d.places - length d.sent.items;
+  places = d.places - length d.tray.sent.items;
   hand = d.hand.capacity - length d.hand.items;
 }
 
@@ -48,6 +48,6 @@ pub record IsReady (b : Begun) (p : List Held) (d : FileDesk) : Type 0 where
   pub layout : layout_of d ≡ b.layout
   pub fits : StockFits b.layout (stock_of d)
   pub numbers : most_bound ≤ vec_capacity d.numbers
-  pub messages : 1 ≤ d.messages.capacity
+  pub messages : 1 ≤ d.tray.messages.capacity
   pub forms : forms_of d ≡ b.forms
-  pub sent : SentGrows b.refs b.list d.first d.places d.sent
+  pub sent : SentGrows b.refs b.list d.first d.places d.tray.sent

@@ -36,24 +36,23 @@ pub record IsAtRest (layer : LayerTree) (p : List Held) (d : FileDesk) : Type 0 
   pub cells : AllByRecursion CellFits d.cells.cells
   pub forms : IsFor layer d.cells
   pub numbers : d.numbers.items ≡ []
-  pub messages : d.messages.items ≡ []
-  pub arrived : d.arrived ≡ None
+  pub messages : d.tray.messages.items ≡ []
+  pub arrived : d.tray.arrived ≡ None
   pub hand : d.hand.items ≡ []
-  pub sent : d.sent.items ≡ []
+  pub sent : d.tray.sent.items ≡ []
   pub numbers_room : most_bound ≤ vec_capacity d.numbers
-  pub messages_room : 1 ≤ d.messages.capacity
+  pub messages_room : 1 ≤ d.tray.messages.capacity
   pub few : KeepsFew (layout_of d)
   pub made : IsMadeFor layer (layout_of d)
 
 -- A desk on which an event's message is laid, and that adds what it sends to a list.
 abbrev pub begins : Option PoolMessage → Buffer (Dir × PoolEvent) → FileDesk → FileDesk
 begins message out d = record d {
-  arrived = message;
-  sent = out;
+  tray = record { arrived = message; messages = d.tray.messages; sent = out };
   first = length out.items;
   places = out.capacity;
 }
 
 -- A desk with another list of what is sent, to which it adds nothing.
 abbrev pub ends : Buffer (Dir × PoolEvent) → FileDesk → FileDesk
-ends none d = record d { sent = none; first = 0; places = 0 }
+ends none d = record d { tray = record d.tray { sent = none }; first = 0; places = 0 }

@@ -17,7 +17,7 @@ impl Desk for FileDesk {
 
     ghost layout = { layout_of };
 
-    ghost list = { λ d. d.sent.capacity };
+    ghost list = { λ d. d.tray.sent.capacity };
 
     ghost forms = { forms_of };
 
@@ -188,6 +188,17 @@ impl Desk for FileDesk {
         slot: u8,
     ) -> Result<(), NoRoom> {
         sends::send_local::<K>(self, pool, direction, envelope, header, slot)
+    }
+
+    fn send_local_and_leave<K: Start>(
+        &mut self,
+        pool: &mut Pool,
+        direction: Dir,
+        envelope: Envelope,
+        header: Header,
+        slot: u8,
+    ) -> Result<(), NoRoom> {
+        sends::send_local_and_leave::<K>(self, pool, direction, envelope, header, slot)
     }
 
     fn pop_header<K: Start>(&mut self, pool: &Pool) -> Option<Header> {

@@ -1,6 +1,6 @@
 //! Blocks that are entered.
 
-ghost use Rattle.std.specs.Prelude.{◌≡◌, ◌+◌, ◌≤◌, ◌++◌, None, length, OnOk, vec_capacity};
+ghost use Rattle.std.specs.Prelude.{◌≡◌, ◌+◌, ◌≤◌, [], ◌++◌, None, length, OnOk, vec_capacity};
 ghost use Rattle.layer_mean.specs.Event.{arguments};
 ghost use Rattle.layer_desk.specs.Laid.{event_in, enters};
 ghost use Rattle.layer_desk.specs.Need.{entry_need};
@@ -72,36 +72,36 @@ fn bind_numbers<K: Start>(
     ensures ready { IsReady K.begun pool.now desk.new }
     ensures shown { laid pool.now (stock_of desk.new) ≡ with_numbers (entry_numbers envelope fields.now count) (laid pool.now (stock_of desk.old)) }
     ensures free { room_of pool.now desk.new ≡ room_of pool.now desk.old }
-    ensures messages { desk.new.messages ≡ desk.old.messages }
-    ensures arrived { desk.new.arrived ≡ desk.old.arrived }
+    ensures messages { desk.new.tray.messages ≡ desk.old.tray.messages }
+    ensures arrived { desk.new.tray.arrived ≡ desk.old.tray.arrived }
 {
     fill_numbers(&mut desk.numbers, envelope, fields, count);
 }
 
-/// Puts the message that arrived behind those of the scope.
+/// The message that arrived comes into the scope, which is empty.
 fn bind_arrived<K: Start>(desk: &mut FileDesk, pool: &Pool)
     requires ready { IsReady K.begun pool.now desk.old }
-    requires room { length desk.old.messages.items + 1 ≤ desk.old.messages.capacity }
-    requires short { IsShortIf desk.old.arrived }
+    requires empty { desk.old.tray.messages.items ≡ [] }
+    requires short { IsShortIf desk.old.tray.arrived }
     ensures ready { IsReady K.begun pool.now desk.new }
     ensures shown { laid pool.now (stock_of desk.new) ≡ with_arrived (laid pool.now (stock_of desk.old)) }
     ensures free { room_of pool.now desk.new ≡ room_of pool.now desk.old }
-    ensures count { length desk.new.messages.items ≤ length desk.old.messages.items + 1 }
-    ensures capacity { desk.new.messages.capacity ≡ desk.old.messages.capacity }
+    ensures count { length desk.new.tray.messages.items ≤ 1 }
+    ensures capacity { desk.new.tray.messages.capacity ≡ desk.old.tray.messages.capacity }
 {
-    desk.arrived.go_behind(&mut desk.messages);
+    desk.tray.bind();
 }
 
 /// Puts so many messages without bytes behind those of the scope.
 fn bind_bare<K: Start>(desk: &mut FileDesk, pool: &Pool, count: u8)
     requires ready { IsReady K.begun pool.now desk.old }
-    requires room { length desk.old.messages.items + count ≤ desk.old.messages.capacity }
+    requires room { length desk.old.tray.messages.items + count ≤ desk.old.tray.messages.capacity }
     ensures ready { IsReady K.begun pool.now desk.new }
     ensures shown { laid pool.now (stock_of desk.new) ≡ with_bare count (laid pool.now (stock_of desk.old)) }
     ensures free { room_of pool.now desk.new ≡ room_of pool.now desk.old }
 {
     for _ in 0..count {
-        desk.messages.push_bare();
+        desk.tray.push_message();
     }
 }
 
@@ -122,7 +122,7 @@ pub(crate) fn enter<K: Start>(
     if desk.numbers.capacity() - MOST_BOUND < usize::from(numbers) {
         return Err(NoRoom::Misfit);
     }
-    if desk.messages.capacity() - 1 < usize::from(messages) {
+    if desk.tray.messages_places() - 1 < usize::from(messages) {
         return Err(NoRoom::Misfit);
     }
     if arrived_headers(desk, pool) > MOST_ABOVE {

@@ -4,7 +4,7 @@ ghost use Rattle.std.specs.Prelude.{◌≡◌, []};
 ghost use Rattle.layer_desk.specs.Laid.{left};
 ghost use Rattle.layer_desk.specs.Need.{nothing_needed};
 ghost use Rattle.layer_desk.specs.Spent.{SpentAtMost};
-ghost use Rattle.file_layer.specs.Scope.{without_messages};
+ghost use Rattle.file_layer.specs.Scope.{without_messages, with_messages_alone};
 ghost use Rattle.file_layer.specs.Stock.{laid};
 ghost use Rattle.file_layer.specs.Ready.{stock_of, room_of, IsReady};
 
@@ -18,10 +18,21 @@ pub(crate) fn forget_messages<K: Start>(desk: &mut FileDesk, pool: &mut Pool)
     ensures ready { IsReady K.begun pool.new desk.new }
     ensures shown { laid pool.new (stock_of desk.new) ≡ without_messages (laid pool.old (stock_of desk.old)) }
     ensures spent { SpentAtMost (room_of pool.old desk.old) (room_of pool.new desk.new) nothing_needed }
-    ensures empty { desk.new.messages.items ≡ [] }
-    ensures places { (desk.new.messages.capacity ≡ desk.old.messages.capacity) × (desk.new.numbers ≡ desk.old.numbers) × (desk.new.arrived ≡ desk.old.arrived) }
+    ensures empty { desk.new.tray.messages.items ≡ [] }
+    ensures places { (desk.new.tray.messages.capacity ≡ desk.old.tray.messages.capacity) × (desk.new.numbers ≡ desk.old.numbers) × (desk.new.tray.arrived ≡ desk.old.tray.arrived) }
 {
-    desk.messages.clear(pool);
+    desk.tray.clear_messages(pool);
+}
+
+/// Lets the numbers of the scope go, and gives what arrived back.
+pub(crate) fn forget_rest<K: Start>(desk: &mut FileDesk, pool: &mut Pool)
+    requires { IsReady K.begun pool.old desk.old }
+    ensures ready { IsReady K.begun pool.new desk.new }
+    ensures shown { laid pool.new (stock_of desk.new) ≡ with_messages_alone (laid pool.old (stock_of desk.old)) }
+    ensures spent { SpentAtMost (room_of pool.old desk.old) (room_of pool.new desk.new) nothing_needed }
+{
+    desk.numbers.clear();
+    desk.tray.drop_arrived(pool);
 }
 
 pub(crate) fn leave<K: Start>(desk: &mut FileDesk, pool: &mut Pool)
@@ -31,6 +42,5 @@ pub(crate) fn leave<K: Start>(desk: &mut FileDesk, pool: &mut Pool)
     ensures spent { SpentAtMost (room_of pool.old desk.old) (room_of pool.new desk.new) nothing_needed }
 {
     forget_messages::<K>(desk, pool);
-    desk.numbers.clear();
-    desk.arrived.let_go(pool);
+    forget_rest::<K>(desk, pool);
 }

@@ -33,7 +33,7 @@ pub(crate) fn lift<K: Start>(desk: &mut FileDesk, pool: &mut Pool, slot: u8) -> 
     if desk.hand.len() >= desk.hand.capacity() {
         return Err(NoRoom::Hand);
     }
-    match desk.messages.get(usize::from(slot)) {
+    match desk.tray.message(usize::from(slot)) {
         Some(message) => {
             desk.hand.push_kept(message, pool);
             Ok(())

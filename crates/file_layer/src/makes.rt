@@ -17,75 +17,37 @@ ghost use Rattle.file_layer.specs.Stock.{kept_refs};
 use crate::desk::{FileDesk, MOST_BOUND, MOST_OWN, MOST_ROWS};
 use cell_store::{Cells, MOST_MEMBERS};
 use layer_room::{Reserve, reserve_for};
-use pool_message::{Arrival, Events, Messages, PoolRow};
+use pool_message::{Messages, PoolRow, Tray};
 use slot_pool::{Memory, Pool};
 use std::alloc::{AllocError, Global};
 use typed_layer::{Cell, Form, TypedLayer};
 
-/// Where messages lie, and a list of what is sent that keeps nothing.
+/// Where messages lie, and what is sent.
 struct Lists {
-    messages: Messages,
-    arrived: Arrival,
+    tray: Tray,
     hand: Messages,
-    sent: Events,
-}
-
-/// Places for the messages of a scope, and as many for what arrives.
-fn fresh_scope(alloc: Global, places: usize) -> Result<(Messages, Arrival), Memory>
-    requires { 1 ≤ places }
-    ensures { IfOk result (λ l. (l.0 ≡ buffer [] places) × (l.1 ≡ None)) }
-{
-    let messages = Messages::fresh(alloc, places)?;
-    match Arrival::fresh(alloc, places) {
-        Ok(arrived) => Ok((messages, arrived)),
-        Err(error) => {
-            messages.close();
-            Err(error)
-        }
-    }
 }
 
 impl Lists {
     fn fresh(alloc: Global, messages: usize, hand: usize) -> Result<Lists, Memory>
-        requires { 1 ≤ messages }
-        ensures { IfOk result (λ l. (l.messages ≡ buffer [] messages) × (l.arrived ≡ None) × (l.hand ≡ buffer [] hand) × (l.sent ≡ buffer [] 0)) }
+        ensures { IfOk result (λ l. (l.tray ≡ record { arrived = None; messages = buffer [] messages; sent = buffer [] 0 }) × (l.hand ≡ buffer [] hand)) }
     {
-        let sent = Events::fresh(alloc, 0)?;
-        match fresh_scope(alloc, messages) {
-            Ok((messages, arrived)) => match Messages::fresh(alloc, hand) {
-                Ok(hand) => Ok(Lists {
-                    messages,
-                    arrived,
-                    hand,
-                    sent,
-                }),
-                Err(error) => {
-                    messages.close();
-                    arrived.close();
-                    sent.close();
-                    Err(error)
-                }
-            },
+        let tray = Tray::fresh(alloc, messages)?;
+        match Messages::fresh(alloc, hand) {
+            Ok(hand) => Ok(Lists { tray, hand }),
             Err(error) => {
-                sent.close();
+                tray.close();
                 Err(error)
             }
         }
     }
 
     fn close(self)
-        requires { (self.messages.items ≡ []) × (self.arrived ≡ None) × (self.hand.items ≡ []) × (self.sent.items ≡ []) }
+        requires { (self.tray.arrived ≡ None) × (self.tray.messages.items ≡ []) × (self.tray.sent.items ≡ []) × (self.hand.items ≡ []) }
     {
-        let Lists {
-            messages,
-            arrived,
-            hand,
-            sent,
-        } = self;
-        messages.close();
-        arrived.close();
+        let Lists { tray, hand } = self;
+        tray.close();
         hand.close();
-        sent.close();
     }
 }
 
@@ -151,19 +113,12 @@ pub(crate) fn make(
     )?;
     match Cells::fresh(alloc, layer, me, count, ltime) {
         Ok(cells) => {
-            let Lists {
-                messages,
-                arrived,
-                hand,
-                sent,
-            } = lists;
+            let Lists { tray, hand } = lists;
             Ok(FileDesk {
                 cells,
                 numbers,
-                messages,
-                arrived,
+                tray,
                 hand,
-                sent,
                 first: 0,
                 places: 0,
             })
@@ -216,20 +171,13 @@ pub(crate) fn close(desk: FileDesk, pool: &mut Pool, layer: &TypedLayer)
     let FileDesk {
         mut cells,
         numbers: _,
-        messages,
-        arrived,
+        tray,
         hand,
-        sent,
         first: _,
         places: _,
     } = desk;
     give_rows_back(&mut cells, pool);
     cells.destroy();
-    let lists = Lists {
-        messages,
-        arrived,
-        hand,
-        sent,
-    };
+    let lists = Lists { tray, hand };
     lists.close();
 }

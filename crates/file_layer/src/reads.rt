@@ -103,7 +103,7 @@ pub(crate) fn local_size<K: Start>(desk: &FileDesk, pool: &Pool, slot: u8) -> u3
     requires { IsReady K.begun pool.now desk.now }
     ensures { result ≡ length (slice_index_or (laid pool.now (stock_of desk.now)).scope.messages slot (plain [])).body }
 {
-    match desk.messages.get(usize::from(slot)) {
+    match desk.tray.message(usize::from(slot)) {
         Some(message) => message.len(),
         None => 0,
     }

@@ -1,25 +1,28 @@
 //! What a desk sends, and the message that arrived.
 
-ghost use Rattle.std.specs.Prelude.{◌≡◌, ◌<◌, [], ◌∷◌, ◌++◌, length, slice_index_or, None, Some, option_map, OnOk};
+ghost use Rattle.std.specs.Prelude.{◌≡◌, ◌<◌, [], length, slice_get, slice_index_or, None, Some, option_map, OnOk};
 ghost use Rattle.std.specs.List.{AllByRecursion};
 ghost use Rattle.circular_buffer.specs.Buffer.{buffer};
 ghost use Rattle.msg_core.specs.Chain.{plain};
 ghost use Rattle.layer_mean.specs.Effect.{sent_as};
-ghost use Rattle.layer_desk.specs.Laid.{event_in, sends, sends_first, first_header, header_popped, passes_on};
+ghost use Rattle.layer_desk.specs.Laid.{event_in, sends, sends_first, first_header, header_popped, passes_on, left};
 ghost use Rattle.layer_desk.specs.Need.{one_place, headers_of, passing_need};
-ghost use Rattle.layer_desk.specs.Spent.{Spent};
+ghost use Rattle.layer_desk.specs.Spent.{Spent, SpentAtMost};
 ghost use Rattle.pool_message.specs.Seen.{seen_if, bodiless};
 ghost use Rattle.pool_message.specs.Sent.{sent_behind};
+ghost use Rattle.pool_message.specs.Tray.{also_sent};
 ghost use Rattle.file_layer.specs.Fits.{IsShort, IsShortIf};
+ghost use Rattle.file_layer.specs.Scope.{without_messages};
 ghost use Rattle.file_layer.specs.Sent.{last_behind};
-ghost use Rattle.file_layer.specs.Stock.{laid, pool_event};
+ghost use Rattle.file_layer.specs.Stock.{laid};
 ghost use Rattle.file_layer.specs.Ready.{stock_of, room_of, IsReady};
 
 use crate::desk::{FileDesk, MOST_ABOVE};
+use crate::leaves::{forget_rest, leave};
 use layer_ast::Dir;
 use layer_desk::{Envelope, NoRoom, Start};
 use msg_core::Header;
-use pool_message::{Arrival, Events, Messages, Place, PoolMessage};
+use pool_message::{Messages, Place, PoolMessage, Tray};
 use slot_pool::Pool;
 
 /// The newest message in hand becomes as it is sent, where it lies: going down it gets a header.
@@ -34,17 +37,16 @@ fn put_last_behind(direction: Dir, header: Header, hand: &mut Messages)
 }
 
 /// A message that arrived becomes as it is sent, where it lies.
-fn put_behind(direction: Dir, header: Header, arrived: &mut Arrival)
-    requires { IsShortIf arrived.old }
-    ensures { arrived.new ≡ option_map (sent_behind direction header) arrived.old }
+fn put_behind(direction: Dir, header: Header, tray: &mut Tray)
+    requires { IsShortIf tray.old.arrived }
+    ensures { tray.new ≡ record tray.old { arrived = option_map (sent_behind direction header) tray.old.arrived } }
 {
     match direction {
         Dir::Up => {}
-        Dir::Down => arrived.push_header(header),
+        Dir::Down => tray.push_header(header),
     }
 }
 
-#[tactic(auto, using(crate::proofs::ReadySent::sent_grows))]
 pub(crate) fn send<K: Start>(
     desk: &mut FileDesk,
     pool: &Pool,
@@ -56,10 +58,10 @@ pub(crate) fn send<K: Start>(
     ensures shown { OnOk result (laid pool.now (stock_of desk.new) ≡ sends direction (event_in envelope None) (laid pool.now (stock_of desk.old))) }
     ensures spent { Spent (room_of pool.now desk.old) (room_of pool.now desk.new) one_place result }
 {
-    if desk.sent.len() >= desk.places {
+    if desk.tray.len() >= desk.places {
         return Err(NoRoom::Place);
     }
-    desk.sent.push_bare(
+    desk.tray.send_bare(
         direction,
         envelope.kind,
         envelope.peer,
@@ -81,14 +83,14 @@ pub(crate) fn send_first<K: Start>(
     ensures shown { OnOk result (laid pool.now (stock_of desk.new) ≡ sends_first direction envelope header (laid pool.now (stock_of desk.old))) }
     ensures spent { Spent (room_of pool.now desk.old) (room_of pool.now desk.new) one_place result }
 {
-    if desk.sent.len() >= desk.places {
+    if desk.tray.len() >= desk.places {
         return Err(NoRoom::Place);
     }
     if desk.hand.is_empty() {
         return Ok(());
     }
     put_last_behind(direction, header, &mut desk.hand);
-    desk.sent.push_last(
+    desk.tray.send_last(
         direction,
         envelope.kind,
         envelope.peer,
@@ -112,15 +114,15 @@ fn nothing_behind(direction: Dir, header: Header) -> PoolMessage
 }
 
 /// Sends an event with a message without bytes, going down behind a header.
-fn send_nothing(sent: &mut Events, direction: Dir, envelope: Envelope, header: Header)
-    requires { length sent.old.items < sent.old.capacity }
-    ensures { sent.new ≡ buffer (sent.old.items ++ (direction, pool_event envelope (Some (sent_behind direction header (bodiless [])))) ∷ []) sent.old.capacity }
+fn send_nothing(tray: &mut Tray, direction: Dir, envelope: Envelope, header: Header)
+    requires { length tray.old.sent.items < tray.old.sent.capacity }
+    ensures { tray.new ≡ also_sent direction envelope.kind envelope.peer envelope.a envelope.b (Some (sent_behind direction header (bodiless []))) tray.old }
 {
     let mut message = nothing_behind(direction, header);
     let mut place = Place::empty();
     place.fill(&mut message);
     message.close();
-    sent.push_from(
+    tray.send_from(
         direction,
         envelope.kind,
         envelope.peer,
@@ -129,6 +131,27 @@ fn send_nothing(sent: &mut Events, direction: Dir, envelope: Envelope, header: H
         &mut place,
     );
     place.close();
+}
+
+/// Sends an event with the message of the scope that isn't there, which has no bytes, going down behind a header.
+fn send_missing<K: Start>(
+    desk: &mut FileDesk,
+    pool: &Pool,
+    direction: Dir,
+    envelope: Envelope,
+    header: Header,
+    slot: u8,
+)
+    requires ready { IsReady K.begun pool.now desk.old }
+    requires places { length desk.old.tray.sent.items < desk.old.places }
+    requires none { slice_get desk.old.tray.messages.items slot ≡ None }
+    ensures ready { IsReady K.begun pool.now desk.new }
+    ensures shown { laid pool.now (stock_of desk.new) ≡ sends direction
+        (event_in envelope (Some (sent_as direction header (slice_index_or (laid pool.now (stock_of desk.old)).scope.messages slot (plain [])))))
+        (laid pool.now (stock_of desk.old)) }
+    ensures spent { SpentAtMost (room_of pool.now desk.old) (room_of pool.now desk.new) one_place }
+{
+    send_nothing(&mut desk.tray, direction, envelope, header);
 }
 
 pub(crate) fn send_local<K: Start>(
@@ -146,28 +169,87 @@ pub(crate) fn send_local<K: Start>(
         (laid pool.old (stock_of desk.old))) }
     ensures spent { Spent (room_of pool.old desk.old) (room_of pool.new desk.new) one_place result }
 {
-    if desk.sent.len() >= desk.places {
+    if desk.tray.len() >= desk.places {
         return Err(NoRoom::Place);
     }
-    match desk.messages.get(usize::from(slot)) {
-        Some(message) => {
-            desk.sent.push_kept(
+    let place = usize::from(slot);
+    match desk.tray.message(place) {
+        Some(_message) => {
+            desk.tray.send_message(
                 direction,
                 envelope.kind,
                 envelope.peer,
                 envelope.a,
                 envelope.b,
                 header,
-                message,
+                place,
                 pool,
             );
             Ok(())
         }
         None => {
-            send_nothing(&mut desk.sent, direction, envelope, header);
+            send_missing::<K>(desk, pool, direction, envelope, header, slot);
             Ok(())
         }
     }
+}
+
+/// Sends an event with a message of the scope, going down behind a header, and gives all others of the scope back.
+fn send_last_local<K: Start>(
+    desk: &mut FileDesk,
+    pool: &mut Pool,
+    direction: Dir,
+    envelope: Envelope,
+    header: Header,
+    slot: u8,
+)
+    requires ready { IsReady K.begun pool.old desk.old }
+    requires places { length desk.old.tray.sent.items < desk.old.places }
+    requires some { slot < length desk.old.tray.messages.items }
+    ensures ready { IsReady K.begun pool.new desk.new }
+    ensures shown { laid pool.new (stock_of desk.new) ≡ without_messages (sends direction
+        (event_in envelope (Some (sent_as direction header (slice_index_or (laid pool.old (stock_of desk.old)).scope.messages slot (plain [])))))
+        (laid pool.old (stock_of desk.old))) }
+    ensures spent { SpentAtMost (room_of pool.old desk.old) (room_of pool.new desk.new) one_place }
+{
+    desk.tray.send_and_clear(
+        direction,
+        envelope.kind,
+        envelope.peer,
+        envelope.a,
+        envelope.b,
+        header,
+        usize::from(slot),
+        pool,
+    );
+}
+
+pub(crate) fn send_local_and_leave<K: Start>(
+    desk: &mut FileDesk,
+    pool: &mut Pool,
+    direction: Dir,
+    envelope: Envelope,
+    header: Header,
+    slot: u8,
+) -> Result<(), NoRoom>
+    requires { IsReady K.begun pool.old desk.old }
+    ensures ready { IsReady K.begun pool.new desk.new }
+    ensures shown { OnOk result (laid pool.new (stock_of desk.new) ≡ left (sends direction
+        (event_in envelope (Some (sent_as direction header (slice_index_or (laid pool.old (stock_of desk.old)).scope.messages slot (plain [])))))
+        (laid pool.old (stock_of desk.old)))) }
+    ensures spent { Spent (room_of pool.old desk.old) (room_of pool.new desk.new) one_place result }
+{
+    if desk.tray.len() >= desk.places {
+        return Err(NoRoom::Place);
+    }
+    if desk.tray.has_message(usize::from(slot)) {
+        send_last_local::<K>(desk, pool, direction, envelope, header, slot);
+        forget_rest::<K>(desk, pool);
+    } else {
+        send_missing::<K>(desk, pool, direction, envelope, header, slot);
+        leave::<K>(desk, pool);
+    }
+    Ok(())
 }
 
 pub(crate) fn pop_header<K: Start>(desk: &mut FileDesk, pool: &Pool) -> Option<Header>
@@ -177,20 +259,19 @@ pub(crate) fn pop_header<K: Start>(desk: &mut FileDesk, pool: &Pool) -> Option<H
     ensures shown { laid pool.now (stock_of desk.new) ≡ header_popped (laid pool.now (stock_of desk.old)) }
     ensures free { room_of pool.now desk.new ≡ room_of pool.now desk.old }
 {
-    desk.arrived.pop_header()
+    desk.tray.pop_header()
 }
 
 /// How many headers the message has that arrived.
 pub(crate) fn arrived_headers(desk: &FileDesk, pool: &Pool) -> u32
-    ensures { result ≡ headers_of (seen_if pool.now desk.now.arrived) }
+    ensures { result ≡ headers_of (seen_if pool.now desk.now.tray.arrived) }
 {
-    match desk.arrived.get() {
+    match desk.tray.arrived() {
         Some(message) => message.headers().len(),
         None => 0,
     }
 }
 
-#[tactic(auto, using(crate::proofs::ReadySent::sent_grows))]
 pub(crate) fn pass_on<K: Start>(
     desk: &mut FileDesk,
     pool: &Pool,
@@ -203,20 +284,19 @@ pub(crate) fn pass_on<K: Start>(
     ensures shown { OnOk result (laid pool.now (stock_of desk.new) ≡ passes_on direction envelope header (laid pool.now (stock_of desk.old))) }
     ensures spent { Spent (room_of pool.now desk.old) (room_of pool.now desk.new) (passing_need (laid pool.now (stock_of desk.old)).arrived) result }
 {
-    if desk.sent.len() >= desk.places {
+    if desk.tray.len() >= desk.places {
         return Err(NoRoom::Place);
     }
     if arrived_headers(desk, pool) > MOST_ABOVE {
         return Err(NoRoom::Headers);
     }
-    put_behind(direction, header, &mut desk.arrived);
-    desk.sent.push_arrived(
+    put_behind(direction, header, &mut desk.tray);
+    desk.tray.send_arrived(
         direction,
         envelope.kind,
         envelope.peer,
         envelope.a,
         envelope.b,
-        &mut desk.arrived,
     );
     Ok(())
 }

@@ -20,7 +20,7 @@ use crate::desk::{FileDesk, MOST_ABOVE};
 use cell_store::Cells;
 use layer_desk::{NoRoom, Start};
 use msg_core::Fields;
-use pool_message::{Messages, PoolMessage, PoolRow, give_back_if_any};
+use pool_message::{PoolMessage, PoolRow, Tray, give_back_if_any};
 use slot_pool::Pool;
 use typed_layer::{Blank, Carried, Taken};
 
@@ -102,23 +102,23 @@ pub(crate) fn lift_row<K: Start>(
 
 /// The message of a taken row, or the one that stands in for it, takes the place of one of the scope, whose reference goes back.
 fn put_message(
-    messages: &mut Messages,
+    tray: &mut Tray,
     slot: u8,
     message: Option<PoolMessage>,
     carried: Carried,
     pool: &mut Pool,
 )
     requires blank { CanStandIn carried }
-    requires there { Covers pool.old (refs (slice_index_or messages.old.items slot (message_left (carried_tree carried) message))) }
-    ensures set { messages.new ≡ buffer (slice_set messages.old.items slot (message_left (carried_tree carried) message)) messages.old.capacity }
-    ensures returned { Returned pool.old pool.new (refs (slice_index_or messages.old.items slot (message_left (carried_tree carried) message))) }
+    requires there { Covers pool.old (refs (slice_index_or tray.old.messages.items slot (message_left (carried_tree carried) message))) }
+    ensures set { tray.new ≡ record tray.old { messages = buffer (slice_set tray.old.messages.items slot (message_left (carried_tree carried) message)) tray.old.messages.capacity } }
+    ensures returned { Returned pool.old pool.new (refs (slice_index_or tray.old.messages.items slot (message_left (carried_tree carried) message))) }
 {
     match message {
         Some(mut message) => {
-            messages.replace_from(slot as usize, &mut message, pool);
+            tray.replace_from(slot as usize, &mut message, pool);
             message.close();
         }
-        None => messages.replace(slot as usize, stand_in(carried), pool),
+        None => tray.replace(slot as usize, stand_in(carried), pool),
     }
 }
 
@@ -173,7 +173,7 @@ pub(crate) fn take<K: Start>(
     set_numbers(&mut desk.numbers, &taken.numbers, &numbers);
     match taken.message {
         Some(slot) => {
-            put_message(&mut desk.messages, slot.slot, message, slot.carried, pool);
+            put_message(&mut desk.tray, slot.slot, message, slot.carried, pool);
             Ok(true)
         }
         None => {

@@ -1,6 +1,6 @@
 //! A visit of a layer at its desk.
 
-ghost use Rattle.std.specs.Prelude.{◌≡◌, ◌+◌, ◌<◌, ◌≤◌, ◌++◌, None, length};
+ghost use Rattle.std.specs.Prelude.{◌≡◌, ◌+◌, ◌-◌, ◌<◌, ◌≤◌, [], ◌++◌, None, length};
 ghost use Rattle.circular_buffer.specs.Buffer.{buffer};
 ghost use Rattle.slot_pool.specs.Held.{spare};
 ghost use Rattle.slot_pool.specs.References.{Moved, Covers};
@@ -22,7 +22,6 @@ use layer_desk::Envelope;
 use layer_eval::{Predicted, take_event};
 use pool_message::Events;
 use slot_pool::Pool;
-use std::mem;
 use typed_layer::TypedLayer;
 
 /// The way of the first event, and its kind and numbers.
@@ -44,29 +43,30 @@ fn first_envelope(events: &Events) -> (Dir, Envelope)
     }
 }
 
-/// Lays the message of the first event on the desk. That event goes, and the desk adds what it sends to the others.
+/// Lays the first event on the desk, with its message. What the desk sends comes behind the others.
 fn begin(desk: &mut FileDesk, events: &mut Events)
     requires some { 0 < length events.old.items }
-    requires none { desk.old.arrived ≡ None }
-    ensures desk { desk.new ≡ begins (first_sent events.old.items).1.message (buffer (behind_first events.old.items) events.old.capacity) desk.old }
-    ensures events { events.new ≡ desk.old.sent }
-    ensures within { length (behind_first events.old.items) ≤ events.old.capacity }
-    ensures few { events.old.capacity ≤ most_events }
+    requires idle { (desk.old.tray.arrived ≡ None) × (desk.old.tray.messages.items ≡ []) }
+    ensures desk { desk.new ≡ begins (first_sent events.old.items).1.message (buffer (behind_first events.old.items) (events.old.capacity - 1)) desk.old }
+    ensures events { events.new ≡ buffer desk.old.tray.sent.items (desk.old.tray.sent.capacity + 1) }
+    ensures within { length (behind_first events.old.items) ≤ events.old.capacity - 1 }
+    ensures few { events.old.capacity - 1 ≤ most_events }
 {
-    events.take_first(&mut desk.arrived);
-    desk.first = events.len();
-    desk.places = events.places();
-    mem::swap(&mut desk.sent, events);
+    desk.first = events.len() - 1;
+    desk.places = events.places() - 1;
+    desk.tray.begin(events);
 }
 
 /// Takes what was sent off the desk.
 fn end(desk: &mut FileDesk, events: &mut Events)
-    ensures desk { desk.new ≡ ends events.old desk.old }
-    ensures events { events.new ≡ desk.old.sent }
+    requires places { 1 ≤ events.old.capacity }
+    requires idle { (desk.old.tray.arrived ≡ None) × (desk.old.tray.messages.items ≡ []) }
+    ensures desk { desk.new ≡ ends (buffer events.old.items (events.old.capacity - 1)) desk.old }
+    ensures events { events.new ≡ buffer desk.old.tray.sent.items (desk.old.tray.sent.capacity + 1) }
 {
     desk.first = 0;
     desk.places = 0;
-    mem::swap(&mut desk.sent, events);
+    desk.tray.end(events);
 }
 
 /// The layer at a place takes the first of the events at its desk. That one goes, and what the layer sends comes behind the others.
@@ -86,7 +86,7 @@ pub(crate) fn visit(
     requires counts { CountsWithin most_counted pool.old }
     requires headers { headers_met (first_way events.old.items) (first_seen pool.old events.old.items) ≤ most_above }
     requires slots { slots_needed (layer_tree layer.now) (first_way events.old.items) (first_seen pool.old events.old.items) ≤ spare pool.old }
-    requires places { length (behind_first events.old.items)
+    requires places { length events.old.items
         + places_needed (layer_tree layer.now) (first_way events.old.items) (first_seen pool.old events.old.items) ≤ events.old.capacity }
     ensures state { state_of (row_seen pool.new) desk.new.cells ≡
         (step place (layer_tree layer.now) (state_of (row_seen pool.old) desk.old.cells) (first_way events.old.items) (first_seen pool.old events.old.items)).state }

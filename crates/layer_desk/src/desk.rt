@@ -281,6 +281,23 @@ pub trait Desk {
             (shown pool.old self.old)) }
         ensures spent { Spent (free pool.old self.old) (free pool.new self.new) one_place result };
 
+    /// The same, and what the visit leaves behind is let go, as `leave` does it. The message goes on from where it lies, since the scope doesn't
+    /// keep it.
+    fn send_local_and_leave<K: Start>(
+        &mut self,
+        pool: &mut Pool,
+        direction: Dir,
+        envelope: Envelope,
+        header: Header,
+        slot: u8,
+    ) -> Result<(), NoRoom>
+        requires { ready K.begun pool.old self.old }
+        ensures ready { ready K.begun pool.new self.new }
+        ensures shown { OnOk result (shown pool.new self.new ≡ left (sends direction
+            (event_in envelope (Some (sent_as direction header (slice_index_or (shown pool.old self.old).scope.messages slot (plain [])))))
+            (shown pool.old self.old))) }
+        ensures spent { Spent (free pool.old self.old) (free pool.new self.new) one_place result };
+
     /// Takes the first header off the message that arrived.
     fn pop_header<K: Start>(&mut self, pool: &Pool) -> Option<Header>
         requires { ready K.begun pool.now self.old }

@@ -1,19 +1,21 @@
 -- Messages one behind the other: the last one is changed, or goes, and another takes the place of one.
-use Rattle.std.proofs.Common.{◌≡◌, ℕ, zero, suc, ◌+◌, ◌-◌, ◌<◌, ◌≤◌, ◌==◌, Bool, true, List, [], ◌∷◌, ◌++◌, set, get_or, take, length, refl, sym, ap, ◌∙◌, arith}
-use Rattle.std.specs.Prelude.{slice_get, Option, None, option_map, option_to_list}
-use Rattle.std.proofs.lemmas.Bool.{eqb-true}
-use Rattle.std.proofs.lemmas.List.{append-nil}
-use Rattle.std.proofs.Math.Seq.{take-set-lt}
-use Rattle.circular_buffer.specs.Buffer.{Buffer, buffer, last_item}
+use Rattle.std.proofs.Common.{◌≡◌, ℕ, zero, suc, ◌+◌, ◌-◌, ◌<◌, ◌≤◌, List, [], ◌∷◌, ◌++◌, set, get_or, take, length, refl, sym, ap, ◌∙◌, arith}
+use Rattle.std.specs.Prelude.{slice_get, Some}
+use Rattle.std.proofs.lemmas.List.{length-append}
+use Rattle.std.proofs.Math.Seq.{take-append_seam, take-set-lt}
+use Rattle.circular_buffer.specs.Buffer.{last_item}
+use Rattle.circular_buffer.proofs.Places.{slice_get-last}
 use Rattle.slot_pool.specs.Held.{Held}
 use Rattle.slot_pool.specs.References.{Moved, Covers}
 use Rattle.slot_pool.specs.Times.{times}
 use Rattle.slot_pool.proofs.Times.{times-append}
 use Rattle.slot_pool.proofs.References.{moved-chain, moved-beside, moved-reordered}
-use Rattle.pool_message.specs.Moves.{Returned}
+use Rattle.pool_message.specs.Moves.{Kept, Returned}
 use Rattle.pool_message.specs.Piled.{pile_refs, without_last, last_changed}
-use Rattle.pool_message.specs.Seen.{refs, refs_if}
+use Rattle.pool_message.specs.Seen.{refs, refs_if, bodiless}
+use Rattle.pool_message.specs.Tray.{message_in}
 use Rattle.pool_message.specs.declared.message.PoolMessage.{PoolMessage}
+use Rattle.pool_message.proofs.Lists.{covers_front, covers_behind}
 
 -- references are those of the last, and of the others
 parted_at : (ms : List PoolMessage) (n i : ℕ) → n + 1 ≡ length ms →
@@ -61,40 +63,19 @@ changed_last f ms n d m some few is =
     ap (λ j. take j (set ms (n - 1) m)) one ∙ changed_at f ms (n - 1) d m (omega (arith, some, few)) is
     ∙ sym (ap (λ j. last_changed f (take j ms)) one)
 
--- one message or none
-pub one_changed : (f : PoolMessage → PoolMessage) (ms : List PoolMessage) → length ms ≤ 1 →
-    (slice_get (last_changed f ms) 0 ≡ option_map f (slice_get ms 0)) × (length (last_changed f ms) ≤ 1)
-one_changed f [] few = (refl, omega arith)
-one_changed f (m ∷ []) few = (refl, omega arith)
-one_changed f (m ∷ m' ∷ ms) few = absurd (omega (arith, few))
+-- one comes behind others
+pub last_more : (xs : List PoolMessage) (m : PoolMessage) → last_item (xs ++ m ∷ []) ≡ Some m
+last_more xs m = slice_get-last xs m (length (xs ++ m ∷ []) - 1) (omega (arith, length-append xs (m ∷ [])))
 
-pub one_refs : (ms : List PoolMessage) → length ms ≤ 1 → pile_refs ms ≡ refs_if (slice_get ms 0)
-one_refs [] few = refl
-one_refs (m ∷ []) few = append-nil (refs m)
-one_refs (m ∷ m' ∷ ms) few = absurd (omega (arith, few))
+pub rest_more : (xs : List PoolMessage) (m : PoolMessage) → without_last (xs ++ m ∷ []) ≡ xs
+rest_more xs m =
+    let less : length (xs ++ m ∷ []) - 1 ≡ length xs = omega (arith, length-append xs (m ∷ [])) in
+    ap (λ n. take n (xs ++ m ∷ [])) less ∙ take-append_seam xs (m ∷ [])
 
-pub one_listed : (ms : List PoolMessage) → length ms ≤ 1 → ms ≡ option_to_list (slice_get ms 0)
-one_listed [] few = refl
-one_listed (m ∷ []) few = refl
-one_listed (m ∷ m' ∷ ms) few = absurd (omega (arith, few))
-
-pub none_there : (ms : List PoolMessage) → slice_get ms 0 ≡ None → ms ≡ []
-none_there [] none = refl
-none_there (m ∷ ms) none = absurd (cc)
-
--- the one there is comes to where there are none, in as many places
-empty_is : (ms : List PoolMessage) → length ms ≡ 0 → ms ≡ []
-empty_is [] is = refl
-empty_is (m ∷ ms) is = absurd (omega (arith, is))
-
-pub swapped : (one others : Buffer PoolMessage) (o : Option PoolMessage) → length one.items ≤ 1 → slice_get one.items 0 ≡ o →
-    (empty : Bool) → empty ≡ (length others.items == 0) → empty ≡ true → (m n : ℕ) → m ≡ others.capacity → n ≡ one.capacity → m ≡ n →
-    one ≡ buffer (others.items ++ option_to_list o) others.capacity
-swapped one others o few at empty is none m n theirs own same =
-    let no_others : others.items ≡ [] = empty_is others.items (eqb-true (length others.items) 0 (sym is ∙ none)) in
-    (λ j. buffer (one_listed one.items few j) ((sym own ∙ sym same ∙ theirs) j))
-    ∙ ap (λ x. buffer (option_to_list x) others.capacity) at
-    ∙ ap (λ ms. buffer (ms ++ option_to_list o) others.capacity) (sym no_others)
+pub changed_more : (f : PoolMessage → PoolMessage) (xs : List PoolMessage) (m : PoolMessage) → last_changed f (xs ++ m ∷ []) ≡ xs ++ f m ∷ []
+changed_more f [] m = refl
+changed_more f (x ∷ []) m = refl
+changed_more f (x ∷ x' ∷ xs) m = ap (λ zs. x ∷ zs) (changed_more f (x' ∷ xs) m)
 
 -- one is taken away, and another put there
 set_again : {A : Type 0} (xs : List A) (k : ℕ) (a b : A) → set (set xs k a) k b ≡ set xs k b
@@ -104,3 +85,29 @@ set_again (x ∷ xs) (suc k) a b = ap (λ zs. x ∷ zs) (set_again xs k a b)
 
 pub replaced : {A : Type 0} (xs : List A) (n k : ℕ) (a b : A) → k < n → take n (set (set xs k a) k b) ≡ set (take n xs) k b
 replaced xs n k a b lt = ap (take n) (set_again xs k a b) ∙ take-set-lt n xs k b lt
+
+-- references to one of them
+pub covers_at : (p : List Held) (ms : List PoolMessage) (k : ℕ) → k < length ms → Covers p (pile_refs ms) → Covers p (refs (message_in k ms))
+covers_at p [] k lt covers = absurd (omega (arith, lt))
+covers_at p (m ∷ ms) zero lt covers = covers_front p (refs m) (pile_refs ms) covers
+covers_at p (m ∷ ms) (suc k) lt covers = covers_at p ms k (omega (arith, lt)) (covers_behind p (refs m) (pile_refs ms) covers)
+
+-- one goes on once more, and then all of them go: so all but that one go
+times_set : (i : ℕ) (ms : List PoolMessage) (k : ℕ) → k < length ms →
+    times i (pile_refs (set ms k (bodiless []))) + times i (refs (message_in k ms)) ≡ times i (pile_refs ms)
+times_set i [] k lt = absurd (omega (arith, lt))
+times_set i (m ∷ ms) zero lt = omega (arith, times-append i (refs m) (pile_refs ms))
+times_set i (m ∷ ms) (suc k) lt =
+    let rest = times_set i ms k (omega (arith, lt)) in
+    omega (arith, rest, times-append i (refs m) (pile_refs ms), times-append i (refs m) (pile_refs (set ms k (bodiless []))))
+
+pub sent_cleared : (p q r : List Held) (ms : List PoolMessage) (k : ℕ) → k < length ms → Kept p q (refs (message_in k ms)) → Returned q r (pile_refs ms) →
+    Returned p r (pile_refs (set ms k (bodiless [])))
+sent_cleared p q r ms k lt kept gone = record {
+  moved = record {
+    slots = gone.moved.slots ∙ kept.moved.slots;
+    counts = λ i. omega (arith, kept.moved.counts i, gone.moved.counts i, times_set i ms k lt);
+    kept = λ i few. gone.moved.kept i (omega (arith, few, kept.moved.counts i, times_set i ms k lt)) ∙ kept.moved.kept i (omega (arith, few));
+  };
+  slots = omega (arith, kept.slots, gone.slots);
+}

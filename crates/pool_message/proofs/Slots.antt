@@ -271,17 +271,11 @@ module _ (xs : List (Dir × PoolEvent)) (order free : List ℕ) (k : ℕ) (parte
       ∙ first_stands xs (drop 1 order) free k y ahead
       ∙ sym (ap (λ o. y ∷ drop 1 (standing xs o)) (front_of order k at))
 
-  pub rest_stands : standing xs (drop 1 order) ≡ drop 1 (standing xs order)
-  rest_stands = sym (ap (λ o. drop 1 (standing xs o)) (front_of order k at))
-
   pub front_ended : (slot_at xs k).1.message ≡ None → AreParted xs (drop 1 order) (free ++ k ∷ [])
   front_ended none = first_ended xs (drop 1 order) free k (first_sent []) ahead none
 
   pub front_round : AreParted xs (drop 1 order ++ k ∷ []) free
   front_round = goes_round xs (drop 1 order) free k (first_sent []) ahead
-
-  pub round_stands : standing xs (drop 1 order ++ k ∷ []) ≡ drop 1 (standing xs order) ++ first_sent (standing xs order) ∷ []
-  round_stands = map-append (slot_at xs) (drop 1 order) (k ∷ []) ∙ (λ j. rest_stands j ++ sym front_is j ∷ [])
 
 -- the last of the order, by its number
 split_at : (order : List ℕ) (n k : ℕ) → n + 1 ≡ length order → slice_get order n ≡ Some k → (olds : List ℕ) × (order ≡ olds ++ k ∷ [])

@@ -4,4 +4,5 @@ pub mod Put
 pub mod Seen
 pub mod Sent
 pub mod Slots
+pub mod Tray
 pub mod Lends

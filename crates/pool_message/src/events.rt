@@ -10,7 +10,6 @@ ghost use Rattle.pool_message.specs.Put.{Puts};
 ghost use Rattle.pool_message.specs.Seen.{refs, event_refs};
 ghost use Rattle.pool_message.specs.Sent.{sent_refs, most_events, first_sent, sent_behind, message_passed, CanPass};
 
-use crate::arrival::Arrival;
 use crate::event::PoolEvent;
 use crate::list::List;
 use crate::message::PoolMessage;
@@ -117,23 +116,6 @@ impl Events {
         self.list.push_from(direction, kind, peer, a, b, message);
     }
 
-    /// Puts an event of this kind, with these numbers and with the message that arrived, if there is one, behind the others. None is left there.
-    pub fn push_arrived(
-        &mut self,
-        direction: Dir,
-        kind: Kind,
-        peer: u32,
-        a: u32,
-        b: u32,
-        message: &mut Arrival,
-    )
-        requires { length self.old.items < self.old.capacity }
-        ensures pushed { self.new ≡ buffer (self.old.items ++ (direction, record { kind = kind; peer = peer; a = a; b = b; message = message.old }) ∷ []) self.old.capacity }
-        ensures left { message.new ≡ None }
-    {
-        self.list.push_arrived(direction, kind, peer, a, b, message);
-    }
-
     /// Puts an event of this kind, with these numbers and without a message, behind the others.
     pub fn push_bare(&mut self, direction: Dir, kind: Kind, peer: u32, a: u32, b: u32)
         requires { length self.old.items < self.old.capacity }
@@ -205,16 +187,6 @@ impl Events {
             .push_kept(direction, kind, peer, a, b, header, message, pool);
     }
 
-    /// The first one goes, and its message arrives where there was none.
-    pub fn take_first(&mut self, message: &mut Arrival)
-        requires some { 0 < length self.old.items }
-        requires empty { message.old ≡ None }
-        ensures message { message.new ≡ (first_sent self.old.items).1.message }
-        ensures rest { self.new ≡ buffer (drop 1 self.old.items) self.old.capacity }
-    {
-        self.list.take_first(message);
-    }
-
     /// The first one becomes the last of others.
     pub fn move_first(&mut self, to: &mut Events)
         requires some { 0 < length self.old.items }
@@ -233,6 +205,15 @@ impl Events {
         ensures returned { Returned pool.old pool.new (event_refs (first_sent self.old.items).1) }
     {
         self.list.drop_first(pool);
+    }
+
+    /// The first one goes, which has no message.
+    pub(crate) fn end_first(&mut self)
+        requires some { 0 < length self.old.items }
+        requires bare { (first_sent self.old.items).1.message ≡ None }
+        ensures { self.new ≡ buffer (drop 1 self.old.items) self.old.capacity }
+    {
+        self.list.end_first();
     }
 
     /// The direction of event number `k`, which is one of those that there are.

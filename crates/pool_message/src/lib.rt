@@ -2,7 +2,6 @@
 //! Nothing here takes memory.
 #![tactic(auto)]
 
-mod arrival;
 mod event;
 mod events;
 mod headers;
@@ -15,8 +14,8 @@ mod optional;
 mod part;
 mod place;
 mod row;
+mod tray;
 
-pub use arrival::Arrival;
 pub use event::PoolEvent;
 pub use events::{Events, MOST_EVENTS, pass_message};
 pub use laws::what_lies_stays;
@@ -26,3 +25,4 @@ pub use optional::{give_back_if_any, keep_if_any};
 pub use part::Part;
 pub use place::Place;
 pub use row::PoolRow;
+pub use tray::Tray;

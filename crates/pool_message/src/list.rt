@@ -10,7 +10,6 @@ ghost use Rattle.pool_message.specs.Put.{Puts};
 ghost use Rattle.pool_message.specs.Seen.{refs, event_refs};
 ghost use Rattle.pool_message.specs.Sent.{sent_refs, most_events, first_sent, sent_behind, bared, CanPass};
 
-use crate::arrival::Arrival;
 use crate::event::PoolEvent;
 use crate::message::PoolMessage;
 use crate::messages::Messages;
@@ -142,27 +141,6 @@ impl List {
             unreachable!();
         };
         fill_from(&mut self.slots[*k as usize], message);
-    }
-
-    /// Puts an event of this kind, with these numbers and with the message that arrived, if there is one, behind the others. None is left there.
-    pub fn push_arrived(
-        &mut self,
-        direction: Dir,
-        kind: Kind,
-        peer: u32,
-        a: u32,
-        b: u32,
-        message: &mut Arrival,
-    )
-        requires { length self.old.items < self.old.capacity }
-        ensures pushed { self.new ≡ buffer (self.old.items ++ (direction, record { kind = kind; peer = peer; a = a; b = b; message = message.old }) ∷ []) self.old.capacity }
-        ensures left { message.new ≡ None }
-    {
-        self.push_bare(direction, kind, peer, a, b);
-        let Some(k) = self.order.back() else {
-            unreachable!();
-        };
-        fill_arrived(&mut self.slots[*k as usize], message);
     }
 
     /// Puts an event of this kind, with these numbers and without a message, behind the others.
@@ -300,20 +278,6 @@ impl List {
         );
     }
 
-    /// The first one goes, and its message arrives where there was none.
-    pub fn take_first(&mut self, message: &mut Arrival)
-        requires some { 0 < length self.old.items }
-        requires empty { message.old ≡ None }
-        ensures message { message.new ≡ (first_sent self.old.items).1.message }
-        ensures rest { self.new ≡ buffer (drop 1 self.old.items) self.old.capacity }
-    {
-        let Some(k) = self.order.front() else {
-            unreachable!();
-        };
-        give_message(&mut self.slots[*k as usize], message);
-        self.end_first();
-    }
-
     /// The first one becomes the last of others.
     pub fn move_first(&mut self, to: &mut List)
         requires some { 0 < length self.old.items }
@@ -343,7 +307,7 @@ impl List {
     }
 
     /// The first one goes, which has no message.
-    fn end_first(&mut self)
+    pub fn end_first(&mut self)
         requires some { 0 < length self.old.items }
         requires bare { (first_sent self.old.items).1.message ≡ None }
         ensures { self.new ≡ buffer (drop 1 self.old.items) self.old.capacity }
@@ -393,8 +357,15 @@ impl List {
     }
 }
 
-/// A slot without a message becomes that of an event.
-fn begin_event(sent: &mut (Dir, PoolEvent), direction: Dir, kind: Kind, peer: u32, a: u32, b: u32)
+/// An event gets this direction, this kind and these numbers, and keeps its message, if it has one.
+pub(crate) fn begin_event(
+    sent: &mut (Dir, PoolEvent),
+    direction: Dir,
+    kind: Kind,
+    peer: u32,
+    a: u32,
+    b: u32,
+)
     ensures { sent.new ≡ (direction, record { kind = kind; peer = peer; a = a; b = b; message = sent.old.1.message }) }
 {
     sent.0 = direction;
@@ -411,15 +382,6 @@ fn fill_from(sent: &mut (Dir, PoolEvent), message: &mut Place)
     ensures left { message.new ≡ None }
 {
     sent.1.message.take_over(message);
-}
-
-/// An event without a message takes the one that arrived, if there is one.
-fn fill_arrived(sent: &mut (Dir, PoolEvent), message: &mut Arrival)
-    requires { sent.old.1.message ≡ None }
-    ensures filled { sent.new ≡ (sent.old.0, record sent.old.1 { message = message.old }) }
-    ensures left { message.new ≡ None }
-{
-    message.move_to(&mut sent.1.message);
 }
 
 /// An event without a message gets one of these headers before this body.
@@ -487,13 +449,4 @@ fn drop_message(sent: &mut (Dir, PoolEvent), pool: &mut Pool)
     ensures returned { Returned pool.old pool.new (event_refs sent.old.1) }
 {
     sent.1.message.let_go(pool);
-}
-
-/// The message of an event arrives where there was none.
-fn give_message(sent: &mut (Dir, PoolEvent), message: &mut Arrival)
-    requires { message.old ≡ None }
-    ensures message { message.new ≡ sent.old.1.message }
-    ensures left { sent.new ≡ bared sent.old }
-{
-    message.take_over(&mut sent.1.message);
 }

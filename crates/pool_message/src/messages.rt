@@ -30,14 +30,13 @@ impl Model for Messages {
 }
 
 impl Messages {
-    ghost use Rattle.std.specs.Prelude.{◌≡◌, ◌==◌, ◌<◌, [], ◌∷◌, ◌++◌, length, slice_get, slice_index_or, slice_set, option_copied, option_to_list, IfOk, Some, None};
+    ghost use Rattle.std.specs.Prelude.{◌≡◌, ◌==◌, ◌<◌, [], ◌∷◌, ◌++◌, length, slice_get, slice_index_or, slice_set, option_copied, IfOk, Some, None};
     ghost use Rattle.circular_buffer.specs.Buffer.{buffer, last_item};
     ghost use Rattle.slot_pool.specs.References.{Covers};
     ghost use Rattle.msg_core.specs.Headers.{most_headers};
     ghost use Rattle.pool_message.specs.Seen.{refs, refs_if, bodiless};
     ghost use Rattle.pool_message.specs.Moves.{CanKeep, Kept, Returned};
-    ghost use Rattle.pool_message.specs.Piled.{pile_refs, without_last, last_changed, with_header_last};
-    ghost use Rattle.pool_message.specs.Sent.{first_header, without_first};
+    ghost use Rattle.pool_message.specs.Piled.{pile_refs, without_last, with_header_last};
 
     /// No message, with so many places.
     pub fn fresh(alloc: Global, places: usize) -> Result<Messages, Memory>
@@ -118,20 +117,6 @@ impl Messages {
         self.places[last].keep_from(message, pool);
     }
 
-    /// Takes what lies in a place behind the others, if there is a message. The place is empty then.
-    pub fn take_in(&mut self, place: &mut Place)
-        requires { length self.old.items < self.old.capacity }
-        ensures taken { self.new ≡ buffer (self.old.items ++ option_to_list place.old) self.old.capacity }
-        ensures left { place.new ≡ None }
-    {
-        if place.get().is_none() {
-            return;
-        }
-        self.push_bare();
-        let last = self.count - 1;
-        place.hand_over(&mut self.places[last]);
-    }
-
     /// Puts a header in front of those of the last message, if there is one.
     pub fn push_header_on_last(&mut self, header: Header)
         requires { (m : PoolMessage) → last_item self.old.items ≡ Some m → length m.headers < most_headers }
@@ -141,18 +126,6 @@ impl Messages {
             let last = self.count - 1;
             self.places[last].push_header(header);
         }
-    }
-
-    /// Takes the first header off the last message, if there is one.
-    pub fn pop_header_of_last(&mut self) -> Option<Header>
-        ensures first { result ≡ first_header (last_item self.old.items) }
-        ensures rest { self.new ≡ buffer (last_changed without_first self.old.items) self.old.capacity }
-    {
-        if self.count == 0 {
-            return None;
-        }
-        let last = self.count - 1;
-        self.places[last].pop_header()
     }
 
     /// Takes the last message out, if there is one.

@@ -27,7 +27,7 @@ impl Model for Place {
 }
 
 impl Place {
-    ghost use Rattle.std.specs.Prelude.{◌≡◌, ◌<◌, length, Some, None, option_copied, option_map, is_some, true, [], IfSome};
+    ghost use Rattle.std.specs.Prelude.{◌≡◌, ◌<◌, length, Some, None, option_copied, option_map, [], IfSome};
     ghost use Rattle.slot_pool.specs.References.{Covers};
     ghost use Rattle.msg_core.specs.Headers.{most_headers};
     ghost use Rattle.pool_message.specs.Seen.{refs, refs_if, bodiless};
@@ -97,17 +97,6 @@ impl Place {
     {
         self.message.make(headers, body);
         self.is_full = true;
-    }
-
-    /// Gives its message to another, which has no bytes, and is then empty. The place was full.
-    pub fn hand_over(&mut self, message: &mut PoolMessage)
-        requires full { is_some self.old ≡ true }
-        requires bare { message.old.body ≡ None }
-        ensures handed { Some message.new ≡ self.old }
-        ensures left { self.new ≡ None }
-    {
-        message.take_over(&mut self.message);
-        self.is_full = false;
     }
 
     /// Puts a header in front of those of the message, if there is one.

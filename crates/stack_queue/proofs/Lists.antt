@@ -162,6 +162,17 @@ goes_on at places ys dir k to now is next there many =
     ap (λ ps. ps ++ places_on at (drop (length ps) ys)) (is ∙ ap (λ n. places ++ n ∷ []) next)
     ∙ place_given at places ys dir (ap (λ n. option_map (λ (x : Dir × PoolEvent). x.0) (slice_get ys n)) many ∙ there)
 
+-- the only event goes on from the only place
+pub alone_goes_on : (at : ℕ) (places : List ℕ) (ys : List (Dir × PoolEvent)) (dir : Dir) (to room : ℕ) (now : Buffer ℕ) → length places ≡ 1 → length ys ≡ 1 →
+    to ≡ beyond dir at → option_map (λ (e : Dir × PoolEvent). e.0) (slice_get ys 0) ≡ Some dir → now ≡ buffer (to ∷ []) room →
+    now ≡ buffer (drop 1 places ++ places_on at (drop (length (drop 1 places)) ys)) room
+alone_goes_on at (p ∷ []) (y ∷ []) dir to room now one other next there is =
+    is ∙ ap (λ n. buffer (n ∷ []) room) (next ∙ ap (λ d. beyond d at) (sym (cc there)))
+alone_goes_on at [] ys dir to room now one other next there is = absurd (omega (arith, one))
+alone_goes_on at (p ∷ q ∷ places) ys dir to room now one other next there is = absurd (omega (arith, one))
+alone_goes_on at (p ∷ []) [] dir to room now one other next there is = absurd (omega (arith, other))
+alone_goes_on at (p ∷ []) (y ∷ z ∷ ys) dir to room now one other next there is = absurd (omega (arith, other))
+
 -- the same behind the places that are left once the first is gone
 pub goes_behind : (at : ℕ) (places : List ℕ) (ys : List (Dir × PoolEvent)) (room : ℕ) (left now : Buffer ℕ) → left ≡ buffer (drop 1 places) room →
     now ≡ buffer (left.items ++ places_on at (drop (length left.items) ys)) left.capacity →

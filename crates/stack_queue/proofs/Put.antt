@@ -1,5 +1,5 @@
 -- A task is put where its event is put, and its place behind the other places.
-use Rattle.std.proofs.Common.{◌≡◌, ℕ, List, [], ◌∷◌, ◌++◌, length, ap, ◌∙◌, Some}
+use Rattle.std.proofs.Common.{◌-◌, ◌≡◌, ℕ, List, [], ◌∷◌, ◌++◌, length, ap, ◌∙◌, Some}
 use Rattle.circular_buffer.specs.Buffer.{Buffer, buffer}
 use Rattle.slot_pool.specs.Held.{Held}
 use Rattle.msg_core.specs.Chain.{Content}
@@ -14,13 +14,13 @@ use Rattle.stack_queue.proofs.Lists.{pushed}
 
 pub task_put : (p q : List Held) (old new : Buffer (Dir × PoolEvent)) (at : ℕ) (dir : Dir) (kind : Kind) (peer a b : ℕ) (content : Content)
     (places now : Buffer ℕ) (tasks : Buffer PoolTask) → length places.items ≡ length old.items →
-    buffer (tasks_at places.items old.items) places.capacity ≡ tasks → events.PutLast p old dir kind peer a b content q new →
+    buffer (tasks_at places.items old.items) (places.capacity - 1) ≡ tasks → events.PutLast p old dir kind peer a b content q new →
     now ≡ buffer (places.items ++ at ∷ []) places.capacity →
-    PutLast p tasks (carrying_task at dir kind peer a b content) q (buffer (tasks_at now.items new.items) now.capacity)
+    PutLast p tasks (carrying_task at dir kind peer a b content) q (buffer (tasks_at now.items new.items) (now.capacity - 1))
 task_put p q old new at dir kind peer a b content places now tasks same view put placed = record {
   task = record { at = at; direction = dir; event = event };
-  last = (λ k. buffer (tasks_at (placed k).items (put.last k).items) (placed k).capacity)
-      ∙ ap (λ ts. buffer ts places.capacity) (pushed places.items old.items at dir event same)
+  last = (λ k. buffer (tasks_at (placed k).items (put.last k).items) ((placed k).capacity - 1))
+      ∙ ap (λ ts. buffer ts (places.capacity - 1)) (pushed places.items old.items at dir event same)
       ∙ ap (λ b. buffer (b.items ++ record { at = at; direction = dir; event = event } ∷ []) b.capacity) view;
   seen = ap (carrying_task at dir kind peer a b) put.made.shows;
   moved = put.made.moved;

@@ -1,5 +1,5 @@
 -- An event passes one layer while others are pending, and its task becomes the last.
-use Rattle.std.proofs.Common.{◌≡◌, ℕ, ◌<◌, List, [], ◌∷◌, ◌++◌, drop, length, Some, slice_get, option_map, refl, sym, ap, subst, ◌∙◌, arith}
+use Rattle.std.proofs.Common.{◌-◌, ◌≡◌, ℕ, ◌<◌, List, [], ◌∷◌, ◌++◌, drop, length, Some, slice_get, option_map, refl, sym, ap, subst, ◌∙◌, arith}
 use Rattle.std.proofs.lemmas.List.{map-append}
 use Rattle.circular_buffer.specs.Buffer.{Buffer, buffer}
 use Rattle.slot_pool.specs.Held.{Held}
@@ -28,18 +28,18 @@ module _ {S : Type 0} (place : S → ℕ) (layer : S → LayerTree) (refs : S �
     (state : List Held → S → State) (s s' : S) where
   -- The two lists, of which each was turned.
   pub goes_round : (ps : Buffer ℕ) (es : List (Dir × PoolEvent)) (tasks : Buffer PoolTask) → length ps.items ≡ length es →
-      buffer (tasks_at ps.items es) ps.capacity ≡ tasks → (sent w : Dir × PoolEvent) → sent ≡ first_sent es →
+      buffer (tasks_at ps.items es) (ps.capacity - 1) ≡ tasks → (sent w : Dir × PoolEvent) → sent ≡ first_sent es →
       HasPassed place layer refs Ready state s sent s' w → (at to : ℕ) (dir : Dir) → (first_task tasks.items).at ≡ at →
       option_map (λ (e : Dir × PoolEvent). e.0) (slice_get (w ∷ drop 1 es) 0) ≡ Some dir → to ≡ beyond dir at →
       (front now : Buffer ℕ) (events : Buffer (Dir × PoolEvent)) → front ≡ buffer (drop 1 ps.items) ps.capacity →
       now ≡ buffer (front.items ++ to ∷ []) front.capacity → events.items ≡ drop 1 es ++ w ∷ [] →
-      HasGoneRound place layer refs Ready state s tasks s' (buffer (tasks_at now.items events.items) now.capacity)
+      HasGoneRound place layer refs Ready state s tasks s' (buffer (tasks_at now.items events.items) (now.capacity - 1))
   goes_round ps es tasks same view sent w sent_is passed at to dir first dir_is to_is front now events ended put turned = record {
     task = record { at = to; direction = w.0; event = w.1 };
     passed = subst (λ x. HasPassed place layer refs Ready state s x s' w) (sent_is ∙ sym was) passed;
     to = to_is ∙ (λ j. beyond (way j) (sym first j));
-    round = (λ j. buffer (tasks_at (placed j).items (turned j)) (placed j).capacity)
-        ∙ ap (λ ts. buffer ts ps.capacity) (pushed (drop 1 ps.items) (drop 1 es) to w.0 w.1 (same_behind ps.items es same))
+    round = (λ j. buffer (tasks_at (placed j).items (turned j)) ((placed j).capacity - 1))
+        ∙ ap (λ ts. buffer ts (ps.capacity - 1)) (pushed (drop 1 ps.items) (drop 1 es) to w.0 w.1 (same_behind ps.items es same))
         ∙ (λ j. buffer (behind j ++ record { at = to; direction = w.0; event = w.1 } ∷ []) ((ap (λ b. b.capacity) view) j));
   } where
     was : sent_by (first_task tasks.items) ≡ first_sent es

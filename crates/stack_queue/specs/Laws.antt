@@ -1,5 +1,5 @@
 -- The room that is made for a stack is enough for each of its runs, and no more than there may be.
-use Rattle.std.specs.Prelude.{◌≡◌, ◌≤◌, List, Ok}
+use Rattle.std.specs.Prelude.{◌≡◌, ◌<◌, ◌≤◌, List, Ok}
 use Rattle.layer_mean.specs.declared.run.Event.{Event}
 use Rattle.layer_mean.specs.Tree.{LayerTree}
 use Rattle.layer_mean.specs.Queue.{Task}
@@ -18,6 +18,6 @@ abbrev pub EntriesFit : Type 0
 EntriesFit = (stack : List LayerTree) (first : Task Event) → IsChainedTask stack first →
     Enters stack first.at first.dir first.event.kind → FitsStack stack first
 
--- A stack that is accepted weighs no more than there may be events in a list.
+-- A stack that is accepted weighs less than there may be events in a list.
 abbrev pub StacksFit : Type 0
-StacksFit = (stack : List LayerTree) → accepted stack ≡ Ok stack → largest_weight stack ≤ most_events
+StacksFit = (stack : List LayerTree) → accepted stack ≡ Ok stack → largest_weight stack < most_events

@@ -41,8 +41,23 @@ pub(crate) fn stand_alone(places: &mut HeapCircularBuffer<u16>, at: u16)
     }
 }
 
-/// The events behind those that have places were sent from one: each goes on to its neighbour.
+/// The first place goes, from which the events were sent that have no place: each of these goes on to its neighbour.
 pub(crate) fn go_on(places: &mut HeapCircularBuffer<u16>, events: &Events, at: u16)
+    requires place { (1 ≤ at) × (at ≤ 255) }
+    requires some { 0 < length places.old.items }
+    requires room { events.now.capacity ≤ places.old.capacity }
+    ensures { places.new ≡ buffer (drop 1 places.old.items ++ places_on at (drop (length (drop 1 places.old.items)) events.now.items)) places.old.capacity }
+{
+    if places.len() == 1 && events.len() == 1 {
+        stand_alone(places, beyond(events.direction(0), at));
+        return;
+    }
+    end_first(places);
+    put_places(places, events, at);
+}
+
+/// The events behind those that have places were sent from one: each goes on to its neighbour.
+fn put_places(places: &mut HeapCircularBuffer<u16>, events: &Events, at: u16)
     requires place { (1 ≤ at) × (at ≤ 255) }
     requires room { events.now.capacity ≤ places.old.capacity }
     ensures { places.new ≡ buffer (places.old.items ++ places_on at (drop (length places.old.items) events.now.items)) places.old.capacity }

@@ -6,7 +6,6 @@ ghost use Rattle.stack_mean.specs.Acceptance.{largest_weight};
 
 use crate::passes::{pass_along, pass_one};
 use crate::places::{beyond, end_first, go_on, put_place, stand_alone};
-use crate::sent::events_for;
 use circular_buffer::HeapCircularBuffer;
 use event_graph::Stack;
 use layer_ast::{Dir, Kind};
@@ -27,23 +26,23 @@ pub struct PoolTask {
 }
 
 /// The tasks of a run that are pending, first in, first out, in as many places as the weight of its stack: their events with their
-/// directions, and beside these where each of them goes.
+/// directions, and beside these where each of them goes. There is one place more, for the event that a layer takes.
 pub struct Tasks {
     places: HeapCircularBuffer<u16>,
     events: Events,
 }
 
 impl Model for Tasks {
-    ghost use Rattle.std.specs.Prelude.{◌≡◌, length};
+    ghost use Rattle.std.specs.Prelude.{◌≡◌, ◌-◌, ◌≤◌, length};
     ghost use Rattle.circular_buffer.specs.Buffer.{Buffer, buffer};
     ghost use Rattle.stack_queue.specs.Pending.{tasks_at};
     ghost use Rattle.stack_queue.specs.declared.tasks.PoolTask.{PoolTask};
 
     ghost Value = { Buffer PoolTask };
 
-    ghost view = { λ t. buffer (tasks_at t.places.items t.events.items) t.places.capacity };
+    ghost view = { λ t. buffer (tasks_at t.places.items t.events.items) (t.places.capacity - 1) };
 
-    ghost invariant = { λ t. (length t.places.items ≡ length t.events.items) × (t.places.capacity ≡ t.events.capacity) };
+    ghost invariant = { λ t. (length t.places.items ≡ length t.events.items) × (t.places.capacity ≡ t.events.capacity) × (1 ≤ t.places.capacity) };
 }
 
 impl Tasks {
@@ -67,8 +66,10 @@ impl Tasks {
     pub fn fresh(alloc: Global, stack: &Stack) -> Result<Tasks, AllocError>
         ensures { IfOk result (λ tasks. tasks ≡ buffer [] (largest_weight (stack_tree stack.now))) }
     {
-        let places = HeapCircularBuffer::with_capacity(alloc, stack.weight() as usize)?;
-        match events_for(alloc, stack) {
+        stack.is_accepted();
+        let count = stack.weight() as usize + 1;
+        let places = HeapCircularBuffer::with_capacity(alloc, count)?;
+        match Events::fresh(alloc, count) {
             Ok(events) => Ok(Tasks { places, events }),
             Err(fault) => {
                 places.destroy_empty();
@@ -241,7 +242,6 @@ impl Tasks {
         ensures place { S.place stage.new ≡ S.place stage.old }
         ensures layer { S.layer stage.new ≡ S.layer stage.old }
     {
-        end_first(&mut self.places);
         let decided = stage.take(pool, &mut self.events);
         go_on(&mut self.places, &self.events, at);
         decided

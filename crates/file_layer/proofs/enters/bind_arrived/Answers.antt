@@ -1,19 +1,16 @@
-use Rattle.std.proofs.Common.{rules, arith, ap}
-use Rattle.layer_desk.specs.Need.{Layout}
+use Rattle.std.proofs.Common.{refl, ap, ◌∙◌}
 use Rattle.file_layer.specs.Ready.{stock_of}
-use Rattle.file_layer.proofs.Lists.{items_are}
+use Rattle.file_layer.specs.Stock.{laid}
 use Rattle.file_layer.proofs.ReadyScope.{arrived_in}
+use Rattle.file_layer.proofs.Tray.{tray_ready}
 use Rattle.file_layer.proofs.enters.bind_arrived.Goals as goal
 
 pub returns-clause-ready : goal.returns-clause-ready
 returns-clause-ready g c =
-    let places = ap (λ (l : Layout). l.messages) c.requires.ready.layout in let some = c.requires.ready.messages in let room = c.requires.room in
-    let step = arrived_in g.K.Start.begun c.args.pool.now (stock_of c.args.desk.now) c.requires.ready.pool c.requires.ready.fits c.go_behind.new.others.items
-    c.go_behind.new.self (items_are _ _ _ c.go_behind.ensures.gone) c.go_behind.ensures.left (omega arith) c.requires.short in
-    record { pool = step.0; layout = search rules; fits = step.1; numbers = search rules; messages = search rules; forms = search rules; sent = search rules }
+    let step = arrived_in g.K.Start.begun c.args.pool.now (stock_of c.args.desk.now) c.requires.ready.pool c.requires.ready.fits c.requires.empty c.requires.short in
+    tray_ready g.K.Start.begun c.args.pool.now c.args.pool.now c.args.desk.now _ _ c.requires.ready c.bind.ensures step.0 step.1 refl c.requires.ready.sent
 
 pub returns-clause-shown : goal.returns-clause-shown
 returns-clause-shown g c =
-    let places = ap (λ (l : Layout). l.messages) c.requires.ready.layout in let some = c.requires.ready.messages in let room = c.requires.room in
-    (arrived_in g.K.Start.begun c.args.pool.now (stock_of c.args.desk.now) c.requires.ready.pool c.requires.ready.fits c.go_behind.new.others.items
-    c.go_behind.new.self (items_are _ _ _ c.go_behind.ensures.gone) c.go_behind.ensures.left (omega arith) c.requires.short).2
+    ap (λ t. laid c.args.pool.now (stock_of (record c.args.desk.now { tray = t }))) c.bind.ensures ∙
+    (arrived_in g.K.Start.begun c.args.pool.now (stock_of c.args.desk.now) c.requires.ready.pool c.requires.ready.fits c.requires.empty c.requires.short).2

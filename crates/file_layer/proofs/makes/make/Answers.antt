@@ -3,6 +3,7 @@ use Rattle.circular_buffer.specs.Buffer.{Buffer}
 use Rattle.typed_layer.specs.View.{layer_tree}
 use Rattle.layer_room.specs.Layouts as room
 use Rattle.layer_room.specs.declared.reserve.Reserve.{Reserve}
+use Rattle.pool_message.specs.Tray.{OnTray}
 use Rattle.pool_message.specs.declared.message.PoolMessage.{PoolMessage}
 use Rattle.file_layer.specs.declared.desk.FileDesk.{FileDesk}
 use Rattle.file_layer.specs.Fresh.{IsEmpty}
@@ -18,27 +19,25 @@ returns-in-Ok-clause-fresh c =
     let three = ap (λ (r : Reserve). r.hand) c.in_ok-reserve.ensures.is in
     let four = c.from.ensures in let five = c.from-2.ensures in
     let places = c.in_ok-numbers.ensures.exact in
-    let messages = ap (λ (b : Buffer PoolMessage). b.capacity) c.in_ok-lists.ensures.0 in
+    let messages = ap (λ (t : OnTray). t.messages.capacity) c.in_ok-lists.ensures.0 in
     let numbers_is : vec_capacity c.in_ok-numbers.numbers ≡ layout.numbers + 6 = omega arith in
-    let messages_is : c.in_ok-lists.lists.messages.capacity ≡ layout.messages + 1 = omega arith in
-    let hand_is : c.in_ok-lists.lists.hand.capacity ≡ min layout.hand 4294967295 = ap (λ (b : Buffer PoolMessage). b.capacity) c.in_ok-lists.ensures.2 ∙ three in
+    let messages_is : c.in_ok-lists.lists.tray.messages.capacity ≡ layout.messages + 1 = omega arith in
+    let hand_is : c.in_ok-lists.lists.hand.capacity ≡ min layout.hand 4294967295 = ap (λ (b : Buffer PoolMessage). b.capacity) c.in_ok-lists.ensures.1 ∙ three in
     let desk : FileDesk = record {
       cells = c.in-Ok.cells;
       numbers = c.in_ok-numbers.numbers;
-      messages = c.in_ok-lists.lists.messages;
-      arrived = c.in_ok-lists.lists.arrived;
+      tray = c.in_ok-lists.lists.tray;
       hand = c.in_ok-lists.lists.hand;
-      sent = c.in_ok-lists.lists.sent;
       first = 0;
       places = 0;
     } in
     let empty : IsEmpty (layer_tree c.args.layer.now) c.args.me c.args.count c.args.ltime desk = record {
       cells = search rules;
       numbers = search rules;
-      messages = items_are _ _ _ c.in_ok-lists.ensures.0;
-      arrived = search rules;
-      hand = items_are _ _ _ c.in_ok-lists.ensures.2;
-      sent = search rules;
+      messages = ap (λ (t : OnTray). t.messages.items) c.in_ok-lists.ensures.0;
+      arrived = ap (λ (t : OnTray). t.arrived) c.in_ok-lists.ensures.0;
+      hand = items_are _ _ _ c.in_ok-lists.ensures.1;
+      sent = ap (λ (t : OnTray). t.sent) c.in_ok-lists.ensures.0;
       numbers_room = omega arith;
       messages_room = omega arith;
       layout = layout_at_first (layer_tree c.args.layer.now) c.args.me c.args.count c.args.ltime desk c.in_ok-reserve.ensures.few (search rules) numbers_is messages_is hand_is (search rules);

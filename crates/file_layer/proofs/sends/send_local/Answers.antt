@@ -1,76 +1,53 @@
-use Rattle.std.proofs.Common.{Some, option_copied, rules, arith, refl, sym, ap, ◌∙◌}
-use Rattle.std.specs.Prelude.{slice_get, []}
+use Rattle.std.proofs.Common.{[], Some, slice_get, refl, arith, sym, ap, ◌∙◌}
 use Rattle.layer_desk.specs.Need.{Layout}
 use Rattle.pool_message.specs.Seen.{bodiless, refs}
 use Rattle.pool_message.specs.Sent.{sent_behind}
+use Rattle.pool_message.specs.Tray.{message_at}
 use Rattle.file_layer.specs.Ready.{stock_of}
-use Rattle.file_layer.specs.Stock.{pool_event}
+use Rattle.file_layer.specs.Stock.{laid, pool_event}
 use Rattle.file_layer.proofs.Fits.{can_keep}
-use Rattle.file_layer.proofs.Lists.{items_are}
+use Rattle.file_layer.proofs.Lists.{read_there}
 use Rattle.file_layer.proofs.Ready.{scope_there}
-use Rattle.file_layer.proofs.ReadySent.{sent_grows, local_fits, nothing_fits}
+use Rattle.file_layer.proofs.ReadySent.{sent_grows, local_fits}
 use Rattle.file_layer.proofs.Sent.{can_pass}
+use Rattle.file_layer.proofs.Tray.{with_event, tray_ready}
 use Rattle.file_layer.proofs.sends.send_local.Goals as goal
 
-pub push_kept-requires-clause-room : goal.push_kept-requires-clause-room
-push_kept-requires-clause-room g c =
-    can_pass c.args.direction c.in-Some.message.now
-    (scope_there g.K.Start.begun c.args.pool.now c.args.pool.now (stock_of c.args.desk.now) c.requires.pool c.requires.fits c.args.slot c.in-Some.message.now
-    (ap (slice_get c.args.desk.now.messages.items) (sym c.from.ensures) ∙ sym c.get.ensures ∙ ap option_copied c.in-Some.is)).2
+pub send_message-requires-clause-room : goal.send_message-requires-clause-room
+send_message-requires-clause-room g c =
+    can_pass c.args.direction (message_at c.from-place.result c.args.desk.now.tray)
+    (scope_there g.K.Start.begun c.args.pool.now c.args.pool.now (stock_of c.args.desk.now) c.requires.pool c.requires.fits c.from-place.result
+    (message_at c.from-place.result c.args.desk.now.tray)
+    (read_there c.args.desk.now.tray.messages.items c.from-place.result (bodiless []) _ _ c.message.ensures c.in-Some.is)).2
 
-pub push_kept-requires-clause-keeps : goal.push_kept-requires-clause-keeps
-push_kept-requires-clause-keeps g c =
-    can_keep g.K.Start.begun c.args.pool.now c.args.desk.now c.requires (refs c.in-Some.message.now)
+pub send_message-requires-clause-there : goal.send_message-requires-clause-there
+send_message-requires-clause-there g c =
+    (scope_there g.K.Start.begun c.args.pool.now c.args.pool.now (stock_of c.args.desk.now) c.requires.pool c.requires.fits c.from-place.result
+    (message_at c.from-place.result c.args.desk.now.tray)
+    (read_there c.args.desk.now.tray.messages.items c.from-place.result (bodiless []) _ _ c.message.ensures c.in-Some.is)).0
+
+pub send_message-requires-clause-keeps : goal.send_message-requires-clause-keeps
+send_message-requires-clause-keeps g c =
+    can_keep g.K.Start.begun c.args.pool.now c.args.desk.now c.requires (refs (message_at c.from-place.result c.args.desk.now.tray))
 
 pub returns-in-Some-clause-ready : goal.returns-in-Some-clause-ready
 returns-in-Some-clause-ready g c =
     let places = ap (λ (l : Layout). l.places) c.requires.layout in
     let step = local_fits g.K.Start.begun c.args.pool.now (stock_of c.args.desk.now) c.requires.pool c.requires.fits c.args.direction c.args.envelope c.args.header
-    (pool_event c.args.envelope (Some (sent_behind c.args.direction c.args.header c.in-Some.message.now))) c.push_kept.new.self.items
-    (items_are _ _ _ c.push_kept.ensures.pushed) (omega arith) c.push_kept.new.pool c.args.slot c.in-Some.message.now
-    (ap (slice_get c.args.desk.now.messages.items) (sym c.from.ensures) ∙ sym c.get.ensures ∙ ap option_copied c.in-Some.is) refl c.push_kept.ensures.kept in
-    record {
-      pool = step.0;
-      layout = search rules;
-      fits = step.1;
-      numbers = search rules;
-      messages = search rules;
-      forms = search rules;
-      sent = sent_grows g.K.Start.begun.refs g.K.Start.begun.list c.args.desk.now.first c.args.desk.now.places c.args.desk.now.sent c.push_kept.new.self
-          (c.args.direction, pool_event c.args.envelope (Some (sent_behind c.args.direction c.args.header c.in-Some.message.now))) c.requires.sent
-          c.push_kept.ensures.pushed;
-    }
+    (omega arith) c.send_message.new.pool c.args.slot (message_at c.from-place.result c.args.desk.now.tray)
+    (ap (slice_get c.args.desk.now.tray.messages.items) (sym c.from-place.ensures) ∙
+    read_there c.args.desk.now.tray.messages.items c.from-place.result (bodiless []) _ _ c.message.ensures c.in-Some.is) c.send_message.ensures.kept in
+    tray_ready g.K.Start.begun c.args.pool.now c.send_message.new.pool c.args.desk.now
+    (with_event c.args.direction c.args.envelope (Some (sent_behind c.args.direction c.args.header (message_at c.from-place.result c.args.desk.now.tray))) c.args.desk.now.tray) c.send_message.new.self
+    c.requires c.send_message.ensures.sent step.0 step.1 refl
+    (sent_grows g.K.Start.begun.refs g.K.Start.begun.list c.args.desk.now.first c.args.desk.now.places c.args.desk.now.tray.sent
+    (c.args.direction, pool_event c.args.envelope (Some (sent_behind c.args.direction c.args.header (message_at c.from-place.result c.args.desk.now.tray)))) c.requires.sent)
 
 pub returns-in-Some-clause-shown : goal.returns-in-Some-clause-shown
 returns-in-Some-clause-shown g c =
     let places = ap (λ (l : Layout). l.places) c.requires.layout in
+    ap (λ t. laid c.send_message.new.pool (stock_of (record c.args.desk.now { tray = t }))) c.send_message.ensures.sent ∙
     (local_fits g.K.Start.begun c.args.pool.now (stock_of c.args.desk.now) c.requires.pool c.requires.fits c.args.direction c.args.envelope c.args.header
-    (pool_event c.args.envelope (Some (sent_behind c.args.direction c.args.header c.in-Some.message.now))) c.push_kept.new.self.items
-    (items_are _ _ _ c.push_kept.ensures.pushed) (omega arith) c.push_kept.new.pool c.args.slot c.in-Some.message.now
-    (ap (slice_get c.args.desk.now.messages.items) (sym c.from.ensures) ∙ sym c.get.ensures ∙ ap option_copied c.in-Some.is) refl c.push_kept.ensures.kept).2
-
-pub returns-in-None-clause-ready : goal.returns-in-None-clause-ready
-returns-in-None-clause-ready g c =
-    let places = ap (λ (l : Layout). l.places) c.requires.layout in
-    let step = nothing_fits g.K.Start.begun c.args.pool.now (stock_of c.args.desk.now) c.requires.pool c.requires.fits c.args.direction c.args.envelope c.args.header
-    (pool_event c.args.envelope (Some (sent_behind c.args.direction c.args.header (bodiless [])))) c.send_nothing.new.sent.items
-    (items_are _ _ _ c.send_nothing.ensures) (omega arith) c.args.slot
-    (ap (slice_get c.args.desk.now.messages.items) (sym c.from.ensures) ∙ sym c.get.ensures ∙ ap option_copied c.in-None.is) refl in
-    record {
-      pool = step.0;
-      layout = search rules;
-      fits = step.1;
-      numbers = search rules;
-      messages = search rules;
-      forms = search rules;
-      sent = sent_grows g.K.Start.begun.refs g.K.Start.begun.list c.args.desk.now.first c.args.desk.now.places c.args.desk.now.sent c.send_nothing.new.sent
-          (c.args.direction, pool_event c.args.envelope (Some (sent_behind c.args.direction c.args.header (bodiless [])))) c.requires.sent c.send_nothing.ensures;
-    }
-
-pub returns-in-None-clause-shown : goal.returns-in-None-clause-shown
-returns-in-None-clause-shown g c =
-    let places = ap (λ (l : Layout). l.places) c.requires.layout in
-    (nothing_fits g.K.Start.begun c.args.pool.now (stock_of c.args.desk.now) c.requires.pool c.requires.fits c.args.direction c.args.envelope c.args.header
-    (pool_event c.args.envelope (Some (sent_behind c.args.direction c.args.header (bodiless [])))) c.send_nothing.new.sent.items
-    (items_are _ _ _ c.send_nothing.ensures) (omega arith) c.args.slot
-    (ap (slice_get c.args.desk.now.messages.items) (sym c.from.ensures) ∙ sym c.get.ensures ∙ ap option_copied c.in-None.is) refl).2
+    (omega arith) c.send_message.new.pool c.args.slot (message_at c.from-place.result c.args.desk.now.tray)
+    (ap (slice_get c.args.desk.now.tray.messages.items) (sym c.from-place.ensures) ∙
+    read_there c.args.desk.now.tray.messages.items c.from-place.result (bodiless []) _ _ c.message.ensures c.in-Some.is) c.send_message.ensures.kept).2

@@ -1,4 +1,4 @@
-use Rattle.std.proofs.Common.{sym, subst}
+use Rattle.std.proofs.Common.{◌-◌, sym, subst}
 use Rattle.circular_buffer.specs.Buffer.{buffer}
 use Rattle.layer_stage.specs.Front.{first_way, behind_first}
 use Rattle.typed_layer.specs.View.{layer_tree}
@@ -11,5 +11,5 @@ pub take_event-predicted-requires-clause-ready : goal.take_event-predicted-requi
 take_event-predicted-requires-clause-ready c =
     subst (λ e. IsReady (begun_at c.args.pool.now e) c.args.pool.now e) (sym c.begin.ensures.desk)
     (begins_ready (layer_tree c.args.layer.now) c.args.pool.now c.args.desk.now c.requires.rest (first_sent c.args.events.now.items).1
-    (buffer (behind_first c.args.events.now.items) c.args.events.now.capacity) (first_way c.args.events.now.items)
+    (buffer (behind_first c.args.events.now.items) (c.args.events.now.capacity - 1)) (first_way c.args.events.now.items)
     c.begin.ensures.within c.begin.ensures.few c.requires.event c.requires.out c.requires.covered c.requires.counts)

@@ -1,13 +1,10 @@
-use Rattle.std.proofs.Common.{◌∷◌, [], ◌∙◌, length, ap, arith}
-use Rattle.std.proofs.lemmas.List.{length-append}
-use Rattle.stack_queue.proofs.Lists.{goes_on}
+use Rattle.std.proofs.Common.{sym, ◌∙◌}
+use Rattle.stack_queue.proofs.Lists.{alone_goes_on, goes_behind}
 use Rattle.stack_queue.proofs.places.go_on.Goals as goal
 
-pub loop-k-preserved : goal.loop-k-preserved
-loop-k-preserved c =
-    let items = ap (λ b. b.items) c.put_place.ensures in (
-      goes_on c.args.at c.loop-k.places.items c.args.events.now.items c.direction.result c.loop-k.k c.beyond.result c.put_place.new.places.items
-          items c.beyond.ensures c.direction.ensures c.loop-k.invariant.2 ∙ c.loop-k.invariant.0,
-      ap (λ b. b.capacity) c.put_place.ensures ∙ c.loop-k.invariant.1,
-      ap length items ∙ omega (arith, c.loop-k.invariant.2, length-append c.loop-k.places.items (c.beyond.result ∷ [])),
-    )
+pub returns-then-len-eq1-2 : goal.returns-then-len-eq1-2
+returns-then-len-eq1-2 c = alone_goes_on c.args.at c.args.places.now.items c.args.events.now.items c.direction.result c.beyond.result c.args.places.now.capacity _
+    (sym c.len.ensures.len ∙ c.if-len-eq1.true) (sym c.len-then-len-eq1.ensures.count ∙ c.if-len-eq1-2.true) c.beyond.ensures c.direction.ensures c.stand_alone.ensures
+
+pub returns : goal.returns
+returns c = goes_behind c.args.at c.args.places.now.items c.args.events.now.items c.args.places.now.capacity _ _ c.end_first.ensures c.put_places.ensures

@@ -1,16 +1,19 @@
-use Rattle.std.proofs.Common.{◌++◌, drop, length, sym, ap, subst, ◌∙◌, arith, rules}
+use Rattle.std.proofs.Common.{◌≤◌, ◌++◌, drop, length, sym, ap, subst, ◌∙◌, arith}
+use Rattle.std.proofs.lemmas.List.{length-drop}
 use Rattle.circular_buffer.specs.Buffer.{Buffer}
+use Rattle.slot_pool.specs.Held.{spare}
 use Rattle.slot_pool.specs.References.{Moved, Covers}
 use Rattle.layer_ast.specs.declared.tokens.Dir.{Dir}
 use Rattle.layer_mean.specs.Queue.{tasks_of}
 use Rattle.layer_mean.specs.Visit.{step}
-use Rattle.layer_stage.specs.Room.{places_needed}
+use Rattle.layer_desk.specs.Need.{most_above}
+use Rattle.layer_stage.specs.Room.{slots_needed, places_needed, headers_met}
 use Rattle.pool_message.specs.Seen.{event_seen}
 use Rattle.pool_message.specs.Sent.{first_sent, sent_refs}
 use Rattle.pool_message.specs.declared.event.PoolEvent.{PoolEvent}
 use Rattle.stack_queue.specs.Pending.{tasks_seen, tasks_refs, TasksLie, tasks_at}
 use Rattle.stack_queue.specs.declared.tasks.PoolTask.{PoolTask}
-use Rattle.stack_queue.proofs.Lists.{as_many, first_event, rest_at, same_behind, refs_at, lie_at, events_lie, sent_behind, more_now, placed_all, goes_behind}
+use Rattle.stack_queue.proofs.Lists.{as_many, first_event, rest_at, same_behind, refs_at, lie_at, events_lie, sent_behind, more_now, placed_all}
 use Rattle.stack_queue.proofs.tasks.Tasks.bring.Goals as goal
 
 pub take-decided-requires-clause-lie : goal.take-decided-requires-clause-lie
@@ -24,6 +27,20 @@ take-decided-requires-clause-covers g c = subst
     ∙ refs_at c.self.inside.places.items c.self.inside.events.items c.self.invariant.0)
     c.requires.covers
 
+pub take-decided-requires-clause-headers : goal.take-decided-requires-clause-headers
+take-decided-requires-clause-headers g c = subst
+    (λ (x : Dir × PoolEvent). headers_met x.0 (event_seen c.args.pool.now x.1) ≤ most_above)
+    (first_event c.self.inside.places.items c.self.inside.events.items c.args.self.now.items c.self.invariant.0
+    (ap (λ (b : Buffer PoolTask). b.items) c.self.view_is))
+    c.requires.headers
+
+pub take-decided-requires-clause-slots : goal.take-decided-requires-clause-slots
+take-decided-requires-clause-slots g c = subst
+    (λ (x : Dir × PoolEvent). slots_needed (g.S.Stage.layer c.args.stage.now) x.0 (event_seen c.args.pool.now x.1) ≤ spare c.args.pool.now)
+    (first_event c.self.inside.places.items c.self.inside.events.items c.args.self.now.items c.self.invariant.0
+    (ap (λ (b : Buffer PoolTask). b.items) c.self.view_is))
+    c.requires.slots
+
 pub take-decided-requires-clause-places : goal.take-decided-requires-clause-places
 take-decided-requires-clause-places g c =
     let view = ap (λ (b : Buffer PoolTask). b.items) c.self.view_is in
@@ -36,12 +53,14 @@ take-decided-requires-clause-places g c =
           (same_behind c.self.inside.places.items c.self.inside.events.items c.self.invariant.0),
       ap (λ (b : Buffer PoolTask). b.capacity) c.self.view_is,
       c.self.invariant.1,
+      c.self.invariant.2,
+      length-drop 1 c.self.inside.events.items,
     )
 
 pub invariant_of-self : goal.invariant_of-self
 invariant_of-self g c =
     let same = same_behind c.self.inside.places.items c.self.inside.events.items c.self.invariant.0 in
-    let on = goes_behind c.args.at c.self.inside.places.items c.take-decided.new.events.items c.self.inside.places.capacity _ _ (search rules) c.go_on.ensures in (
+    let on = c.go_on.ensures in (
       ap (λ b. length b.items) on
           ∙ placed_all c.args.at (drop 1 c.self.inside.places.items) c.take-decided.new.events.items (omega (
             arith,
@@ -52,6 +71,7 @@ invariant_of-self g c =
                 c.take-decided.ensures.sent,
           )),
       ap (λ b. b.capacity) on ∙ c.self.invariant.1 ∙ sym c.take-decided.ensures.capacity,
+      omega (arith, ap (λ b. b.capacity) on, c.self.invariant.2),
     )
 
 pub returns-clause-tasks : goal.returns-clause-tasks
@@ -59,7 +79,7 @@ returns-clause-tasks g c =
     let view = ap (λ (b : Buffer PoolTask). b.items) c.self.view_is in
     let first = first_event c.self.inside.places.items c.self.inside.events.items c.args.self.now.items c.self.invariant.0 view in
     ap (λ b. tasks_seen c.take-decided.new.pool (tasks_at b.items c.take-decided.new.events.items))
-    (goes_behind c.args.at c.self.inside.places.items c.take-decided.new.events.items c.self.inside.places.capacity _ _ (search rules) c.go_on.ensures)
+    c.go_on.ensures
     ∙ sent_behind c.args.pool.now c.take-decided.new.pool c.args.at (drop 1 c.self.inside.places.items) (drop 1 c.self.inside.events.items)
     c.take-decided.new.events.items
     (step (g.S.Stage.place c.args.stage.now) (g.S.Stage.layer c.args.stage.now) (g.S.Stage.state c.args.pool.now c.args.stage.now)

@@ -1,4 +1,4 @@
-use Rattle.std.proofs.Common.{◌∷◌, ◌++◌, [], length, None, ap, ◌∙◌, arith}
+use Rattle.std.proofs.Common.{◌-◌, ◌∷◌, ◌++◌, [], length, None, ap, ◌∙◌, arith}
 use Rattle.circular_buffer.specs.Buffer.{buffer}
 use Rattle.stack_queue.specs.Pending.{tasks_at}
 use Rattle.stack_queue.proofs.Lists.{as_many, pushed}
@@ -12,6 +12,7 @@ push_bare-requires c = omega (
   ap (λ b. b.capacity) c.self.view_is,
   as_many c.self.inside.places.items c.self.inside.events.items c.self.invariant.0,
   c.self.invariant.1,
+  c.self.invariant.2,
 )
 
 pub put_place-requires : goal.put_place-requires
@@ -22,12 +23,13 @@ put_place-requires c = omega (
   ap (λ b. b.capacity) c.self.view_is,
   as_many c.self.inside.places.items c.self.inside.events.items c.self.invariant.0,
   c.self.invariant.0,
+  c.self.invariant.2,
 )
 
 pub returns : goal.returns
 returns c =
-    (λ k. buffer (tasks_at (c.put_place.ensures k).items (c.push_bare.ensures k).items) (c.put_place.ensures k).capacity)
-    ∙ ap (λ ts. buffer ts c.self.inside.places.capacity)
+    (λ k. buffer (tasks_at (c.put_place.ensures k).items (c.push_bare.ensures k).items) ((c.put_place.ensures k).capacity - 1))
+    ∙ ap (λ ts. buffer ts (c.self.inside.places.capacity - 1))
     (pushed c.self.inside.places.items c.self.inside.events.items c.args.at c.args.direction
     (record { kind = c.args.kind; peer = c.args.peer; a = c.args.a; b = c.args.b; message = None }) c.self.invariant.0)
     ∙ ap (λ b. buffer (b.items ++ record { at = c.args.at; direction = c.args.direction; event = record { kind = c.args.kind; peer = c.args.peer; a = c.args.a; b = c.args.b; message = None } } ∷ []) b.capacity) c.self.view_is

@@ -11,6 +11,7 @@ push_put-requires-clause-room c = omega (
   ap (λ b. b.capacity) c.self.view_is,
   as_many c.self.inside.places.items c.self.inside.events.items c.self.invariant.0,
   c.self.invariant.1,
+  c.self.invariant.2,
 )
 
 pub put_place-requires : goal.put_place-requires
@@ -21,6 +22,7 @@ put_place-requires c = omega (
   ap (λ b. b.capacity) c.self.view_is,
   as_many c.self.inside.places.items c.self.inside.events.items c.self.invariant.0,
   c.self.invariant.0,
+  c.self.invariant.2,
 )
 
 pub returns : goal.returns

@@ -1,6 +1,6 @@
 use Rattle.std.proofs.Common.{◌≡◌, ◌++◌, drop, length}
 use Rattle.stack_queue.specs.Pending.{places_on}
-use Rattle.stack_queue.proofs.places.go_on.Given as goal
+use Rattle.stack_queue.proofs.places.put_places.Given as goal
 
 abbrev pub invariant-loop-k : goal.invariant-loop-k
 invariant-loop-k l =

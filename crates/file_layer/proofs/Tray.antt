@@ -1,0 +1,30 @@
+-- A desk whose tray becomes another.
+use Rattle.std.proofs.Common.{◌≡◌, ◌≤◌, List, Option, ◌-◌, sym, subst, ◌∙◌}
+use Rattle.slot_pool.specs.Held.{Held}
+use Rattle.layer_ast.specs.declared.tokens.Dir.{Dir}
+use Rattle.layer_desk.specs.Spent.{Begun}
+use Rattle.layer_desk.specs.declared.envelope.Envelope.{Envelope}
+use Rattle.pool_message.specs.Tray.{OnTray, also_sent}
+use Rattle.pool_message.specs.declared.message.PoolMessage.{PoolMessage}
+use Rattle.file_layer.specs.Steps.{InPool}
+use Rattle.file_layer.specs.Fits.{StockFits, SentGrows}
+use Rattle.file_layer.specs.Ready.{stock_of, layout_of, IsReady}
+use Rattle.file_layer.specs.declared.desk.FileDesk.{FileDesk}
+
+-- An event of which all but its message is known is sent behind others.
+abbrev pub with_event : Dir → Envelope → Option PoolMessage → OnTray → OnTray
+with_event dir e message t = also_sent dir e.kind e.peer e.a e.b message t
+
+-- A desk that is in order stays so where its tray has as many places as before, and sends behind what was sent.
+pub tray_ready : (b : Begun) (p q : List Held) (d : FileDesk) (t new : OnTray) → IsReady b p d → new ≡ t → InPool b q (stock_of (record d { tray = t })) →
+    StockFits b.layout (stock_of (record d { tray = t })) → t.messages.capacity ≡ d.tray.messages.capacity → SentGrows b.refs b.list d.first d.places t.sent →
+    IsReady b q (record d { tray = new })
+tray_ready b p q d t new is same pool fits capacity sent = subst (λ t. IsReady b q (record d { tray = t })) (sym same) record {
+  pool = pool;
+  layout = (λ j. record (layout_of d) { messages = capacity j - 1 }) ∙ is.layout;
+  fits = fits;
+  numbers = is.numbers;
+  messages = subst (λ n. 1 ≤ n) (sym capacity) is.messages;
+  forms = is.forms;
+  sent = sent;
+}

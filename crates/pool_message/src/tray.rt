@@ -1,0 +1,588 @@
+//! What a layer has before it of the events that it takes and sends.
+
+ghost use Rattle.std.specs.Prelude.{◌≡◌, ◌<◌, [], ◌∷◌, ◌++◌, drop, length, Some, None, option_map, option_copied, is_some, true};
+ghost use Rattle.circular_buffer.specs.Buffer.{buffer};
+ghost use Rattle.slot_pool.specs.References.{Covers};
+ghost use Rattle.pool_message.specs.Moves.{CanKeep, Kept, Returned};
+ghost use Rattle.pool_message.specs.Seen.{refs, refs_if, bodiless};
+ghost use Rattle.pool_message.specs.Sent.{first_sent, sent_behind, CanPass};
+ghost use Rattle.pool_message.specs.Tray.{first_message, arrived_at, bound_at, sent_at, message_in, StandsSo};
+
+use crate::event::PoolEvent;
+use crate::events::Events;
+use crate::list::begin_event;
+use crate::message::PoolMessage;
+use crate::messages::Messages;
+use crate::place::Place;
+use layer_ast::{Dir, Kind};
+use msg_core::Header;
+use slot_pool::{Memory, Pool};
+use std::alloc::Global;
+use std::marker::Model;
+use std::mem;
+
+/// How the first event of a tray's list stands.
+#[derive(Clone, Copy)]
+enum Front {
+    /// It was sent, as all others were.
+    Gone,
+    /// It is the one that is taken, and its message arrived, if it has one.
+    Arrived,
+    /// It is the one that is taken, and its message is the first of the scope.
+    Bound,
+}
+
+/// The event that a layer takes, the messages of the scope of its handler's block, and what the layer sends. The event stays where it stands
+/// in the list, in front of the others, and its message with it: so nothing is moved where the layer sends it on. A tray can't be let go: it
+/// is emptied, and then closed.
+pub struct Tray {
+    front: Front,
+    events: Events,
+    /// The messages of the scope behind one that is bound.
+    messages: Messages,
+}
+
+impl Model for Tray {
+    ghost use Rattle.std.specs.Prelude.{◌≡◌, ◌++◌, ◌-◌, ◌<◌, ◌≤◌, length};
+    ghost use Rattle.circular_buffer.specs.Buffer.{buffer};
+    ghost use Rattle.pool_message.specs.Tray.{OnTray, arrived_at, bound_at, sent_at, StandsSo, HasSpare};
+
+    ghost Value = { OnTray };
+
+    ghost view = { λ t. record {
+      arrived = arrived_at t.front t.events.items;
+      messages = buffer (bound_at t.front t.events.items ++ t.messages.items) t.messages.capacity;
+      sent = buffer (sent_at t.front t.events.items) (t.events.capacity - 1);
+    } };
+
+    ghost invariant = { λ t. StandsSo t.front t.events.items × (1 ≤ t.events.capacity) × HasSpare t.front t.messages };
+}
+
+impl Tray {
+    ghost use Rattle.std.specs.Prelude.{◌≡◌, nat_lt, ◌+◌, ◌-◌, ◌<◌, ◌≤◌, [], ◌∷◌, ◌++◌, drop, length, slice_get, slice_index_or, slice_set, Some, None, option_copied, option_map, option_to_list, IfOk, IfSome};
+    ghost use Rattle.circular_buffer.specs.Buffer.{buffer, last_item};
+    ghost use Rattle.slot_pool.specs.References.{Covers};
+    ghost use Rattle.msg_core.specs.Headers.{most_headers};
+    ghost use Rattle.pool_message.specs.Seen.{refs, refs_if, bodiless};
+    ghost use Rattle.pool_message.specs.Sent.{first_sent, most_events, first_header, with_header, without_first, sent_behind, CanPass};
+    ghost use Rattle.pool_message.specs.Moves.{CanKeep, Kept, Returned};
+    ghost use Rattle.pool_message.specs.Piled.{pile_refs, without_last};
+    ghost use Rattle.pool_message.specs.Tray.{also_sent, message_at};
+
+    /// No event, and no message in a scope with so many places.
+    pub fn fresh(alloc: Global, messages: usize) -> Result<Tray, Memory>
+        ensures { IfOk result (λ t. t ≡ record { arrived = None; messages = buffer [] messages; sent = buffer [] 0 }) }
+    {
+        let events = Events::fresh(alloc, 1)?;
+        match Messages::fresh(alloc, messages) {
+            Ok(messages) => Ok(Tray {
+                front: Front::Gone,
+                events,
+                messages,
+            }),
+            Err(error) => {
+                events.close();
+                Err(error)
+            }
+        }
+    }
+
+    /// Takes the first of some events, behind which what is sent will come. What was sent before goes there. Nothing has arrived, and the scope
+    /// is empty.
+    pub fn begin(&mut self, events: &mut Events)
+        requires some { 0 < length events.old.items }
+        requires within { length events.old.items ≤ events.old.capacity }
+        requires idle { (self.old.arrived ≡ None) × (self.old.messages.items ≡ []) }
+        ensures begun { self.new ≡ record {
+          arrived = (first_sent events.old.items).1.message;
+          messages = self.old.messages;
+          sent = buffer (drop 1 events.old.items) (events.old.capacity - 1);
+        } }
+        ensures sent { events.new ≡ buffer self.old.sent.items (self.old.sent.capacity + 1) }
+    {
+        settle(self.front, &mut self.events);
+        self.front = Front::Arrived;
+        mem::swap(&mut self.events, events);
+    }
+
+    /// Gives what was sent back, and has these events in its place. Nothing has arrived that didn't go, and the scope is empty.
+    pub fn end(&mut self, events: &mut Events)
+        requires places { 1 ≤ events.old.capacity }
+        requires idle { (self.old.arrived ≡ None) × (self.old.messages.items ≡ []) }
+        ensures ended { self.new ≡ record self.old { sent = buffer events.old.items (events.old.capacity - 1) } }
+        ensures sent { events.new ≡ buffer self.old.sent.items (self.old.sent.capacity + 1) }
+    {
+        settle(self.front, &mut self.events);
+        self.front = Front::Gone;
+        mem::swap(&mut self.events, events);
+    }
+
+    /// The message that arrived, if there is one that isn't bound.
+    pub fn arrived(&self) -> Option<&PoolMessage>
+        ensures { option_copied result ≡ self.now.arrived }
+    {
+        match self.front {
+            Front::Arrived => message_of(&self.events),
+            Front::Gone | Front::Bound => None,
+        }
+    }
+
+    /// Puts a header in front of those of the message that arrived, if there is one.
+    pub fn push_header(&mut self, header: Header)
+        requires { IfSome self.old.arrived (λ m. length m.headers < most_headers) }
+        ensures { self.new ≡ record self.old { arrived = option_map (with_header header) self.old.arrived } }
+    {
+        match self.front {
+            Front::Arrived => self.events.first_mut().1.message.push_header(header),
+            Front::Gone | Front::Bound => {}
+        }
+    }
+
+    /// Takes the first header off the message that arrived, if there is one.
+    pub fn pop_header(&mut self) -> Option<Header>
+        ensures first { result ≡ first_header self.old.arrived }
+        ensures rest { self.new ≡ record self.old { arrived = option_map without_first self.old.arrived } }
+    {
+        match self.front {
+            Front::Arrived => self.events.first_mut().1.message.pop_header(),
+            Front::Gone | Front::Bound => None,
+        }
+    }
+
+    /// The message that arrived becomes the only one of the scope, which was empty.
+    pub fn bind(&mut self)
+        requires empty { self.old.messages.items ≡ [] }
+        requires room { 1 ≤ self.old.messages.capacity }
+        ensures { self.new ≡ record self.old { arrived = None; messages = buffer (option_to_list self.old.arrived) self.old.messages.capacity } }
+    {
+        if self.arrived().is_some() {
+            self.front = Front::Bound;
+        }
+    }
+
+    /// Gives the reference of the message that arrived back, if there is one.
+    pub fn drop_arrived(&mut self, pool: &mut Pool)
+        requires { Covers pool.old (refs_if self.old.arrived) }
+        ensures gone { self.new ≡ record self.old { arrived = None } }
+        ensures returned { Returned pool.old pool.new (refs_if self.old.arrived) }
+    {
+        match self.front {
+            Front::Arrived => self.events.first_mut().1.message.let_go(pool),
+            Front::Gone | Front::Bound => {}
+        }
+    }
+
+    /// How many messages a scope may have.
+    pub fn messages_places(&self) -> usize
+        ensures { result ≡ self.now.messages.capacity }
+    {
+        self.messages.capacity()
+    }
+
+    /// Whether the scope has a message number `k`.
+    pub fn has_message(&self, k: usize) -> bool
+        ensures { result ≡ nat_lt k (length self.now.messages.items) }
+    {
+        match self.front {
+            Front::Bound => k == 0 || k - 1 < self.messages.len(),
+            Front::Gone | Front::Arrived => k < self.messages.len(),
+        }
+    }
+
+    /// The message number `k` of the scope, if there is one.
+    pub fn message(&self, k: usize) -> Option<&PoolMessage>
+        ensures { option_copied result ≡ slice_get self.now.messages.items k }
+    {
+        match self.front {
+            Front::Bound => {
+                if k > 0 {
+                    self.messages.get(k - 1)
+                } else {
+                    message_of(&self.events)
+                }
+            }
+            Front::Gone | Front::Arrived => self.messages.get(k),
+        }
+    }
+
+    /// Puts a message without headers and bytes behind those of the scope.
+    pub fn push_message(&mut self)
+        requires { length self.old.messages.items < self.old.messages.capacity }
+        ensures { self.new ≡ record self.old { messages = buffer (self.old.messages.items ++ bodiless [] ∷ []) self.old.messages.capacity } }
+    {
+        self.messages.push_bare();
+    }
+
+    /// A message takes the place of the message number `k` of the scope, whose reference goes back; where there is none, its own goes back.
+    pub fn replace(&mut self, k: usize, message: PoolMessage, pool: &mut Pool)
+        requires { Covers pool.old (refs (slice_index_or self.old.messages.items k message)) }
+        ensures set { self.new ≡ record self.old { messages = buffer (slice_set self.old.messages.items k message) self.old.messages.capacity } }
+        ensures returned { Returned pool.old pool.new (refs (slice_index_or self.old.messages.items k message)) }
+    {
+        let mut message = message;
+        self.replace_from(k, &mut message, pool);
+        message.close();
+    }
+
+    /// The same with a message that stays where it lies, without headers and bytes.
+    pub fn replace_from(&mut self, k: usize, message: &mut PoolMessage, pool: &mut Pool)
+        requires { Covers pool.old (refs (slice_index_or self.old.messages.items k message.old)) }
+        ensures set { self.new ≡ record self.old { messages = buffer (slice_set self.old.messages.items k message.old) self.old.messages.capacity } }
+        ensures left { message.new ≡ bodiless [] }
+        ensures returned { Returned pool.old pool.new (refs (slice_index_or self.old.messages.items k message.old)) }
+    {
+        match self.front {
+            Front::Bound => {
+                if k > 0 {
+                    self.messages.replace_from(k - 1, message, pool);
+                } else {
+                    refill(self.events.first_mut(), message, pool);
+                }
+            }
+            Front::Gone | Front::Arrived => self.messages.replace_from(k, message, pool),
+        }
+    }
+
+    /// Lets the messages of the scope go, and gives their references back.
+    pub fn clear_messages(&mut self, pool: &mut Pool)
+        requires { Covers pool.old (pile_refs self.old.messages.items) }
+        ensures empty { self.new ≡ record self.old { messages = buffer [] self.old.messages.capacity } }
+        ensures returned { Returned pool.old pool.new (pile_refs self.old.messages.items) }
+    {
+        self.messages.clear(pool);
+        match self.front {
+            Front::Bound => {
+                self.events.first_mut().1.message.let_go(pool);
+                self.front = Front::Arrived;
+            }
+            Front::Gone | Front::Arrived => {}
+        }
+    }
+
+    /// How many events were sent.
+    pub fn len(&self) -> usize
+        ensures { result ≡ length self.now.sent.items }
+    {
+        match self.front {
+            Front::Gone => self.events.len(),
+            Front::Arrived | Front::Bound => self.events.len() - 1,
+        }
+    }
+
+    /// How many events may be sent.
+    pub fn places(&self) -> usize
+        ensures places { result ≡ self.now.sent.capacity }
+        ensures few { result < most_events }
+    {
+        self.events.places() - 1
+    }
+
+    /// Sends an event of this kind, with these numbers and without a message.
+    pub fn send_bare(&mut self, direction: Dir, kind: Kind, peer: u32, a: u32, b: u32)
+        requires { length self.old.sent.items < self.old.sent.capacity }
+        ensures { self.new ≡ also_sent direction kind peer a b None self.old }
+    {
+        self.events.push_bare(direction, kind, peer, a, b);
+    }
+
+    /// Sends an event of this kind, with these numbers and with what lies in a place. The place is empty then.
+    pub fn send_from(
+        &mut self,
+        direction: Dir,
+        kind: Kind,
+        peer: u32,
+        a: u32,
+        b: u32,
+        message: &mut Place,
+    )
+        requires { length self.old.sent.items < self.old.sent.capacity }
+        ensures sent { self.new ≡ also_sent direction kind peer a b message.old self.old }
+        ensures left { message.new ≡ None }
+    {
+        self.events.push_from(direction, kind, peer, a, b, message);
+    }
+
+    /// Sends an event of this kind, with these numbers and with the last of some messages, if there is one. That message is taken out.
+    pub fn send_last(
+        &mut self,
+        direction: Dir,
+        kind: Kind,
+        peer: u32,
+        a: u32,
+        b: u32,
+        messages: &mut Messages,
+    )
+        requires { length self.old.sent.items < self.old.sent.capacity }
+        ensures sent { self.new ≡ also_sent direction kind peer a b (last_item messages.old.items) self.old }
+        ensures rest { messages.new ≡ buffer (without_last messages.old.items) messages.old.capacity }
+    {
+        self.events.push_last(direction, kind, peer, a, b, messages);
+    }
+
+    /// Sends an event of this kind, with these numbers and with the message that arrived, if there is one that isn't bound.
+    pub fn send_arrived(&mut self, direction: Dir, kind: Kind, peer: u32, a: u32, b: u32)
+        requires { length self.old.sent.items < self.old.sent.capacity }
+        ensures { self.new ≡ record (also_sent direction kind peer a b self.old.arrived self.old) { arrived = None } }
+    {
+        match self.front {
+            Front::Arrived => {
+                send_first(&mut self.events, direction, kind, peer, a, b);
+                self.front = Front::Gone;
+            }
+            Front::Gone | Front::Bound => self.events.push_bare(direction, kind, peer, a, b),
+        }
+    }
+
+    /// Sends an event of this kind, with these numbers and with the message number `k` of the scope once more, which goes down behind this
+    /// header. The two share the message's bytes, to which there is one more reference.
+    pub fn send_message(
+        &mut self,
+        direction: Dir,
+        kind: Kind,
+        peer: u32,
+        a: u32,
+        b: u32,
+        header: Header,
+        k: usize,
+        pool: &mut Pool,
+    )
+        requires places { length self.old.sent.items < self.old.sent.capacity }
+        requires some { k < length self.old.messages.items }
+        requires room { CanPass direction (Some (message_at k self.old)) }
+        requires there { Covers pool.old (refs (message_at k self.old)) }
+        requires keeps { CanKeep pool.old (refs (message_at k self.old)) }
+        ensures sent { self.new ≡ also_sent direction kind peer a b (Some (sent_behind direction header (message_at k self.old))) self.old }
+        ensures kept { Kept pool.old pool.new (refs (message_at k self.old)) }
+    {
+        let place = match self.front {
+            Front::Bound => {
+                if k == 0 {
+                    send_first_again(
+                        &mut self.events,
+                        &mut self.messages,
+                        direction,
+                        kind,
+                        peer,
+                        a,
+                        b,
+                        header,
+                        pool,
+                    );
+                    return;
+                }
+                k - 1
+            }
+            Front::Gone | Front::Arrived => k,
+        };
+        send_listed(
+            &mut self.events,
+            &self.messages,
+            direction,
+            kind,
+            peer,
+            a,
+            b,
+            header,
+            place,
+            pool,
+        );
+    }
+
+    /// The same where the scope isn't wanted any more: the other messages go, and one that is bound goes on from where it lies.
+    #[tactic(auto, using(crate::proofs::Piles::covers_at))]
+    pub fn send_and_clear(
+        &mut self,
+        direction: Dir,
+        kind: Kind,
+        peer: u32,
+        a: u32,
+        b: u32,
+        header: Header,
+        k: usize,
+        pool: &mut Pool,
+    )
+        requires places { length self.old.sent.items < self.old.sent.capacity }
+        requires some { k < length self.old.messages.items }
+        requires room { CanPass direction (Some (message_at k self.old)) }
+        requires there { Covers pool.old (pile_refs self.old.messages.items) }
+        requires keeps { CanKeep pool.old (refs (message_at k self.old)) }
+        ensures sent { self.new ≡ record (also_sent direction kind peer a b (Some (sent_behind direction header (message_at k self.old))) self.old)
+            { messages = buffer [] self.old.messages.capacity } }
+        ensures returned { Returned pool.old pool.new (pile_refs (slice_set self.old.messages.items k (bodiless []))) }
+    {
+        match self.front {
+            Front::Bound => {
+                if k == 0 {
+                    self.messages.clear(pool);
+                    send_first_behind(&mut self.events, direction, kind, peer, a, b, header);
+                    self.front = Front::Gone;
+                    return;
+                }
+            }
+            Front::Gone | Front::Arrived => {}
+        }
+        self.send_message(direction, kind, peer, a, b, header, k, pool);
+        self.clear_messages(pool);
+    }
+
+    /// Ends an empty tray.
+    pub fn close(self)
+        requires { (self.arrived ≡ None) × (self.messages.items ≡ []) × (self.sent.items ≡ []) }
+    {
+        let Tray {
+            front,
+            mut events,
+            messages,
+        } = self;
+        settle(front, &mut events);
+        events.close();
+        messages.close();
+    }
+}
+
+/// An event whose message has gone leaves the others.
+fn settle(front: Front, events: &mut Events)
+    requires stands { StandsSo front events.old.items }
+    requires idle { (arrived_at front events.old.items ≡ None) × (bound_at front events.old.items ≡ []) }
+    ensures { events.new ≡ buffer (sent_at front events.old.items) events.old.capacity }
+{
+    match front {
+        Front::Gone => {}
+        Front::Arrived | Front::Bound => events.end_first(),
+    }
+}
+
+/// The first event goes on as the last, in this direction, of this kind, with these numbers and with its message.
+fn send_first(events: &mut Events, direction: Dir, kind: Kind, peer: u32, a: u32, b: u32)
+    requires { 0 < length events.old.items }
+    ensures { events.new ≡ buffer (drop 1 events.old.items ++ (direction, record { kind = kind; peer = peer; a = a; b = b; message = first_message events.old.items }) ∷ []) events.old.capacity }
+{
+    begin_event(events.first_mut(), direction, kind, peer, a, b);
+    events.go_round();
+}
+
+/// The same where its message, if it has one, goes down behind a header.
+fn send_first_behind(
+    events: &mut Events,
+    direction: Dir,
+    kind: Kind,
+    peer: u32,
+    a: u32,
+    b: u32,
+    header: Header,
+)
+    requires some { 0 < length events.old.items }
+    requires room { CanPass direction (first_message events.old.items) }
+    ensures { events.new ≡ buffer (drop 1 events.old.items ++ (direction, record { kind = kind; peer = peer; a = a; b = b; message = option_map (sent_behind direction header) (first_message events.old.items) }) ∷ []) events.old.capacity }
+{
+    match direction {
+        Dir::Up => {}
+        Dir::Down => events.first_mut().1.message.push_header(header),
+    }
+    send_first(events, direction, kind, peer, a, b);
+}
+
+/// The message of the first event, which there is, goes once more, and down behind a header. Meanwhile it lies in a spare place.
+#[tactic(auto, using(crate::proofs::Piles::last_more, crate::proofs::Piles::rest_more))]
+fn send_first_again(
+    events: &mut Events,
+    spare: &mut Messages,
+    direction: Dir,
+    kind: Kind,
+    peer: u32,
+    a: u32,
+    b: u32,
+    header: Header,
+    pool: &mut Pool,
+)
+    requires places { length events.old.items < events.old.capacity }
+    requires spare { length spare.old.items < spare.old.capacity }
+    requires bound { is_some (first_message events.old.items) ≡ true }
+    requires room { CanPass direction (first_message events.old.items) }
+    requires there { Covers pool.old (refs_if (first_message events.old.items)) }
+    requires keeps { CanKeep pool.old (refs_if (first_message events.old.items)) }
+    ensures sent { events.new ≡ buffer (events.old.items ++ (direction, record { kind = kind; peer = peer; a = a; b = b; message = option_map (sent_behind direction header) (first_message events.old.items) }) ∷ []) events.old.capacity }
+    ensures same { spare.new ≡ spare.old }
+    ensures kept { Kept pool.old pool.new (refs_if (first_message events.old.items)) }
+{
+    let Some(message) = message_of(events) else {
+        unreachable!();
+    };
+    keep_behind(spare, direction, header, message, pool);
+    events.push_last(direction, kind, peer, a, b, spare);
+}
+
+/// A message comes once more behind others, and going down behind a header.
+#[tactic(auto, using(crate::proofs::Piles::changed_more))]
+fn keep_behind(
+    others: &mut Messages,
+    direction: Dir,
+    header: Header,
+    message: &PoolMessage,
+    pool: &mut Pool,
+)
+    requires places { length others.old.items < others.old.capacity }
+    requires room { CanPass direction (Some message.now) }
+    requires there { Covers pool.old (refs message.now) }
+    requires keeps { CanKeep pool.old (refs message.now) }
+    ensures pushed { others.new ≡ buffer (others.old.items ++ sent_behind direction header message.now ∷ []) others.old.capacity }
+    ensures kept { Kept pool.old pool.new (refs message.now) }
+{
+    others.push_kept(message, pool);
+    match direction {
+        Dir::Up => {}
+        Dir::Down => others.push_header_on_last(header),
+    }
+}
+
+/// The message of the first event, which there is, if it has one.
+fn message_of(events: &Events) -> Option<&PoolMessage>
+    requires { 0 < length events.now.items }
+    ensures { option_copied result ≡ first_message events.now.items }
+{
+    match events.first() {
+        Some((_direction, event)) => event.message.get(),
+        None => unreachable!(),
+    }
+}
+
+/// Message number `k` of some, which there is, goes once more, and down behind a header.
+fn send_listed(
+    events: &mut Events,
+    messages: &Messages,
+    direction: Dir,
+    kind: Kind,
+    peer: u32,
+    a: u32,
+    b: u32,
+    header: Header,
+    k: usize,
+    pool: &mut Pool,
+)
+    requires places { length events.old.items < events.old.capacity }
+    requires some { k < length messages.now.items }
+    requires room { CanPass direction (Some (message_in k messages.now.items)) }
+    requires there { Covers pool.old (refs (message_in k messages.now.items)) }
+    requires keeps { CanKeep pool.old (refs (message_in k messages.now.items)) }
+    ensures sent { events.new ≡ buffer (events.old.items ++ (direction, record { kind = kind; peer = peer; a = a; b = b; message = Some (sent_behind direction header (message_in k messages.now.items)) }) ∷ []) events.old.capacity }
+    ensures kept { Kept pool.old pool.new (refs (message_in k messages.now.items)) }
+{
+    match messages.get(k) {
+        Some(message) => {
+            events.push_kept(direction, kind, peer, a, b, header, message, pool);
+        }
+        None => unreachable!(),
+    }
+}
+
+/// The message of an event goes, whose reference goes back, and another takes its place, which is left without headers and bytes.
+fn refill(sent: &mut (Dir, PoolEvent), message: &mut PoolMessage, pool: &mut Pool)
+    requires { Covers pool.old (refs_if sent.old.1.message) }
+    ensures filled { sent.new ≡ (sent.old.0, record sent.old.1 { message = Some message.old }) }
+    ensures left { message.new ≡ bodiless [] }
+    ensures returned { Returned pool.old pool.new (refs_if sent.old.1.message) }
+{
+    let place = &mut sent.1.message;
+    place.let_go(pool);
+    place.fill(message);
+}
