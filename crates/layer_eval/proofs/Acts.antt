@@ -1,5 +1,5 @@
 -- What one more statement or turn does behind others.
-use Rattle.std.proofs.Common.{◌≡◌, ◌≢◌, ℕ, suc, zero, ◌+◌, ◌<◌, Bool, true, false, ◌&&◌, List, [], ◌∷◌, ◌++◌, length, map, take, get_or, add-one, take-suc, refl, sym, ap, ◌∙◌, subst, append_assoc, arith}
+use Rattle.std.proofs.Common.{◌≡◌, ◌≢◌, ℕ, suc, zero, ◌+◌, ◌-◌, ◌<◌, ◌≤◌, Bool, true, false, ◌&&◌, List, [], ◌∷◌, ◌++◌, None, Result, Ok, Err, OnOk, length, map, take, get_or, add-one, take_all, take-suc, refl, sym, ap, ◌∙◌, subst, append_assoc, arith}
 use Rattle.std.proofs.lemmas.List.{map-append}
 use Rattle.std.proofs.lemmas.List.Folds.{list_all-append}
 use Rattle.std.proofs.lemmas.List.Sums.{fold-append}
@@ -12,8 +12,9 @@ use Rattle.layer_eval.specs.Worth.{number_of}
 use Rattle.layer_mean.specs.Effect.{Decision, went_as, Outcome, Act, done, after, in_order, decides, with_slot, turns, chosen, does, acts}
 use Rattle.typed_layer.specs.View.{trees, statement_tree}
 use Rattle.typed_layer.specs.declared.tree.Statement.{Statement}
-use Rattle.layer_desk.specs.Laid.{Laid, bound}
-use Rattle.layer_eval.specs.Did.{Did, as_predicted, both, decision, statement_does, block_does}
+use Rattle.layer_mean.specs.Visit.{no_scope}
+use Rattle.layer_desk.specs.Laid.{Laid, bound, left}
+use Rattle.layer_eval.specs.Did.{Did, Ended, as_predicted, both, decision, statement_does, block_does}
 use Rattle.layer_eval.specs.declared.predicted.Predicted.{Predicted}
 
 -- decisions behind others
@@ -65,13 +66,18 @@ one_more_tree xs i x within is =
     ∙ ap (map statement_tree) (take-suc xs i x within ∙ ap (λ y. take i xs ++ y ∷ []) (sym is))
     ∙ map-append statement_tree (take i xs) (x ∷ [])
 
+behind_all : (place : ℕ) (ts : List StatementTree) (x : StatementTree) (p : Laid) →
+    block_does place (trees (ts ++ x ∷ [])) p ≡ after (block_does place (trees ts) p) (does place x)
+behind_all place ts x p =
+    ap (λ (all : List Act). in_order all p.state p.scope) (acts_more place ts x)
+    ∙ fold-append after (done p.state p.scope) (acts place (trees ts)) (does place x ∷ [])
+
 one_more : (place : ℕ) (xs : List Statement) (i : ℕ) (x : Statement) (p : Laid) → i < length xs → x ≡ get_or xs i x →
     block_does place (trees (map statement_tree (take (i + 1) xs))) p
     ≡ after (block_does place (trees (map statement_tree (take i xs))) p) (does place (statement_tree x))
 one_more place xs i x p within is =
     ap (λ ts. block_does place (trees ts) p) (one_more_tree xs i x within is)
-    ∙ ap (λ (all : List Act). in_order all p.state p.scope) (acts_more place (map statement_tree (take i xs)) (statement_tree x))
-    ∙ fold-append after (done p.state p.scope) (acts place (trees (map statement_tree (take i xs)))) (does place (statement_tree x) ∷ [])
+    ∙ behind_all place (map statement_tree (take i xs)) (statement_tree x) p
 
 -- one more statement of a block
 pub block_step : (place : ℕ) (xs : List Statement) (i : ℕ) (x : Statement) (old mid new : Laid) (b p q : Predicted) →
@@ -81,6 +87,44 @@ pub block_step : (place : ℕ) (xs : List Statement) (i : ℕ) (x : Statement) (
 block_step place xs i x old mid new b p q within is first second =
     subst (λ z. Did z old new b q) (sym (one_more place xs i x old within is))
     (did_after _ (does place (statement_tree x)) old mid new b p q first second)
+
+-- what lies at a desk behind an outcome is let go
+pub did_left : (o : Outcome) (old mid new : Laid) (b q : Predicted) → Did o old mid b q → new ≡ left mid → Ended o old new b q
+did_left o old mid new b q did is = record {
+  shown = is ∙ (λ i. record { state = did.state i; scope = no_scope; arrived = None; hand = did.hand i; sent = did.sent i });
+  predicted = did.predicted;
+}
+
+-- an act with which a visit ends, behind an outcome
+ended_after : (o : Outcome) (act : Act) (old mid new : Laid) (b p q : Predicted) → Did o old mid b p → Ended (act mid.state mid.scope) mid new p q →
+    Ended (after o act) old new b q
+ended_after o act old mid new b p q first last =
+    let more = act mid.state mid.scope in
+    let reached : Laid = record { state = more.state; scope = more.scope; arrived = mid.arrived; hand = mid.hand; sent = mid.sent ++ more.sent } in
+    did_left (after o act) old reached new b q
+    (did_after o act old mid reached b p q first
+    (record { state = refl; scope = refl; arrived = refl; hand = refl; sent = refl; predicted = last.predicted }))
+    last.shown
+
+-- the last statement of a block, behind those in front of it
+pub last_tree : (xs ys : List Statement) (x : Statement) → xs ≡ ys → 1 ≤ length xs → x ≡ get_or xs (length xs - 1) x →
+    map statement_tree ys ≡ map statement_tree (take (length xs - 1) xs) ++ statement_tree x ∷ []
+last_tree xs ys x same some is =
+    ap (map statement_tree) (sym same ∙ sym (take_all (length xs - 1 + 1) xs (omega (arith, some))))
+    ∙ one_more_tree xs (length xs - 1) x (omega (arith, some)) is
+
+pub block_ends : (place : ℕ) (xs ys : List Statement) (x : Statement) (old mid new : Laid) (b p q : Predicted) → xs ≡ ys → 1 ≤ length xs →
+    x ≡ get_or xs (length xs - 1) x → Did (block_does place (trees (map statement_tree (take (length xs - 1) xs))) old) old mid b p →
+    Ended (statement_does place (statement_tree x) mid) mid new p q → Ended (block_does place (trees (map statement_tree ys)) old) old new b q
+block_ends place xs ys x old mid new b p q same some is first last =
+    let front = map statement_tree (take (length xs - 1) xs) in
+    subst (λ z. Ended z old new b q)
+    (sym (ap (λ ts. block_does place (trees ts) old) (last_tree xs ys x same some is) ∙ behind_all place front (statement_tree x) old))
+    (ended_after _ (does place (statement_tree x)) old mid new b p q first last)
+
+pub on_ok : {A B P Q : Type 0} (r : Result A B) → (P → Q) → OnOk r P → OnOk r Q
+on_ok (Ok a) f is = f is
+on_ok (Err e) f is = is
 
 -- one more turn
 pub turn_step : (k slot : ℕ) (act : Act) (old mid at new : Laid) (b p q : Predicted) →

@@ -1,5 +1,6 @@
 pub mod Acts
 pub mod Needs
+pub mod Owed
 pub mod Sizes
 pub mod Trees
 pub mod Visits

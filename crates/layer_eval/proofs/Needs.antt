@@ -1,14 +1,16 @@
 -- How needs add up.
-use Rattle.std.proofs.Common.{◌≡◌, ℕ, suc, zero, ◌+◌, ◌*◌, ◌<◌, ◌≤◌, List, [], ◌∷◌, ◌++◌, length, map, take, get_or, sym, ap, subst, arith}
+use Rattle.std.proofs.Common.{◌≡◌, ℕ, suc, zero, ◌+◌, ◌-◌, ◌*◌, ◌<◌, ◌≤◌, List, [], ◌∷◌, ◌++◌, length, map, take, get_or, Option, Result, Ok, Err, sym, ap, subst, arith}
 use Rattle.std.proofs.Math.Nat.{mul-le-mul_right, suc-mul}
 use Rattle.layer_mean.specs.Tree.{ExpressionTree, StatementTree, StatementTrees, each}
-use Rattle.layer_eval.proofs.Acts.{one_more_tree}
+use Rattle.layer_eval.proofs.Acts.{one_more_tree, last_tree}
 use Rattle.typed_layer.specs.View.{trees, statement_tree}
 use Rattle.typed_layer.specs.declared.tree.Statement.{Statement}
-use Rattle.layer_desk.specs.Need.{Layout, Room, Need, statement_need, block_need}
-use Rattle.layer_desk.specs.Spent.{SpentAtMost, Lacks}
+use Rattle.layer_desk.specs.Need.{Layout, Room, Need, nothing_needed, statement_need, block_need}
+use Rattle.layer_desk.specs.Spent.{SpentAtMost, Lacks, Spent}
 use Rattle.layer_desk.specs.declared.no_room.NoRoom.{NoRoom}
 use Rattle.layer_desk.specs.declared.no_room.NoRoom.TheVariants as lack
+use Rattle.layer_eval.specs.declared.pending.Pending.{Pending}
+use Rattle.layer_eval.specs.Owed.{owed_places, owing}
 
 -- a need n and, behind it, a need m are within the need w
 pub record Within (n m w : Need) : Type 0 where
@@ -110,9 +112,91 @@ item_spent layout xs i x a b c within is first second =
     (spent_behind a b c _ _ _ first second (item_more layout (map statement_tree (take i xs)) (statement_tree x)))
 
 -- behind the first i statements there is no room for the next
-pub item_lacks : (layout : Layout) (xs ys : List Statement) (i : ℕ) (x : Statement) (a b : Room) (e : NoRoom) → xs ≡ ys → i < length xs →
-    x ≡ get_or xs i x → SpentAtMost a b (block_need layout (trees (map statement_tree (take i xs)))) → Lacks b (statement_need layout (statement_tree x)) e →
-    Lacks a (block_need layout (trees (map statement_tree ys))) e
-item_lacks layout xs ys i x a b e same within is spent lacks =
-    subst (λ zs. Lacks a (block_need layout (trees (map statement_tree zs))) e) same
-    (lacks_behind a b _ _ _ e spent lacks (item_within layout xs i x within is))
+pub item_lacks : (layout : Layout) (xs : List Statement) (i : ℕ) (x : Statement) (a b : Room) (e : NoRoom) → i < length xs → x ≡ get_or xs i x →
+    SpentAtMost a b (block_need layout (trees (map statement_tree (take i xs)))) → Lacks b (statement_need layout (statement_tree x)) e →
+    Lacks a (block_need layout (trees (map statement_tree xs))) e
+item_lacks layout xs i x a b e within is spent lacks = lacks_behind a b _ _ _ e spent lacks (item_within layout xs i x within is)
+
+-- what is in front of a statement is within all
+front_within : (layout : Layout) (ts : List StatementTree) (x : StatementTree) →
+    Within nothing_needed (block_need layout (trees ts)) (block_need layout (trees (ts ++ x ∷ [])))
+front_within layout [] x = record { slots = omega arith; places = omega arith; hand = omega arith; headers = omega arith; misfits = omega arith }
+front_within layout (y ∷ ts) x =
+    let rest = front_within layout ts x in
+    let slots = rest.slots in let places = rest.places in let hand = rest.hand in let misfits = rest.misfits in
+    record { slots = omega arith; places = omega arith; hand = omega arith; headers = omega arith; misfits = omega arith }
+
+-- a need m is more than a need n
+lacks_more : (a : Room) (n m : Need) (e : NoRoom) → Lacks a n e → Within nothing_needed n m → Lacks a m e
+lacks_more a n m e lacks within =
+    lacks_behind a a nothing_needed n m e (record { slots = omega arith; places = omega arith; hand = omega arith }) lacks within
+
+owing_more : (owed : Option Pending) (n m : Need) → Within nothing_needed n m → Within nothing_needed (owing owed n) (owing owed m)
+owing_more owed n m within = record {
+  slots = within.slots;
+  places = let more = within.places in omega arith;
+  hand = within.hand;
+  headers = within.headers;
+  misfits = within.misfits;
+}
+
+-- behind a need n, but for the place of an emission that is yet to go, there is no room for a need m
+owed_lacks : (before owed : Option Pending) (a b : Room) (n m w : Need) (e : NoRoom) → SpentAtMost (record a { places = owed_places owed + a.places }) b (owing before n) →
+    Lacks b (owing owed m) e → Within n m w → Lacks a (owing before w) e
+owed_lacks before owed a b n m w lack.Slot spent lacks within = record { short = let one = spent.slots in let two = within.slots in let s = lacks.short in omega arith }
+owed_lacks before owed a b n m w lack.Place spent lacks within = record { short = let one = spent.places in let two = within.places in let s = lacks.short in omega arith }
+owed_lacks before owed a b n m w lack.Hand spent lacks within = record { short = let one = spent.hand in let two = within.hand in let s = lacks.short in omega arith }
+owed_lacks before owed a b n m w lack.Headers spent lacks within = record { short = let two = within.headers in let s = lacks.short in omega arith }
+owed_lacks before owed a b n m w lack.Misfit spent lacks within = record { short = let two = within.misfits in let s = lacks.short in omega arith }
+
+-- or it is spent
+owed_spent : (before first second : Option Pending) (a b c : Room) (n m w : Need) →
+    SpentAtMost (record a { places = owed_places first + a.places }) b (owing before n) →
+    SpentAtMost (record b { places = owed_places second + b.places }) c (owing first m) → Within n m w →
+    SpentAtMost (record a { places = owed_places second + a.places }) c (owing before w)
+owed_spent before first second a b c n m w one two within = record {
+  slots = let s = one.slots in let t = two.slots in let both = within.slots in omega arith;
+  places = let s = one.places in let t = two.places in let both = within.places in omega arith;
+  hand = let s = one.hand in let t = two.hand in omega arith;
+}
+
+owed_ends : {A : Type 0} (before owed : Option Pending) (a b c : Room) (n m w : Need) (r : Result A NoRoom) →
+    SpentAtMost (record a { places = owed_places owed + a.places }) b (owing before n) → Spent b c (owing owed m) r → Within n m w → Spent a c (owing before w) r
+owed_ends before owed a b c n m w (Ok x) one two within = record {
+  slots = let s = one.slots in let t = two.slots in let both = within.slots in omega arith;
+  places = let s = one.places in let t = two.places in let both = within.places in omega arith;
+  hand = let s = one.hand in let t = two.hand in omega arith;
+}
+owed_ends before owed a b c n m w (Err e) one two within = owed_lacks before owed a b n m w e one two within
+
+-- the statements in front of the last, with emissions that are yet to go
+pub owed_item_spent : (layout : Layout) (xs : List Statement) (i : ℕ) (x : Statement) (before first second : Option Pending) (a b c : Room) → i < length xs →
+    x ≡ get_or xs i x → SpentAtMost (record a { places = owed_places first + a.places }) b (owing before (block_need layout (trees (map statement_tree (take i xs))))) →
+    SpentAtMost (record b { places = owed_places second + b.places }) c (owing first (statement_need layout (statement_tree x))) →
+    SpentAtMost (record a { places = owed_places second + a.places }) c (owing before (block_need layout (trees (map statement_tree (take (i + 1) xs)))))
+owed_item_spent layout xs i x before first second a b c within is one two =
+    subst (λ ts. SpentAtMost (record a { places = owed_places second + a.places }) c (owing before (block_need layout (trees ts)))) (sym (one_more_tree xs i x within is))
+    (owed_spent before first second a b c _ _ _ one two (item_more layout (map statement_tree (take i xs)) (statement_tree x)))
+
+pub owed_item_lacks : (layout : Layout) (xs : List Statement) (i : ℕ) (x : Statement) (before owed : Option Pending) (a b : Room) (e : NoRoom) → i < length xs →
+    x ≡ get_or xs i x → SpentAtMost (record a { places = owed_places owed + a.places }) b (owing before (block_need layout (trees (map statement_tree (take i xs))))) →
+    Lacks b (owing owed (statement_need layout (statement_tree x))) e → Lacks a (owing before (block_need layout (trees (map statement_tree xs)))) e
+owed_item_lacks layout xs i x before owed a b e within is spent lacks =
+    owed_lacks before owed a b _ _ _ e spent lacks (item_within layout xs i x within is)
+
+-- there is no room for what is in front of the last statement
+pub front_lacks : (layout : Layout) (xs ys : List Statement) (x : Statement) (before : Option Pending) (a : Room) (e : NoRoom) → xs ≡ ys → 1 ≤ length xs →
+    x ≡ get_or xs (length xs - 1) x → Lacks a (owing before (block_need layout (trees (map statement_tree (take (length xs - 1) xs))))) e →
+    Lacks a (owing before (block_need layout (trees (map statement_tree ys)))) e
+front_lacks layout xs ys x before a e same some is lacks =
+    subst (λ ts. Lacks a (owing before (block_need layout (trees ts))) e) (sym (last_tree xs ys x same some is))
+    (lacks_more a _ _ e lacks (owing_more before _ _ (front_within layout (map statement_tree (take (length xs - 1) xs)) (statement_tree x))))
+
+-- the last statement behind those in front of it
+pub last_spent : {A : Type 0} (layout : Layout) (xs ys : List Statement) (x : Statement) (before owed : Option Pending) (a b c : Room) (r : Result A NoRoom) → xs ≡ ys →
+    1 ≤ length xs → x ≡ get_or xs (length xs - 1) x →
+    SpentAtMost (record a { places = owed_places owed + a.places }) b (owing before (block_need layout (trees (map statement_tree (take (length xs - 1) xs))))) →
+    Spent b c (owing owed (statement_need layout (statement_tree x))) r → Spent a c (owing before (block_need layout (trees (map statement_tree ys)))) r
+last_spent layout xs ys x before owed a b c r same some is first second =
+    subst (λ ts. Spent a c (owing before (block_need layout (trees ts))) r) (sym (last_tree xs ys x same some is))
+    (owed_ends before owed a b c _ _ _ r first second (item_more layout (map statement_tree (take (length xs - 1) xs)) (statement_tree x)))

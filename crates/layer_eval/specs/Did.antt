@@ -1,10 +1,11 @@
 -- What statements and visits leave at a desk.
-use Rattle.std.specs.Prelude.{◌≡◌, ℕ, Bool, true, false, ◌&&◌, List, ◌++◌}
+use Rattle.std.specs.Prelude.{◌≡◌, ℕ, Bool, true, false, ◌&&◌, List, ◌++◌, None}
 use Rattle.layer_ast.specs.declared.syntax.Likely.{Likely}
 use Rattle.layer_ast.specs.declared.syntax.Likely.TheVariants as likely
 use Rattle.layer_mean.specs.declared.run.Case.TheVariants.{First, Second}
 use Rattle.layer_mean.specs.Tree.{StatementTree, StatementTrees}
 use Rattle.layer_mean.specs.Effect.{Decision, usual, unusual, forked, all_as, Outcome, in_order, does, acts}
+use Rattle.layer_mean.specs.Visit.{no_scope}
 use Rattle.layer_desk.specs.Laid.{Laid}
 use Rattle.layer_eval.specs.declared.predicted.Predicted.{Predicted}
 
@@ -40,4 +41,15 @@ pub record Did (o : Outcome) (old new : Laid) (before now : Predicted) : Type 0 
   pub arrived : new.arrived ≡ old.arrived
   pub hand : new.hand ≡ old.hand
   pub sent : new.sent ≡ old.sent ++ o.sent
+  pub predicted : now ≡ both (as_predicted o.decided) before
+
+-- An outcome came about, and with it the visit ended: beside its state and its events it leaves nothing.
+pub record Ended (o : Outcome) (old new : Laid) (before now : Predicted) : Type 0 where
+  pub shown : new ≡ record {
+    state = o.state;
+    scope = no_scope;
+    arrived = None;
+    hand = old.hand;
+    sent = old.sent ++ o.sent;
+  }
   pub predicted : now ≡ both (as_predicted o.decided) before

@@ -1,3 +1,4 @@
 pub mod Worth
 pub mod Did
+pub mod Owed
 pub mod Visit

@@ -4,9 +4,9 @@ ghost use Rattle.std.specs.Prelude.{◌≡◌, true, map, Option, OnOk};
 ghost use Rattle.msg_core.specs.Chain.{Content as Bytes};
 ghost use Rattle.layer_mean.specs.Event.{event_of};
 ghost use Rattle.layer_mean.specs.State.{has_room};
-ghost use Rattle.layer_mean.specs.Effect.{row_of, emitted};
-ghost use Rattle.typed_layer.specs.View.{expression_tree, row_tree, emission_tree, statement_tree, block_tree};
-ghost use Rattle.layer_desk.specs.Laid.{event_in, queued, sends};
+ghost use Rattle.layer_mean.specs.Effect.{row_of, header_of, emitted};
+ghost use Rattle.typed_layer.specs.View.{expression_tree, row_tree, content_tree, emission_tree, trees, statement_tree, block_tree};
+ghost use Rattle.layer_desk.specs.Laid.{event_in, queued, sends, left};
 ghost use Rattle.layer_desk.specs.Need.{push_need, emission_need, statement_need, block_need};
 ghost use Rattle.layer_desk.specs.Spent.{Spent};
 ghost use Rattle.layer_eval.specs.Worth.{numbers_of, message_sent};
@@ -19,13 +19,12 @@ use layer_ast::Kind;
 use layer_desk::{Desk, Envelope, NoRoom, Start};
 use msg_core::Header;
 use slot_pool::Pool;
-use typed_layer::{Block, Emission, MessageExpression, Row, Statement};
+use typed_layer::{Block, Content, Emission, MessageExpression, Row, Statement};
 
-/// Runs the statements of a block of the layer at a place, and keeps account of whether all has gone as predicted. Many blocks are empty: these
-/// cost no call. Of the others most have one statement: these cost no loop.
+/// Runs the statements of a block in a statement.
 #[cycle(effect)]
 #[inline(always)]
-pub fn run_block<K: Start, D: Desk>(
+fn run_block<K: Start, D: Desk>(
     place: u8,
     block: &Block,
     desk: &mut D,
@@ -39,20 +38,39 @@ pub fn run_block<K: Start, D: Desk>(
     ensures spent { Spent (D.free pool.old desk.old) (D.free pool.new desk.new)
         (block_need K.begun.layout (block_tree block.now)) result }
 {
-    let statements = block.statements.as_slice();
+    run_all::<K, D>(place, block.statements.as_slice(), desk, pool, predicted)
+}
+
+/// Runs statements in order. Often there are none: these cost no call. Otherwise there is mostly one: this costs no loop.
+#[cycle(effect)]
+#[inline(always)]
+fn run_all<K: Start, D: Desk>(
+    place: u8,
+    statements: &[Statement],
+    desk: &mut D,
+    pool: &mut Pool,
+    predicted: &mut Predicted,
+) -> Result<(), NoRoom>
+    requires { D.ready K.begun pool.old desk.old }
+    ensures ready { D.ready K.begun pool.new desk.new }
+    ensures did { OnOk result (Did (block_does place (trees (map statement_tree statements.now)) (D.shown pool.old desk.old))
+        (D.shown pool.old desk.old) (D.shown pool.new desk.new) predicted.old predicted.new) }
+    ensures spent { Spent (D.free pool.old desk.old) (D.free pool.new desk.new)
+        (block_need K.begun.layout (trees (map statement_tree statements.now))) result }
+{
     if statements.is_empty() {
         return Ok(());
     }
     if statements.len() == 1 {
         return run_alone::<K, D>(place, &statements[0], desk, pool, predicted);
     }
-    run_statements::<K, D>(place, block, desk, pool, predicted)
+    run_statements::<K, D>(place, statements, desk, pool, predicted)
 }
 
-/// Runs a statement that is all of a block.
+/// Runs a statement that has none beside it, or none that is run in the same way.
 #[cycle(effect)]
 #[inline(never)]
-fn run_alone<K: Start, D: Desk>(
+pub fn run_alone<K: Start, D: Desk>(
     place: u8,
     statement: &Statement,
     desk: &mut D,
@@ -73,19 +91,19 @@ fn run_alone<K: Start, D: Desk>(
 #[inline(never)]
 fn run_statements<K: Start, D: Desk>(
     place: u8,
-    block: &Block,
+    statements: &[Statement],
     desk: &mut D,
     pool: &mut Pool,
     predicted: &mut Predicted,
 ) -> Result<(), NoRoom>
     requires { D.ready K.begun pool.old desk.old }
     ensures ready { D.ready K.begun pool.new desk.new }
-    ensures did { OnOk result (Did (block_does place (block_tree block.now) (D.shown pool.old desk.old))
+    ensures did { OnOk result (Did (block_does place (trees (map statement_tree statements.now)) (D.shown pool.old desk.old))
         (D.shown pool.old desk.old) (D.shown pool.new desk.new) predicted.old predicted.new) }
     ensures spent { Spent (D.free pool.old desk.old) (D.free pool.new desk.new)
-        (block_need K.begun.layout (block_tree block.now)) result }
+        (block_need K.begun.layout (trees (map statement_tree statements.now))) result }
 {
-    for statement in block.statements.as_slice() {
+    for statement in statements {
         run_statement::<K, D>(place, statement, desk, pool, predicted)?;
     }
     Ok(())
@@ -249,6 +267,57 @@ fn emit<K: Start, D: Desk>(
     send::<K, D>(place, emission, envelope, desk, pool)
 }
 
+/// Sends an event, and lets go what the visit leaves; with that a message of the scope goes on.
+#[inline(never)]
+pub fn emit_last<K: Start, D: Desk>(
+    place: u8,
+    emission: &Emission,
+    desk: &mut D,
+    pool: &mut Pool,
+) -> Result<(), NoRoom>
+    requires { D.ready K.begun pool.old desk.old }
+    ensures ready { D.ready K.begun pool.new desk.new }
+    ensures shown { OnOk result (D.shown pool.new desk.new ≡ left (sends emission.now.direction
+        (emitted place (emission_tree emission.now) (D.shown pool.old desk.old).state (D.shown pool.old desk.old).scope)
+        (D.shown pool.old desk.old))) }
+    ensures spent { Spent (D.free pool.old desk.old) (D.free pool.new desk.new) (emission_need (emission_tree emission.now)) result }
+{
+    let envelope = envelope::<K, D>(emission, desk, pool);
+    send_last::<K, D>(place, emission, envelope, desk, pool)
+}
+
+/// Sends an event with an emission's message, and lets go what the visit leaves.
+#[inline(always)]
+fn send_last<K: Start, D: Desk>(
+    place: u8,
+    emission: &Emission,
+    envelope: Envelope,
+    desk: &mut D,
+    pool: &mut Pool,
+) -> Result<(), NoRoom>
+    requires { D.ready K.begun pool.old desk.old }
+    ensures ready { D.ready K.begun pool.new desk.new }
+    ensures shown { OnOk result (D.shown pool.new desk.new ≡ left (sends emission.now.direction
+        (event_in envelope (message_sent place (emission_tree emission.now) (D.shown pool.old desk.old))) (D.shown pool.old desk.old))) }
+    ensures spent { Spent (D.free pool.old desk.old) (D.free pool.new desk.new) (emission_need (emission_tree emission.now)) result }
+{
+    if let Some(content) = &emission.content {
+        if let MessageExpression::Local(slot) = &content.message {
+            let header = header::<K, D>(place, content, desk, pool);
+            return desk.send_local_and_leave::<K>(
+                pool,
+                emission.direction,
+                envelope,
+                header,
+                *slot,
+            );
+        }
+    }
+    send::<K, D>(place, emission, envelope, desk, pool)?;
+    desk.leave::<K>(pool);
+    Ok(())
+}
+
 /// Sends an event with an emission's message.
 #[inline(always)]
 fn send<K: Start, D: Desk>(
@@ -267,11 +336,7 @@ fn send<K: Start, D: Desk>(
     match &emission.content {
         None => desk.send::<K>(pool, emission.direction, envelope),
         Some(content) => {
-            let header = Header {
-                layer: place,
-                tag: content.tag,
-                fields: fields::<K, D>(&content.fields, desk, pool),
-            };
+            let header = header::<K, D>(place, content, desk, pool);
             if let MessageExpression::Local(slot) = &content.message {
                 return desk.send_local::<K>(pool, emission.direction, envelope, header, *slot);
             }
@@ -281,9 +346,22 @@ fn send<K: Start, D: Desk>(
     }
 }
 
+/// The header of an emission's message.
+#[inline(always)]
+pub fn header<K: Start, D: Desk>(place: u8, content: &Content, desk: &D, pool: &Pool) -> Header
+    requires { D.ready K.begun pool.now desk.now }
+    ensures { result ≡ header_of place (content_tree content.now) (D.shown pool.now desk.now).state (D.shown pool.now desk.now).scope }
+{
+    Header {
+        layer: place,
+        tag: content.tag,
+        fields: fields::<K, D>(&content.fields, desk, pool),
+    }
+}
+
 /// An emission without its message: its number arguments are evaluated.
 #[inline(always)]
-fn envelope<K: Start, D: Desk>(emission: &Emission, desk: &D, pool: &Pool) -> Envelope
+pub fn envelope<K: Start, D: Desk>(emission: &Emission, desk: &D, pool: &Pool) -> Envelope
     requires { D.ready K.begun pool.now desk.now }
     ensures { (message : Option Bytes) → event_in result message ≡
         event_of emission.now.kind (numbers_of (map expression_tree emission.now.numbers) (D.shown pool.now desk.now)) message }

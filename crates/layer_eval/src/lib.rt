@@ -2,7 +2,9 @@
 #![tactic(auto)]
 
 mod effect;
+mod last;
 mod message;
+mod pending;
 mod predicted;
 mod value;
 mod visit;

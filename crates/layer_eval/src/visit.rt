@@ -9,7 +9,7 @@ ghost use Rattle.layer_desk.specs.Spent.{SpentAtMost, Spent, Suffices};
 ghost use Rattle.layer_eval.specs.Did.{as_predicted};
 ghost use Rattle.layer_eval.specs.Visit.{Visits, visited, needed, meets, IsPopped, expected_decisions, handler_visited, passed};
 
-use crate::effect::run_block;
+use crate::last::run_last_block;
 use crate::predicted::Predicted;
 use crate::value::number;
 use layer_ast::Dir;
@@ -128,8 +128,7 @@ fn run_handler<K: Start, D: Desk>(
 {
     desk.enter::<K>(pool, envelope, fields, handler.numbers, handler.messages)?;
     let mut predicted = expect::<K, D>(&handler.expected, desk, pool);
-    run_block::<K, D>(place, &handler.block, desk, pool, &mut predicted)?;
-    desk.leave::<K>(pool);
+    run_last_block::<K, D>(place, &handler.block, &mut None, desk, pool, &mut predicted)?;
     Ok(predicted)
 }
 

@@ -11,19 +11,19 @@ pub run_statements-returns-in_err-run_statement-clause-spent : goal.run_statemen
 run_statements-returns-in_err-run_statement-clause-spent g t c =
     let p = err_from_is_err_and c.from_residual.result c.from_residual.ensures.1 in
     rw (p.1, p.2)
-    (item_lacks g.K.Start.begun.layout c.as_slice-statement-items.result.now c.args.block.now.statements.items c.loop-statement.statement-index
+    (item_lacks g.K.Start.begun.layout c.args.statements.now c.loop-statement.statement-index
     c.statement-item.result (g.D.Desk.free c.args.pool.now c.args.desk.now) (g.D.Desk.free c.loop-statement.pool c.loop-statement.desk)
-    c.in_err-run_statement.field-0.0 c.as_slice-statement-items.ensures.value c.loop-statement-test.true c.statement-item.is
+    c.in_err-run_statement.field-0.0 c.loop-statement-test.true c.statement-item.is
     c.loop-statement.invariant.2 c.in_err-run_statement.ensures.spent)
 
 pub run_statements-loop-statement-preserved : goal.run_statements-loop-statement-preserved
 run_statements-loop-statement-preserved g t c = (
   c.run_statement.ensures.ready,
-  block_step c.args.place c.as_slice-statement-items.result.now c.loop-statement.statement-index c.statement-item.result
+  block_step c.args.place c.args.statements.now c.loop-statement.statement-index c.statement-item.result
       (g.D.Desk.shown c.args.pool.now c.args.desk.now) (g.D.Desk.shown c.loop-statement.pool c.loop-statement.desk)
       (g.D.Desk.shown c.run_statement.new.pool c.run_statement.new.desk) c.args.predicted.now c.loop-statement.predicted c.run_statement.new.predicted
       c.loop-statement-test.true c.statement-item.is c.loop-statement.invariant.1 c.in_ok-run_statement.ensures.did,
-  item_spent g.K.Start.begun.layout c.as_slice-statement-items.result.now c.loop-statement.statement-index c.statement-item.result
+  item_spent g.K.Start.begun.layout c.args.statements.now c.loop-statement.statement-index c.statement-item.result
       (g.D.Desk.free c.args.pool.now c.args.desk.now) (g.D.Desk.free c.loop-statement.pool c.loop-statement.desk)
       (g.D.Desk.free c.run_statement.new.pool c.run_statement.new.desk)
       c.loop-statement-test.true c.statement-item.is c.loop-statement.invariant.2 c.in_ok-run_statement.ensures.spent,

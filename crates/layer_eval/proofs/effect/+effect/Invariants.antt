@@ -10,7 +10,7 @@ use Rattle.layer_eval.proofs.effect.+effect.Given as goal
 abbrev pub invariant-run_statements-loop-statement : goal.invariant-run_statements-loop-statement
 invariant-run_statements-loop-statement g l =
     let old = g.D.Desk.shown l.initial.pool l.initial.desk in
-    let done = trees (map statement_tree (take l.statement-index l.statement-items)) in
+    let done = trees (map statement_tree (take l.statement-index l.statements)) in
     g.D.Desk.ready g.K.Start.begun l.pool l.desk
     × Did (block_does l.place done old) old (g.D.Desk.shown l.pool l.desk) l.initial.predicted l.predicted
     × SpentAtMost (g.D.Desk.free l.initial.pool l.initial.desk) (g.D.Desk.free l.pool l.desk)

@@ -1,0 +1,44 @@
+-- Emissions that are yet to go.
+use Rattle.std.specs.Prelude.{ℕ, ◌+◌, Bool, true, false, List, [], ◌∷◌, ◌++◌, slice_index_or, Option, Some, None, Result, Ok, Err}
+use Rattle.msg_core.specs.Chain.{plain}
+use Rattle.layer_ast.specs.declared.tokens.Dir.{Dir}
+use Rattle.layer_mean.specs.declared.run.Event.{Event}
+use Rattle.layer_mean.specs.Tree.{StatementTree, bind, assign, assign_square}
+use Rattle.layer_mean.specs.Effect.{sent_as}
+use Rattle.layer_desk.specs.Laid.{Laid, event_in}
+use Rattle.layer_desk.specs.Need.{Room, Need}
+use Rattle.layer_desk.specs.Spent.{SpentAtMost, Lacks}
+use Rattle.layer_desk.specs.declared.no_room.NoRoom.{NoRoom}
+use Rattle.layer_eval.specs.declared.pending.Pending.{Pending}
+
+-- A statement that sets a number alone: it sends nothing, and no message of the scope changes.
+abbrev pub sets_number : StatementTree → Bool
+sets_number (bind k e) = true
+sets_number (assign c i e) = true
+sets_number (assign_square c row column e) = true
+sets_number _ = false
+
+-- The event of an emission that is yet to go.
+abbrev pub owed_event : Pending → Laid → Dir × Event
+owed_event e p = (e.direction, event_in e.envelope (Some (sent_as e.direction e.header (slice_index_or p.scope.messages e.slot (plain [])))))
+
+-- What lies at a desk once it has gone, if there is one.
+abbrev pub with_owed : Option Pending → Laid → List (Dir × Event)
+with_owed None p = p.sent
+with_owed (Some e) p = p.sent ++ owed_event e p ∷ []
+
+abbrev pub settled : Option Pending → Laid → Laid
+settled owed p = record p { sent = with_owed owed p }
+
+-- How many places it takes, and a need with it.
+abbrev pub owed_places : Option Pending → ℕ
+owed_places None = 0
+owed_places (Some e) = 1
+
+abbrev pub owing : Option Pending → Need → Need
+owing owed n = record n { places = owed_places owed + n.places }
+
+-- Where it is done at most this was spent, and what was owed before; what is owed now isn't spent yet. Else there was less than this.
+abbrev pub SpentOwing : {A : Type 0} → Option Pending → Option Pending → Room → Room → Need → Result A NoRoom → Type 0
+SpentOwing before now old new n (Ok a) = SpentAtMost (record old { places = owed_places now + old.places }) new (owing before n)
+SpentOwing before now old new n (Err e) = Lacks old (owing before n) e

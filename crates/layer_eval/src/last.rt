@@ -1,0 +1,191 @@
+//! Handlers' blocks, with which visits end.
+
+ghost use Rattle.std.specs.Prelude.{◌≡◌, map, OnOk};
+ghost use Rattle.typed_layer.specs.View.{trees, statement_tree, block_tree};
+ghost use Rattle.layer_desk.specs.Need.{statement_need, block_need};
+ghost use Rattle.layer_desk.specs.Spent.{Spent};
+ghost use Rattle.layer_eval.specs.Did.{Did, Ended, statement_does, block_does};
+ghost use Rattle.layer_eval.specs.Owed.{sets_number, settled, owing, SpentOwing};
+
+use crate::effect::{emit_last, run_alone};
+use crate::pending::{Pending, finish, put_off, settle};
+use crate::predicted::Predicted;
+use crate::value::number;
+use layer_desk::{Desk, NoRoom, Start};
+use slot_pool::Pool;
+use typed_layer::{Block, Statement};
+
+/// Runs a handler's block of the layer at a place, or a block with which one ends, keeps account of whether all has gone as predicted, and
+/// lets go what the visit leaves, with an emission that is yet to go.
+#[cycle(last)]
+#[inline(always)]
+pub fn run_last_block<K: Start, D: Desk>(
+    place: u8,
+    block: &Block,
+    pending: &mut Option<Pending>,
+    desk: &mut D,
+    pool: &mut Pool,
+    predicted: &mut Predicted,
+) -> Result<(), NoRoom>
+    requires { D.ready K.begun pool.old desk.old }
+    ensures ready { D.ready K.begun pool.new desk.new }
+    ensures ended { OnOk result (Ended (block_does place (block_tree block.now) (D.shown pool.old desk.old))
+        (settled pending.old (D.shown pool.old desk.old)) (D.shown pool.new desk.new) predicted.old predicted.new) }
+    ensures spent { Spent (D.free pool.old desk.old) (D.free pool.new desk.new)
+        (owing pending.old (block_need K.begun.layout (block_tree block.now))) result }
+{
+    match block.statements.as_slice() {
+        [] => finish::<K, D>(pending, desk, pool),
+        [last] => run_last::<K, D>(place, last, pending, desk, pool, predicted),
+        [front @ .., last] => {
+            run_front::<K, D>(place, front, pending, desk, pool, predicted)?;
+            run_last::<K, D>(place, last, pending, desk, pool, predicted)
+        }
+    }
+}
+
+/// Runs the last statement of a block with which a visit ends. A decision is noted before the block that it chooses, so that nothing is left
+/// to be done behind that.
+#[cycle(last)]
+#[inline(never)]
+fn run_last<K: Start, D: Desk>(
+    place: u8,
+    statement: &Statement,
+    pending: &mut Option<Pending>,
+    desk: &mut D,
+    pool: &mut Pool,
+    predicted: &mut Predicted,
+) -> Result<(), NoRoom>
+    requires { D.ready K.begun pool.old desk.old }
+    ensures ready { D.ready K.begun pool.new desk.new }
+    ensures ended { OnOk result (Ended (statement_does place (statement_tree statement.now) (D.shown pool.old desk.old))
+        (settled pending.old (D.shown pool.old desk.old)) (D.shown pool.new desk.new) predicted.old predicted.new) }
+    ensures spent { Spent (D.free pool.old desk.old) (D.free pool.new desk.new)
+        (owing pending.old (statement_need K.begun.layout (statement_tree statement.now))) result }
+{
+    match statement {
+        Statement::Emit(emission) => {
+            settle::<K, D>(pending, desk, pool)?;
+            emit_last::<K, D>(place, emission, desk, pool)
+        }
+        Statement::Branch {
+            likely,
+            condition,
+            block,
+            otherwise,
+        } => {
+            if number::<K, D>(condition, desk, pool) != 0 {
+                predicted.choose(true, *likely);
+                run_last_block::<K, D>(place, block, pending, desk, pool, predicted)
+            } else {
+                predicted.choose(false, *likely);
+                run_last_block::<K, D>(place, otherwise, pending, desk, pool, predicted)
+            }
+        }
+        Statement::Take {
+            cell,
+            index,
+            taken,
+            block,
+            otherwise,
+        } => {
+            settle::<K, D>(pending, desk, pool)?;
+            let index = number::<K, D>(index, desk, pool);
+            if desk.take::<K>(pool, *cell, index, taken)? {
+                run_last_block::<K, D>(place, block, pending, desk, pool, predicted)
+            } else {
+                *predicted = Predicted::unusual();
+                run_last_block::<K, D>(place, otherwise, pending, desk, pool, predicted)
+            }
+        }
+        _ => run_end::<K, D>(place, statement, pending, desk, pool, predicted),
+    }
+}
+
+/// Runs a statement behind which there is nothing to be done but to let go what the visit leaves.
+#[inline(never)]
+fn run_end<K: Start, D: Desk>(
+    place: u8,
+    statement: &Statement,
+    pending: &mut Option<Pending>,
+    desk: &mut D,
+    pool: &mut Pool,
+    predicted: &mut Predicted,
+) -> Result<(), NoRoom>
+    requires { D.ready K.begun pool.old desk.old }
+    ensures ready { D.ready K.begun pool.new desk.new }
+    ensures ended { OnOk result (Ended (statement_does place (statement_tree statement.now) (D.shown pool.old desk.old))
+        (settled pending.old (D.shown pool.old desk.old)) (D.shown pool.new desk.new) predicted.old predicted.new) }
+    ensures spent { Spent (D.free pool.old desk.old) (D.free pool.new desk.new)
+        (owing pending.old (statement_need K.begun.layout (statement_tree statement.now))) result }
+{
+    run_owing::<K, D>(place, statement, pending, desk, pool, predicted)?;
+    finish::<K, D>(pending, desk, pool)
+}
+
+/// Runs statements that have others behind them.
+#[inline(never)]
+fn run_front<K: Start, D: Desk>(
+    place: u8,
+    statements: &[Statement],
+    pending: &mut Option<Pending>,
+    desk: &mut D,
+    pool: &mut Pool,
+    predicted: &mut Predicted,
+) -> Result<(), NoRoom>
+    requires { D.ready K.begun pool.old desk.old }
+    ensures ready { D.ready K.begun pool.new desk.new }
+    ensures did { OnOk result (Did (block_does place (trees (map statement_tree statements.now)) (D.shown pool.old desk.old))
+        (settled pending.old (D.shown pool.old desk.old)) (settled pending.new (D.shown pool.new desk.new)) predicted.old predicted.new) }
+    ensures spent { SpentOwing pending.old pending.new (D.free pool.old desk.old) (D.free pool.new desk.new)
+        (block_need K.begun.layout (trees (map statement_tree statements.now))) result }
+{
+    for statement in statements {
+        run_owing::<K, D>(place, statement, pending, desk, pool, predicted)?;
+    }
+    Ok(())
+}
+
+/// Runs a statement. An emission that was put off waits until one comes that doesn't set a number alone; that may be put off in its turn.
+#[inline(always)]
+fn run_owing<K: Start, D: Desk>(
+    place: u8,
+    statement: &Statement,
+    pending: &mut Option<Pending>,
+    desk: &mut D,
+    pool: &mut Pool,
+    predicted: &mut Predicted,
+) -> Result<(), NoRoom>
+    requires { D.ready K.begun pool.old desk.old }
+    ensures ready { D.ready K.begun pool.new desk.new }
+    ensures did { OnOk result (Did (statement_does place (statement_tree statement.now) (D.shown pool.old desk.old))
+        (settled pending.old (D.shown pool.old desk.old)) (settled pending.new (D.shown pool.new desk.new)) predicted.old predicted.new) }
+    ensures spent { SpentOwing pending.old pending.new (D.free pool.old desk.old) (D.free pool.new desk.new)
+        (statement_need K.begun.layout (statement_tree statement.now)) result }
+{
+    if sets_a_number(statement) {
+        return run_alone::<K, D>(place, statement, desk, pool, predicted);
+    }
+    settle::<K, D>(pending, desk, pool)?;
+    if let Statement::Emit(emission) = statement {
+        if let Some(owed) = put_off::<K, D>(place, emission, desk, pool) {
+            *pending = Some(owed);
+            return Ok(());
+        }
+    }
+    run_alone::<K, D>(place, statement, desk, pool, predicted)
+}
+
+/// Whether a statement sets a number and does nothing else.
+#[inline(always)]
+fn sets_a_number(statement: &Statement) -> bool
+    ensures { result ≡ sets_number (statement_tree statement.now) }
+{
+    matches!(
+        statement,
+        Statement::Bind { .. }
+            | Statement::Set { .. }
+            | Statement::SetElement { .. }
+            | Statement::SetSquare { .. }
+    )
+}
