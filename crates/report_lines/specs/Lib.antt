@@ -1,4 +1,5 @@
 pub mod Layer
 pub mod Lead
+pub mod Nones
 pub mod Deliveries
 pub mod Cells

@@ -10,7 +10,7 @@ ghost use Rattle.report_lines.specs.Cells.{cell_front, index_text};
 
 use crate::chain::{push_chain, push_fields, push_lead};
 use crate::line::Line;
-use event_graph::Stack;
+use crate::named::NamedStack;
 use msg_core::{Fields, Headers, Memory};
 
 /// Appends `cell M P LAYER.CELL`: a cell of the layer at place P of member M. What it holds stands behind a space.
@@ -44,7 +44,7 @@ pub fn push_index(line: &mut Line, index: u32) -> Result<(), Memory>
 /// `CHAIN:HEX`: a message with these headers and bytes.
 fn push_message(
     line: &mut Line,
-    stack: &Stack,
+    stack: &NamedStack,
     headers: &Headers,
     body: &[u8],
 ) -> Result<(), Memory>
@@ -65,7 +65,11 @@ fn push_in_brackets(line: &mut Line, numbers: &Fields) -> Result<(), Memory>
 }
 
 /// Appends `[N,N]`: a row of numbers alone.
-pub fn push_numbers_row(line: &mut Line, _stack: &Stack, numbers: &Fields) -> Result<(), Memory>
+pub fn push_numbers_row(
+    line: &mut Line,
+    _stack: &NamedStack,
+    numbers: &Fields,
+) -> Result<(), Memory>
     ensures { OnOk result (line.new ≡ line.old ++ row_text (stack_tree _stack.now) (record { numbers = numbers.now; message = None })) }
 {
     push_in_brackets(line, numbers)
@@ -74,7 +78,7 @@ pub fn push_numbers_row(line: &mut Line, _stack: &Stack, numbers: &Fields) -> Re
 /// Appends numbers in brackets, and a message behind them.
 fn push_with_message(
     line: &mut Line,
-    stack: &Stack,
+    stack: &NamedStack,
     numbers: &Fields,
     headers: &Headers,
     body: &[u8],
@@ -92,7 +96,7 @@ fn push_with_message(
 /// Appends `[N,N,CHAIN:HEX]`: a row of numbers that ends with a message.
 pub fn push_message_row(
     line: &mut Line,
-    stack: &Stack,
+    stack: &NamedStack,
     numbers: &Fields,
     headers: &Headers,
     body: &[u8],

@@ -1,14 +1,17 @@
 //! Headers by name.
 
-ghost use Rattle.std.specs.Prelude.{◌≡◌, ◌++◌, ◌<◌, OnOk, ◌∷◌, [], length, slice_index_or};
+ghost use Rattle.std.specs.Prelude.{◌≡◌, ◌+◌, ◌^◌, ◌++◌, ◌<◌, ◌≤◌, true, IfOk, OnOk, ◌∷◌, [], drop, length, slice_index_or};
+ghost use Rattle.msg_core.specs.Headers.{most_headers};
 ghost use Rattle.std.specs.List.{join_by};
 ghost use Rattle.std.specs.Fmt.{decimal};
 ghost use Rattle.event_graph.specs.Answer.{stack_tree};
-ghost use Rattle.run_mean.specs.Text.{header_text, chain_text, header_name, layer_number};
+ghost use Rattle.run_mean.specs.Text.{chain_text, header_name, layer_number};
 ghost use Rattle.report_lines.specs.Layer.{layer_or_none};
-ghost use Rattle.report_lines.specs.Lead.{lead, no_header, none_of, trail};
+ghost use Rattle.report_lines.specs.Lead.{lead};
+ghost use Rattle.report_lines.specs.Nones.{chained, header_front, none_of, nones, slashed};
 
 use crate::line::Line;
+use crate::named::NamedStack;
 use event_graph::Stack;
 use msg_core::{Fields, Header, Headers, Memory};
 use typed_layer::TypedLayer;
@@ -70,42 +73,72 @@ pub(crate) fn push_fields(line: &mut Line, fields: &Fields) -> Result<(), Memory
     Ok(())
 }
 
-/// The separator, if there are more.
-fn push_trail(line: &mut Line, more: bool) -> Result<(), Memory>
-    ensures { OnOk result (line.new ≡ line.old ++ trail (47 ∷ []) more) }
+/// Whether the header number `k` is the header `none` of this place.
+fn is_none_of(headers: &Headers, k: u32, place: u8) -> bool
+    ensures { result ≡ true → drop k headers.now ≡ none_of place ∷ drop (k + 1) headers.now }
 {
-    if more { line.text(b"/") } else { Ok(()) }
+    let Some(header) = headers.at(k) else {
+        return false;
+    };
+    if header.layer != place {
+        return false;
+    }
+    if header.tag != 0 {
+        return false;
+    }
+    header.fields.len() == 0
 }
 
-/// `LAYER.none()`, as most headers are, and the separator if there are more.
-fn push_none(line: &mut Line, stack: &Stack, place: u8, more: bool) -> Result<(), Memory>
-    ensures { OnOk result (line.new ≡ line.old ++ header_text (stack_tree stack.now) (none_of place) ++ trail (47 ∷ []) more) }
+/// How many headers from number `k` on are `none`, of one place behind the other from `first` on: at most so many.
+fn count_nones(headers: &Headers, k: u32, first: u8, most: u8) -> u8
+    requires { (k ≤ most_headers) × (first + most < 2 ^ 8) }
+    ensures nones { drop k headers.now ≡ nones first result ++ drop (k + result) headers.now }
+    ensures few { result ≤ most }
 {
-    push_layer_name(line, layer_at(stack, place))?;
-    if more {
-        line.text(b".none()/")
-    } else {
-        line.text(b".none()")
+    for count in 0..most {
+        if !is_none_of(headers, k + u32::from(count), first + count) {
+            return count;
+        }
+    }
+    most
+}
+
+/// The place of the header number `k`.
+fn place_of(headers: &Headers, k: u32) -> u8
+    requires { k < length headers.now }
+    ensures { result ≡ (slice_index_or headers.now k (none_of 0)).layer }
+{
+    match headers.at(k) {
+        Some(header) => header.layer,
+        None => unreachable!(),
     }
 }
 
-/// `LAYER.HEADER(F,F)`
-fn push_header(line: &mut Line, stack: &Stack, header: &Header) -> Result<(), Memory>
-    ensures { OnOk result (line.new ≡ line.old ++ header_text (stack_tree stack.now) header.now) }
+/// `LAYER.HEADER(`
+fn push_front(line: &mut Line, stack: &Stack, header: &Header) -> Result<(), Memory>
+    ensures { OnOk result (line.new ≡ line.old ++ header_front (stack_tree stack.now) header.now) }
 {
     let layer = layer_at(stack, header.layer);
     push_layer_name(line, layer)?;
     line.text(b".")?;
     push_header_name(line, layer, header.tag)?;
-    line.text(b"(")?;
-    push_fields(line, &header.fields)?;
-    line.text(b")")
+    line.text(b"(")
 }
 
-/// The header number `k` of some.
+/// `LAYER.HEADER(F,F)/`
+fn push_header(line: &mut Line, stack: &Stack, header: &Header) -> Result<(), Memory>
+    ensures { OnOk result (line.new ≡ line.old ++ slashed (stack_tree stack.now) header.now) }
+{
+    push_front(line, stack, header)?;
+    push_fields(line, &header.fields)?;
+    line.text(b")/")
+}
+
+/// The header number `k`, and `/`. A header that is passed here is copied, and most aren't: they are `none`.
 fn push_numbered(line: &mut Line, stack: &Stack, headers: &Headers, k: u32) -> Result<(), Memory>
     requires { k < length headers.now }
-    ensures { OnOk result (line.new ≡ line.old ++ header_text (stack_tree stack.now) (slice_index_or headers.now k no_header)) }
+    ensures { OnOk result (line.new ++ chained (stack_tree stack.now) (drop (k + 1) headers.now)
+        ≡ line.old ++ chained (stack_tree stack.now) (drop k headers.now)) }
 {
     match headers.at(k) {
         Some(header) => push_header(line, stack, &header),
@@ -113,37 +146,36 @@ fn push_numbered(line: &mut Line, stack: &Stack, headers: &Headers, k: u32) -> R
     }
 }
 
-/// The header number `k` of some, and the separator if there are more. Most headers are `none`, and aren't copied.
-fn push_next(
-    line: &mut Line,
-    stack: &Stack,
-    headers: &Headers,
-    k: u32,
-    more: bool,
-) -> Result<(), Memory>
-    requires { k < length headers.now }
-    ensures { OnOk result (line.new ≡ line.old ++ header_text (stack_tree stack.now) (slice_index_or headers.now k no_header) ++ trail (47 ∷ []) more) }
+/// Appends the headers from number `k` on that go in one piece, each with `/` behind it, and answers how many these are: those that are `none`
+/// of adjacent places, or else one.
+fn push_next(line: &mut Line, stack: &NamedStack, headers: &Headers, k: u32) -> Result<u8, Memory>
+    requires { (k < length headers.now) × (k ≤ most_headers) }
+    ensures { IfOk result (λ count. (0 < count) × (line.new ++ chained (stack_tree stack.now) (drop (k + count) headers.now)
+        ≡ line.old ++ chained (stack_tree stack.now) (drop k headers.now))) }
 {
-    let Some(header) = headers.at(k) else {
-        unreachable!()
-    };
-    if header.tag == 0 && header.fields.len() == 0 {
-        return push_none(line, stack, header.layer, more);
+    let first = place_of(headers, k);
+    let most = stack.places().saturating_sub(first);
+    let count = count_nones(headers, k, first, most);
+    if count > 0 {
+        line.text(stack.nones(first, count))?;
+        return Ok(count);
     }
-    push_numbered(line, stack, headers, k)?;
-    push_trail(line, more)
+    push_numbered(line, stack.stack(), headers, k)?;
+    Ok(1)
 }
 
 /// Headers, lowest first, with `/` between, or `-` for none.
-pub fn push_chain(line: &mut Line, stack: &Stack, headers: &Headers) -> Result<(), Memory>
+pub fn push_chain(line: &mut Line, stack: &NamedStack, headers: &Headers) -> Result<(), Memory>
     ensures { OnOk result (line.new ≡ line.old ++ chain_text (stack_tree stack.now) headers.now) }
 {
     let count = headers.len();
     if count == 0 {
         return line.text(b"-");
     }
-    for k in 0..count {
-        push_next(line, stack, headers, k, k + 1 < count)?;
+    let mut k = 0;
+    while k < count {
+        k += u32::from(push_next(line, stack, headers, k)?);
     }
+    line.drop_last();
     Ok(())
 }

@@ -8,6 +8,7 @@ mod digits;
 mod journal;
 mod line;
 mod lines;
+mod named;
 
 pub use cells::{push_cell, push_index, push_message_row, push_numbers_row};
 pub use chain::{push_chain, push_lead};
@@ -18,3 +19,4 @@ pub use lines::{
     packet_line, refused_line, state_line, state_out_line, timer_line, view_line, visits_line,
     wire_line,
 };
+pub use named::NamedStack;

@@ -1,6 +1,6 @@
 //! A line of text as it is built up.
 
-ghost use Rattle.std.specs.Prelude.{◌≡◌, ◌++◌, ◌∷◌, [], OnOk};
+ghost use Rattle.std.specs.Prelude.{◌≡◌, ◌-◌, ◌++◌, ◌∷◌, [], OnOk, length, take};
 ghost use Rattle.std.specs.Fmt.{decimal};
 ghost use Rattle.script_mean.specs.EventText.{hex_text};
 
@@ -55,6 +55,13 @@ impl Line {
     {
         self.bytes.extend_from_slice(text)?;
         Ok(())
+    }
+
+    /// Takes the last byte off, if there is one.
+    pub(crate) fn drop_last(&mut self)
+        ensures { self.new ≡ take (length self.old - 1) self.old }
+    {
+        self.bytes.truncate(self.bytes.len().saturating_sub(1));
     }
 
     /// Appends a number in decimal.

@@ -10,7 +10,7 @@ ghost use Rattle.report_lines.specs.Deliveries.{contents_text, delivery_front, d
 
 use crate::chain::push_chain;
 use crate::line::Line;
-use event_graph::Stack;
+use crate::named::NamedStack;
 use msg_core::{Dest, Headers, Memory, Stray, View};
 use view_core::Refusal;
 
@@ -121,7 +121,7 @@ fn push_dest(line: &mut Line, dest: Dest) -> Result<(), Memory>
 /// Appends ` CHAIN HEX` and a line feed.
 fn push_contents(
     line: &mut Line,
-    stack: &Stack,
+    stack: &NamedStack,
     headers: &Headers,
     body: &[u8],
 ) -> Result<(), Memory>
@@ -137,7 +137,7 @@ fn push_contents(
 /// `packet K M D CHAIN HEX`: packet K of member M, with its headers by name.
 pub fn packet_line(
     line: &mut Line,
-    stack: &Stack,
+    stack: &NamedStack,
     number: u64,
     id: u8,
     dest: Dest,

@@ -12,11 +12,12 @@ ghost use Rattle.run_mean.specs.Text.{row_text, rows_text};
 ghost use Rattle.typed_layer.specs.View.{layer_tree};
 ghost use Rattle.report_text.specs.Cells.{index_if, no_row, queue_line};
 
-use event_graph::Stack;
 use layer_ast::Word;
 use member_shown::{RowView, Shown};
 use msg_core::Memory;
-use report_lines::{Line, push_cell, push_index, push_lead, push_message_row, push_numbers_row};
+use report_lines::{
+    Line, NamedStack, push_cell, push_index, push_lead, push_message_row, push_numbers_row,
+};
 use typed_layer::TypedLayer;
 
 /// A cell of a layer of a member.
@@ -57,7 +58,7 @@ pub(crate) fn build_numbers(
 }
 
 /// Appends a row.
-fn push_row(line: &mut Line, stack: &Stack, row: &RowView<'_>) -> Result<(), Memory>
+fn push_row(line: &mut Line, stack: &NamedStack, row: &RowView<'_>) -> Result<(), Memory>
     ensures { OnOk result (line.new ≡ line.old ++ row_text (stack_tree stack.now) (row_meant row.now)) }
 {
     match &row.message {
@@ -71,7 +72,7 @@ fn push_row(line: &mut Line, stack: &Stack, row: &RowView<'_>) -> Result<(), Mem
 /// Appends row number `k` of a queue, behind what separates it from the one in front.
 fn push_row_at(
     line: &mut Line,
-    stack: &Stack,
+    stack: &NamedStack,
     shown: &Shown<'_>,
     spot: Spot,
     queue: u32,
@@ -91,7 +92,7 @@ fn push_row_at(
 /// Appends the rows of a queue from the front, with spaces between, or `-` for none.
 fn push_rows(
     line: &mut Line,
-    stack: &Stack,
+    stack: &NamedStack,
     shown: &Shown<'_>,
     spot: Spot,
     queue: u32,
@@ -122,7 +123,7 @@ fn push_queue_index(line: &mut Line, is_array: bool, queue: u32) -> Result<(), M
 /// Appends the parts of the line of a queue.
 fn push_queue(
     line: &mut Line,
-    stack: &Stack,
+    stack: &NamedStack,
     shown: &Shown<'_>,
     layer: &TypedLayer,
     name: &Word,
@@ -143,7 +144,7 @@ fn push_queue(
 /// Builds the line of a queue: the only one of a cell, or one of its array.
 pub(crate) fn build_queue(
     line: &mut Line,
-    stack: &Stack,
+    stack: &NamedStack,
     shown: &Shown<'_>,
     layer: &TypedLayer,
     name: &Word,

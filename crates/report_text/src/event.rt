@@ -15,12 +15,11 @@ ghost use Rattle.report_text.specs.Told.{AreFull, change_line, change_lines, ste
 use crate::output::write_outputs;
 use crate::pen::Pen;
 use crate::state::write_member;
-use event_graph::Stack;
 use member_shown::Shown;
 use msg_core::Memory;
 use outside::{Sink, SinkError};
 use packet_plans::Plans;
-use report_lines::{Line, absent_line, out_line, refused_line, view_line};
+use report_lines::{Line, NamedStack, absent_line, out_line, refused_line, view_line};
 use script_mean::ScriptEvent;
 use sink_lines::put_line;
 use step_outputs::Outputs;
@@ -82,7 +81,7 @@ pub fn write_change<O: Sink>(
 /// Puts the lines of a step that was taken.
 fn write_taken<O: Sink>(
     pen: &mut Pen,
-    stack: &Stack,
+    stack: &NamedStack,
     id: u8,
     change: Option<Change>,
     outputs: &Outputs,
@@ -118,7 +117,7 @@ pub fn write_refusal<O: Sink>(
 /// Puts the lines of a step.
 fn write_stepped<O: Sink>(
     pen: &mut Pen,
-    stack: &Stack,
+    stack: &NamedStack,
     id: u8,
     stepped: Stepped,
     outputs: &Outputs,
@@ -155,7 +154,7 @@ fn write_absent<O: Sink>(pen: &mut Pen, id: u8, number: u32, out: &mut O) -> Res
 /// stand behind its line, in full.
 pub fn write_event<O: Sink>(
     pen: &mut Pen,
-    stack: &Stack,
+    stack: &NamedStack,
     _plans: &Plans,
     event: &ScriptEvent,
     did: Did,

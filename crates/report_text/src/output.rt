@@ -12,13 +12,13 @@ ghost use Rattle.step_outputs.specs.Views.{output_meant};
 ghost use Rattle.report_text.specs.Numbered.{full_annex, line_if};
 
 use crate::pen::Pen;
-use event_graph::Stack;
 use msg_core::Memory;
 use outside::{Sink, SinkError};
 use packet_full::{put_full_of, room_of};
 use packet_mean::Here;
 use report_lines::{
-    Delivery, Line, announce_line, block_line, deliver_line, packet_line, timer_line, wire_line,
+    Delivery, Line, NamedStack, announce_line, block_line, deliver_line, packet_line, timer_line,
+    wire_line,
 };
 use sink_lines::put_line;
 use step_outputs::{OutputView, Outputs, PacketView};
@@ -26,7 +26,7 @@ use step_outputs::{OutputView, Outputs, PacketView};
 /// Builds the line of an output, if it has one: whether it has.
 fn build_output(
     line: &mut Line,
-    stack: &Stack,
+    stack: &NamedStack,
     _here: &Here,
     id: u8,
     number: u64,
@@ -59,7 +59,7 @@ fn build_output(
 /// Puts the line of an output, if it has one. A packet's line has this number.
 pub fn put_output<O: Sink>(
     pen: &mut Pen,
-    stack: &Stack,
+    stack: &NamedStack,
     here: &Here,
     id: u8,
     number: u64,
@@ -118,7 +118,7 @@ fn put_wire<O: Sink>(
 /// Puts the lines of an output: its own, and where it is wanted that of its bytes.
 fn write_output<O: Sink>(
     pen: &mut Pen,
-    stack: &Stack,
+    stack: &NamedStack,
     here: &Here,
     id: u8,
     number: u64,
@@ -153,7 +153,7 @@ pub fn number_behind(_here: &Here, number: u64, output: &OutputView<'_>) -> u64
 /// Puts the lines of a step's outputs, whose packets are sent in full and numbered from `first` on.
 pub(crate) fn write_outputs<O: Sink>(
     pen: &mut Pen,
-    stack: &Stack,
+    stack: &NamedStack,
     id: u8,
     first: u64,
     outputs: &Outputs,

@@ -13,12 +13,11 @@ ghost use Rattle.report_text.specs.Cells.{cells_shown, layers_shown, numbers_lin
 
 use crate::cells::{Spot, build_numbers, build_queue};
 use crate::pen::Pen;
-use event_graph::Stack;
 use layer_ast::Word;
 use member_shown::Shown;
 use msg_core::{Memory, View};
 use outside::{Sink, SinkError};
-use report_lines::{state_line, state_out_line};
+use report_lines::{NamedStack, state_line, state_out_line};
 use sink_lines::put_line;
 use typed_layer::{Cell, Form, TypedLayer};
 
@@ -47,7 +46,7 @@ fn write_numbers<O: Sink>(
 /// Puts the line of a queue.
 fn write_queue<O: Sink>(
     pen: &mut Pen,
-    stack: &Stack,
+    stack: &NamedStack,
     shown: &Shown<'_>,
     layer: &TypedLayer,
     name: &Word,
@@ -79,7 +78,7 @@ fn write_queue<O: Sink>(
 /// Puts the lines of the queues of a cell.
 fn write_queues<O: Sink>(
     pen: &mut Pen,
-    stack: &Stack,
+    stack: &NamedStack,
     shown: &Shown<'_>,
     layer: &TypedLayer,
     name: &Word,
@@ -100,7 +99,7 @@ fn write_queues<O: Sink>(
 /// Puts the lines of a cell.
 fn write_cell<O: Sink>(
     pen: &mut Pen,
-    stack: &Stack,
+    stack: &NamedStack,
     shown: &Shown<'_>,
     layer: &TypedLayer,
     cell: &Cell,
@@ -131,7 +130,7 @@ fn write_cell<O: Sink>(
 /// as want of memory.
 fn write_layer<O: Sink>(
     pen: &mut Pen,
-    stack: &Stack,
+    stack: &NamedStack,
     shown: &Shown<'_>,
     layer: &TypedLayer,
     id: u8,
@@ -157,7 +156,7 @@ fn write_layer<O: Sink>(
 /// Puts the lines of all layers' cells, the lowest layer's first.
 fn write_layers<O: Sink>(
     pen: &mut Pen,
-    stack: &Stack,
+    stack: &NamedStack,
     shown: &Shown<'_>,
     id: u8,
     out: &mut O,
@@ -198,7 +197,7 @@ fn write_out<O: Sink>(pen: &mut Pen, id: u8, out: &mut O) -> Result<(), SinkErro
 /// Puts the lines of a member that is shown: where it is, and what its layers' cells hold.
 pub(crate) fn write_member<O: Sink>(
     pen: &mut Pen,
-    stack: &Stack,
+    stack: &NamedStack,
     id: u8,
     shown: &Shown<'_>,
     out: &mut O,

@@ -1,10 +1,10 @@
-use Rattle.std.proofs.Common.{◌≡◌, ◌++◌, ◌∷◌, [], take}
-use Rattle.std.specs.List.{join_by}
+use Rattle.std.proofs.Common.{◌≡◌, ◌-◌, ◌++◌, drop}
 use Rattle.event_graph.specs.Answer.{stack_tree}
-use Rattle.run_mean.specs.Text.{header_text}
-use Rattle.report_lines.specs.Lead.{link}
+use Rattle.report_lines.specs.Nones.{chained}
 use Rattle.report_lines.proofs.chain.push_chain.Given as goal
 
 abbrev pub invariant-loop-k : goal.invariant-loop-k
-invariant-loop-k l =
-    l.line ≡ l.initial.line ++ (join_by (header_text (stack_tree l.stack)) (47 ∷ []) (take l.k l.headers) ++ link (47 ∷ []) l.k l.count)
+invariant-loop-k l = l.line ++ chained (stack_tree l.stack) (drop l.k l.headers) ≡ l.initial.line ++ chained (stack_tree l.stack) l.headers
+
+abbrev pub decreases-loop-k : goal.decreases-loop-k
+decreases-loop-k l = l.count - l.k

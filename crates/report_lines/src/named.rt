@@ -1,0 +1,118 @@
+//! Stacks with the headers `none` of their layers by name.
+
+ghost use Rattle.std.specs.Prelude.{◌≡◌, ◌+◌, ◌-◌, ◌<◌, ◌≤◌, ◌++◌, IfOk, OnOk, drop, length, slice_index_or, take};
+ghost use Rattle.std.specs.Rc.{rc_value};
+ghost use Rattle.layer_mean.specs.Tree.{no_layer};
+ghost use Rattle.typed_layer.specs.View.{layer_tree};
+ghost use Rattle.event_graph.specs.Answer.{stack_tree};
+ghost use Rattle.report_lines.specs.Nones.{chained, first_nones, none_of, nones, slashed};
+
+use event_graph::Stack;
+use msg_core::Memory;
+use std::alloc::Global;
+use std::marker::Model;
+use std::rc::Rc;
+use typed_layer::TypedLayer;
+
+/// A stack, which contracts see, and the texts `LAYER.none()/` of its layers one behind the other: where each begins, and where the last one
+/// ends.
+#[derive(Drop)]
+pub struct NamedStack {
+    stack: Rc<Stack>,
+    texts: Vec<u8>,
+    places: Vec<usize>,
+}
+
+impl Model for NamedStack {
+    ghost use Rattle.std.specs.Coded.{codes};
+    ghost use Rattle.std.specs.Rc.{rc_value};
+    ghost use Rattle.event_graph.specs.Answer.{stack_tree};
+    ghost use Rattle.event_graph.specs.contracts.stack.Stack as stack_row;
+    ghost use Rattle.event_graph.specs.declared.stack.Stack.{Stack};
+    ghost use Rattle.report_lines.specs.Nones.{AreLaidOut};
+
+    ghost Value = { Stack };
+
+    ghost coded = { Prim.hlevel (codes, stack_row.the_row.coded) };
+
+    ghost view = { λ n. rc_value n.stack };
+
+    ghost invariant = { λ n. AreLaidOut (stack_tree (rc_value n.stack)) n.texts.items n.places.items };
+}
+
+/// Appends `LAYER.none()/`.
+fn push_none(texts: &mut Vec<u8>, stack: &Stack, place: u8) -> Result<(), Memory>
+    requires { place < length (stack_tree stack.now) }
+    ensures { OnOk result (texts.new.items ≡ texts.old.items ++ slashed (stack_tree stack.now) (none_of place)) }
+{
+    texts.extend_from_slice(stack.layer(place).name.bytes())?;
+    texts.extend_from_slice(b".none()/")?;
+    Ok(())
+}
+
+/// The bytes from one place to another.
+fn part(bytes: &[u8], from: usize, to: usize) -> &[u8]
+    requires { (from ≤ to) × (to ≤ length bytes.now) }
+    ensures { result.now ≡ take (to - from) (drop from bytes.now) }
+{
+    &bytes[from..to]
+}
+
+impl NamedStack {
+    /// This stack with its texts.
+    pub fn of(alloc: Global, stack: Rc<Stack>) -> Result<NamedStack, Memory>
+        ensures { IfOk result (λ named. named ≡ rc_value stack) }
+    {
+        let mut texts = Vec::new(alloc);
+        let mut places = Vec::new(alloc);
+        places.push(0)?;
+        for place in 0..stack.places() {
+            push_none(&mut texts, &stack, place)?;
+            places.push(texts.len())?;
+        }
+        Ok(NamedStack {
+            stack,
+            texts,
+            places,
+        })
+    }
+
+    /// The stack alone.
+    pub fn stack(&self) -> &Rc<Stack>
+        ensures { rc_value result.now ≡ self.now }
+    {
+        &self.stack
+    }
+
+    /// How many places it has.
+    pub fn places(&self) -> u8
+        ensures { result ≡ length (stack_tree self.now) }
+    {
+        self.stack.places()
+    }
+
+    /// The layer at a place, the lowest being 0.
+    pub fn layer(&self, place: u8) -> &Rc<TypedLayer>
+        requires { place < length (stack_tree self.now) }
+        ensures { layer_tree (rc_value result.now) ≡ slice_index_or (stack_tree self.now) place no_layer }
+    {
+        self.stack.layer(place)
+    }
+
+    /// Where the text of a place begins, and behind the last one where it ends.
+    fn begin(&self, place: u8) -> usize
+        requires { place ≤ length (stack_tree self.now) }
+        ensures { result ≡ length (first_nones (stack_tree self.now) place) }
+    {
+        self.places[usize::from(place)]
+    }
+
+    /// The headers `none` of so many places from `first` on, each with `/` behind it.
+    pub(crate) fn nones(&self, first: u8, count: u8) -> &[u8]
+        requires { first + count ≤ length (stack_tree self.now) }
+        ensures { result.now ≡ chained (stack_tree self.now) (nones first count) }
+    {
+        let (from, to) = (self.begin(first), self.begin(first + count));
+        part(self.texts.as_slice(), from, to)
+    }
+}
