@@ -1,13 +1,13 @@
 //! What a node is to do, and how far it is.
 
-use event_graph::Stack;
 use packet_plans::Plans;
+use report_lines::NamedStack;
 use script_mean::NodePlan;
 
 /// The stack that a node runs, with the plans of its packets; the plan of its group, its own members by ascending id, and how many turns it makes.
 #[derive(Clone, Copy)]
 pub struct Course<'a> {
-    pub stack: &'a Stack,
+    pub stack: &'a NamedStack,
     pub plans: &'a Plans,
     pub plan: &'a NodePlan,
     pub me: &'a [u8],

@@ -87,13 +87,13 @@ pub(crate) fn feed_event<F: Feed, O: Sink, N: Links>(
     ensures listening { (m : ℕ) → N.listening links.new m ≡ N.listening links.old m }
 {
     write_journal(&mut desk.tools.line, event, out)?;
-    course.stack.is_within_limits();
+    course.stack.stack().is_within_limits();
     is_given(event);
     let number = feed.next_number();
     let mut visits = 0;
     match feed.feed(event, &mut desk.outputs, &mut visits) {
         Ok(Did::Stepped(stepped)) => {
-            an_accepted_stack_is_light(course.stack);
+            an_accepted_stack_is_light(course.stack.stack());
             desk.outputs.has_places_for_all();
             let source = Source {
                 stack: course.stack,

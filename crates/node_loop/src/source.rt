@@ -1,12 +1,12 @@
 //! Whose outputs a node passes on.
 
-use event_graph::Stack;
 use packet_plans::Plans;
+use report_lines::NamedStack;
 
 /// A member, the stack that it runs with the plans of its packets, and the number of the next packet.
 #[derive(Clone, Copy)]
 pub struct Source<'a> {
-    pub stack: &'a Stack,
+    pub stack: &'a NamedStack,
     pub plans: &'a Plans,
     pub id: u8,
     pub number: u64,

@@ -18,14 +18,14 @@ use Rattle.stack_play.specs.declared.run.Parts.{Parts}
 -- What a run over a stack is made of: its plans, what is predicted of its entries, room for its outputs, and a maker that made no layer yet.
 pub record IsPrepared (stack : List LayerTree) (p : Parts) : Type 0 where
   pub maker : making p.maker ≡ record { stack = stack; made = 0 }
-  pub stack_is : stack_tree (rc_value p.stack) ≡ stack
+  pub stack_is : stack_tree p.stack ≡ stack
   pub plans_are : plans_tree (rc_value p.plans) ≡ plans_of stack
   pub entries_are : rc_value p.entries ≡ short_shapes stack (plans_of stack)
   pub places : p.outputs.places ≡ largest_weight stack
 
 -- A run where a group begins, whose members have room.
 pub record IsOpen (stack : List LayerTree) (group stamp members : ℕ) (o : Opened) : Type 0 where
-  pub stack_is : stack_tree (rc_value o.stack) ≡ stack
+  pub stack_is : stack_tree o.stack ≡ stack
   pub plans_are : plans_tree (rc_value o.plans) ≡ plans_of stack
   pub first : IsAtFirst stack (plans_of stack) group stamp members o.run
   pub room : HasRoom stack members

@@ -51,7 +51,7 @@ pub fn play_load<O: Sink>(
                 plans,
                 mut run,
             } = opened;
-            let wrote = write_counts(&stack, &plans, &mut run, script, out);
+            let wrote = write_counts(stack.stack(), &plans, &mut run, script, out);
             run.close();
             with_room(wrote)
         }

@@ -7,12 +7,13 @@ ghost use Rattle.stack_play.specs.Opening.{IsPrepared, Opens};
 
 use crate::error::PlayError;
 use crate::run::{Opened, Parts, Run};
-use bypass_member::OpenError;
+use bypass_member::{OpenError, Opening};
 use entry_shapes::EntryShapes;
 use event_graph::Stack;
 use file_layer::Maker;
 use msg_core::Memory;
 use packet_plans::Plans;
+use report_lines::NamedStack;
 use report_text::Pen;
 use std::alloc::Global;
 use std::rc::Rc;
@@ -24,9 +25,10 @@ fn prepare(alloc: Global, stack: Stack) -> Result<Parts, Memory>
     ensures { IfOk result (IsPrepared (stack_tree stack)) }
 {
     let (maker, stack) = Maker::of(alloc, stack)?;
-    let plans = Plans::of(alloc, &stack)?;
-    let entries = EntryShapes::of(alloc, &stack, &plans)?;
-    let outputs = Outputs::fresh(alloc, &stack)?;
+    let stack = NamedStack::of(alloc, stack)?;
+    let plans = Plans::of(alloc, stack.stack())?;
+    let entries = EntryShapes::of(alloc, stack.stack(), &plans)?;
+    let outputs = Outputs::fresh(alloc, stack.stack())?;
     Ok(Parts {
         maker,
         stack,
@@ -58,9 +60,14 @@ pub fn open(
         Ok(parts) => parts,
         Err(Memory) => return Err(PlayError::Memory),
     };
-    match World::begin(
-        alloc, &mut maker, &stack, &plans, &entries, group, stamp, members,
-    ) {
+    let opening = Opening {
+        stack: stack.stack(),
+        plans: &plans,
+        entries: &entries,
+        group,
+        stamp,
+    };
+    match World::begin(alloc, &mut maker, opening, members) {
         Ok(world) => Ok(Opened {
             stack,
             plans,

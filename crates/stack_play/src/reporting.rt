@@ -24,6 +24,7 @@ use event_graph::Stack;
 use msg_core::Memory;
 use outside::{Sink, SinkError};
 use packet_plans::Plans;
+use report_lines::NamedStack;
 use report_text::{Pen, member_of, write_end, write_event, write_visits};
 use script_mean::{Script, ScriptEvent};
 use std::alloc::Global;
@@ -63,7 +64,7 @@ pub fn play<O: Sink>(
 
 /// Writes the report of a run that begins.
 fn write_report<O: Sink>(
-    stack: &Stack,
+    stack: &NamedStack,
     plans: &Plans,
     run: &mut Run,
     script: &Script,
@@ -104,7 +105,7 @@ fn write_last<O: Sink>(
 
 /// Plays all events of a script, and writes the lines of each.
 fn write_events<O: Sink>(
-    stack: &Stack,
+    stack: &NamedStack,
     plans: &Plans,
     run: &mut Run,
     script: &Script,
@@ -128,7 +129,7 @@ fn write_events<O: Sink>(
 
 /// Plays an event, and writes its lines.
 fn play_event<O: Sink>(
-    stack: &Stack,
+    stack: &NamedStack,
     plans: &Plans,
     run: &mut Run,
     event: &ScriptEvent,
@@ -147,7 +148,7 @@ fn play_event<O: Sink>(
     let first = run.world.next_number();
     match run.world.feed(event, &mut run.outputs, &mut run.visits) {
         Ok(did) => {
-            an_accepted_stack_is_light(stack);
+            an_accepted_stack_is_light(stack.stack());
             run.outputs.has_places_for_all();
             let shown = run.world.shown(member_of(event));
             write_event(

@@ -1,9 +1,9 @@
 //! A group at work, with what its steps and lines are made in.
 
 use entry_shapes::EntryShapes;
-use event_graph::Stack;
 use file_layer::Maker;
 use packet_plans::Plans;
+use report_lines::NamedStack;
 use report_text::Pen;
 use std::rc::Rc;
 use step_outputs::Outputs;
@@ -13,7 +13,7 @@ use world_core::World;
 #[derive(Drop)]
 pub(crate) struct Parts {
     pub maker: Maker,
-    pub stack: Rc<Stack>,
+    pub stack: NamedStack,
     pub plans: Rc<Plans>,
     pub entries: Rc<EntryShapes>,
     pub outputs: Outputs,
@@ -30,7 +30,7 @@ pub struct Run {
 
 /// A run with the stack that it is over, and the plans of that.
 pub struct Opened {
-    pub stack: Rc<Stack>,
+    pub stack: NamedStack,
     pub plans: Rc<Plans>,
     pub run: Run,
 }

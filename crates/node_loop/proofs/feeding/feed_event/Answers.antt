@@ -15,13 +15,14 @@ pub pass_stepped-requires : goal.pass_stepped-requires
 pass_stepped-requires g c =
     let at = c.requires.up.rests.somewhere in
     let places = c.in-Ok-Stepped.ensures.places ∙ c.requires.up.rests.places in
+    let light = rw (c.deref-in-Ok-Stepped.ensures, c.stack-in-Ok-Stepped.ensures) at c.an_accepted_stack_is_light.ensures in
     let h = happened (stack_in c.args.course) (plans_in c.args.course) c.requires.up.world c.args.event.now (g.F.Feed.group c.args.feed.now)
     (g.F.Feed.group c.feed.new.self) c.feed.new.out.outputs 0 c.feed.new.visits _ _ at.stack_is at.plans_are c.in-Ok-Stepped.field-0-is (c.in-Ok-Stepped.ensures.fed c.requires.up.world at.stands) in
     record {
-      few = omega (arith, c.next_number-number.ensures.small, c.has_places_for_all.ensures, places, c.an_accepted_stack_is_light.ensures);
+      few = omega (arith, c.next_number-number.ensures.small, c.has_places_for_all.ensures, places, light);
       full = told_full _ _ _ _ _ _ _ h.told;
       sendable = own_sendable _ _ _ _ c.requires.up.members _ _ _ _ _ _ (g.N.Links.listening c.args.links.now)
-          (record { places = c.is_within_limits.ensures.places; fields = c.is_within_limits.ensures.fields }) c.requires.up.typed c.requires.up.numbered c.is_given.ensures
+          (record { places = rw (c.deref.ensures, c.stack.ensures) at c.is_within_limits.ensures.places; fields = rw (c.deref.ensures, c.stack.ensures) at c.is_within_limits.ensures.fields }) c.requires.up.typed c.requires.up.numbered c.is_given.ensures
           at.chained at.within h c.member_of.ensures c.requires.up.listen.0.1;
     }
 
