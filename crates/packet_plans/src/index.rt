@@ -5,7 +5,7 @@ ghost use Rattle.packet_plans.specs.Lists.{plan_tree};
 ghost use Rattle.packet_plans.specs.Prints.{Indexes};
 
 use crate::print::print_of;
-use crate::types::Plan;
+use crate::types::{MOST_PLANS, Plan};
 use msg_core::Memory;
 use std::alloc::Global;
 
@@ -22,7 +22,7 @@ pub(crate) struct Index {
 impl Index {
     /// That of plans.
     pub(crate) fn of(alloc: Global, plans: &[Plan]) -> Result<Index, Memory>
-        requires { length plans.now ≤ 250 }
+        requires { length plans.now ≤ MOST_PLANS }
         ensures { IfOk result (λ index. Indexes (map plan_tree plans.now) index.first.items index.next.items) }
     {
         let mut first = vec![in alloc; None; PRINTS]?;

@@ -41,7 +41,7 @@ impl PlanList {
     /// All of them, in order.
     pub(crate) fn slice(&self) -> &[Plan]
         ensures plans { map plan_tree result.now ≡ list_tree self.now }
-        ensures few { length result.now ≤ 250 }
+        ensures few { length result.now ≤ MOST_PLANS }
     {
         self.list.as_slice()
     }

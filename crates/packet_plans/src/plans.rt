@@ -10,14 +10,14 @@ ghost use Rattle.packet_plans.specs.Trees.{plans_tree};
 use crate::index::Index;
 use crate::kept::Plans;
 use crate::print::Print;
-use crate::types::{Plan, PlanList};
+use crate::types::{MOST_PLANS, Plan, PlanList};
 use event_graph::Stack;
 use msg_core::Memory;
 use std::alloc::Global;
 
 impl Plans {
     /// The plans of a stack: one for each packet that an application's own cast, then its send, is predicted to send in the first case,
-    /// then in the second; of later packets than 250 there are none. Err only where memory runs out.
+    /// then in the second; of later packets than `MOST_PLANS` there are none. Err only where memory runs out.
     pub fn of(alloc: Global, stack: &Stack) -> Result<Plans, Memory>
         ensures { IfOk result (λ plans. plans_tree plans ≡ plans_of (stack_tree stack.now)) }
     {
@@ -29,7 +29,7 @@ impl Plans {
     /// All of them, in order.
     pub fn slice(&self) -> &[Plan]
         ensures plans { map plan_tree result.now ≡ plans_tree self.now }
-        ensures few { length result.now ≤ 250 }
+        ensures few { length result.now ≤ MOST_PLANS }
     {
         self.list.slice()
     }

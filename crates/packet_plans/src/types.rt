@@ -1,6 +1,7 @@
 //! Plans.
 
 ghost use Rattle.std.specs.Prelude.{◌≤◌, vec_len};
+ghost use Rattle.packet_plans.specs.declared.types.TheConstants.{MOST_PLANS};
 
 use layer_ast::Kind;
 
@@ -17,9 +18,9 @@ pub struct Plan {
     pub fields: Vec<Option<u32>>,
 }
 
-/// Plans as they are gathered, numbered from 0: at most 250.
+/// Plans as they are gathered, numbered from 0: at most `MOST_PLANS`.
 #[derive(Drop)]
 pub(crate) struct PlanList {
     pub(crate) list: Vec<Plan>,
-    ghost few: { vec_len list ≤ 250 },
+    ghost few: { vec_len list ≤ MOST_PLANS },
 }

@@ -1,6 +1,7 @@
 //! Ranges of slots.
 
 ghost use Rattle.std.specs.Prelude.{◌+◌, ◌≤◌};
+ghost use Rattle.msg_core.specs.Parts.{longest_body};
 
 use slot_pool::{Pool, Slot};
 
@@ -9,7 +10,7 @@ pub struct Part {
     pub(crate) slot: Slot,
     pub(crate) from: u32,
     pub(crate) len: u32,
-    ghost fits: { from + len ≤ 8192 },
+    ghost fits: { from + len ≤ longest_body },
 }
 
 impl Part {

@@ -4,6 +4,7 @@ ghost use Rattle.std.specs.List.{after_last};
 ghost use Rattle.script_mean.specs.Lines as spec;
 ghost use Rattle.script_text.specs.Parts.{parts_behind};
 
+use crate::reading::MOST_LINES;
 use crate::splits::cut;
 use memchr::memchr_iter;
 
@@ -28,7 +29,7 @@ impl<'a> Lines<'a> {
     ghost use Rattle.script_text.specs.Reading.{all_left, lines_left, numbered};
 
     pub(crate) fn of(text: &'a [u8]) -> Lines<'a>
-        requires { spec.line_count text.now ≤ 100000 }
+        requires { spec.line_count text.now ≤ MOST_LINES }
         ensures { lines_left result ≡ spec.said_lines text.now }
     {
         Lines {

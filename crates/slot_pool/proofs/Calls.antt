@@ -8,9 +8,10 @@ use Rattle.slot_pool.specs.Places.{shown_place, shown, IsPool}
 use Rattle.slot_pool.specs.Spots.{Spot, no_spot, spot_at, Sets, Adds}
 use Rattle.slot_pool.proofs.Held.{held_if_used}
 use Rattle.slot_pool.proofs.Places.{in_use, held_at-shown, held_at-shown_past, length-shown, shown-set, shown-push, all_used, all_in_use, stays, freed, taken, pushed}
+use Rattle.slot_pool.specs.declared.place.TheConstants.{LONGEST}
 
-pub sized_at : (ps : List Spot) (n first i : ℕ) → IsPool ps n first → i < length ps → (spot_at ps i).len ≤ 8192
-sized_at ps n first i is lt = All-get_or (λ (p : Spot). p.len ≤ 8192) ps i no_spot lt is.sized
+pub sized_at : (ps : List Spot) (n first i : ℕ) → IsPool ps n first → i < length ps → (spot_at ps i).len ≤ LONGEST
+sized_at ps n first i is lt = All-get_or (λ (p : Spot). p.len ≤ LONGEST) ps i no_spot lt is.sized
 
 module _ (ps : List Spot) (n first i : ℕ) (w v : Spot) (p : List Held) (s : ℕ) where
   -- the place is in use
@@ -69,18 +70,18 @@ module _ (ps : List Spot) (n first i : ℕ) (w v : Spot) (p : List Held) (s : �
 
 module _ (ps : List Spot) (n first : ℕ) (v : Spot) where
   -- the first free place is taken, whose link was that of w
-  pub take_pool : (w : Spot) → first < length ps → w ≡ spot_at ps first → v.count ≡ 1 → v.len ≤ 8192 → IsPool ps n first → IsPool (set ps first v) n w.next
+  pub take_pool : (w : Spot) → first < length ps → w ≡ spot_at ps first → v.count ≡ 1 → v.len ≤ LONGEST → IsPool ps n first → IsPool (set ps first v) n w.next
   take_pool w lt read one fits is =
       subst (λ m. IsPool (set ps first v) n m) (ap (λ (x : Spot). x.next) (sym read)) (taken ps n first v is lt (omega arith) fits).0
 
-  pub push_pool : length ps ≤ first → length ps < n → v.count ≡ 1 → v.len ≤ 8192 → IsPool ps n first → IsPool (ps ++ v ∷ []) n first
+  pub push_pool : length ps ≤ first → length ps < n → v.count ≡ 1 → v.len ≤ LONGEST → IsPool ps n first → IsPool (ps ++ v ∷ []) n first
   push_pool past lt one fits is = pushed ps n first v is past lt (omega arith) fits
 
   module _ (p : List Held) (bs : List ℕ) where
     one_held : v.count ≡ 1 → v.len ≡ length bs → take (length bs) v.bytes ≡ bs → shown_place v ≡ held 1 bs
     one_held one long same = (λ j. held_if (one j) (take (long j) v.bytes)) ∙ ap (held 1) same
 
-    pub take_shown : shown ps n ≡ p → first < length ps → IsPool ps n first → v.count ≡ 1 → v.len ≡ length bs → take (length bs) v.bytes ≡ bs → length bs ≤ 8192
+    pub take_shown : shown ps n ≡ p → first < length ps → IsPool ps n first → v.count ≡ 1 → v.len ≡ length bs → take (length bs) v.bytes ≡ bs → length bs ≤ LONGEST
         → Puts p (shown (set ps first v) n) bs first
     take_shown view lt is one long same fits =
         let room = is.room in let all : length p ≡ n = ap length (sym view) ∙ length-shown ps n is.room in
@@ -104,7 +105,7 @@ none_full ps n first p view past full is = (λ e. subst (All (λ (h : Held). 0 <
 
 -- ---- what calls of a row leave
 
-module _ (q new : Run Spot) (first : ℕ) (bs : List ℕ) (is : IsPool q.values q.capacity first) (fits : length bs ≤ 8192) where
+module _ (q new : Run Spot) (first : ℕ) (bs : List ℕ) (is : IsPool q.values q.capacity first) (fits : length bs ≤ LONGEST) where
   module _ (s : Sets q new first bs) (lt : first < length q.values) where
     pub sets_pool : (next : ℕ) → next ≡ (spot_at q.values first).next → IsPool new.values new.capacity next
     sets_pool next e = subst (λ m. IsPool new.values new.capacity m) (sym e) (subst (λ (r : Run Spot). IsPool r.values r.capacity (spot_at q.values first).next) (sym s.rest)

@@ -10,6 +10,7 @@ use Rattle.slot_pool.specs.Places.{shown_place, shown, Linked, IsPool}
 use Rattle.slot_pool.specs.Spots.{Spot, no_spot, spot_at}
 use Rattle.slot_pool.proofs.Held.{below_or_not, count-held_if, free_by_used, used_of_free_by}
 use Rattle.slot_pool.proofs.Times.{hit_or_not, hit_same, hit_other}
+use Rattle.slot_pool.specs.declared.place.TheConstants.{LONGEST}
 
 pub length-shown : (ps : List Spot) (n : ℕ) → length ps ≤ n → length (shown ps n) ≡ n
 length-shown ps n le = omega (arith, length-append (map shown_place ps) (replicate (n - length ps) unused), length-map ps shown_place, length-replicate (n - length ps) unused)
@@ -81,13 +82,13 @@ free_count zero m e = refl
 free_count (suc n) m e = absurd (omega arith)
 
 -- a place in use is changed, and stays in use
-pub stays : (ps : List Spot) (n first i : ℕ) (w : Spot) → IsPool ps n first → i < length ps → 0 < (spot_at ps i).count → 0 < w.count → w.len ≤ 8192 → IsPool (set ps i w) n first
+pub stays : (ps : List Spot) (n first i : ℕ) (w : Spot) → IsPool ps n first → i < length ps → 0 < (spot_at ps i).count → 0 < w.count → w.len ≤ LONGEST → IsPool (set ps i w) n first
 stays ps n first i w is lt used pos fits =
     let long = length-set ps i w in let out : times i is.free ≡ 0 = is.once i lt ∙ free_by_used (spot_at ps i).count used in
     record {
       few = is.few;
       room = omega (arith, is.room);
-      sized = All-set (λ (p : Spot). p.len ≤ 8192) ps i w fits is.sized;
+      sized = All-set (λ (p : Spot). p.len ≤ LONGEST) ps i w fits is.sized;
       free = is.free;
       linked = Linked-set ps n i w first is.free out is.linked;
       once = λ j within. let inside : j < length ps = omega arith in elim (eqb_tells j i) [
@@ -97,13 +98,13 @@ stays ps n first i w is lt used pos fits =
     }
 
 -- a place in use is freed, and the first of the free ones
-pub freed : (ps : List Spot) (n first i : ℕ) (w : Spot) → IsPool ps n first → i < length ps → 0 < (spot_at ps i).count → w.count ≡ 0 → w.next ≡ first → w.len ≤ 8192 → IsPool (set ps i w) n i
+pub freed : (ps : List Spot) (n first i : ℕ) (w : Spot) → IsPool ps n first → i < length ps → 0 < (spot_at ps i).count → w.count ≡ 0 → w.next ≡ first → w.len ≤ LONGEST → IsPool (set ps i w) n i
 freed ps n first i w is lt used none next fits =
     let long = length-set ps i w in let out : times i is.free ≡ 0 = is.once i lt ∙ free_by_used (spot_at ps i).count used in let here = get_or-set_same ps i w no_spot lt in
     record {
       few = is.few;
       room = omega (arith, is.room);
-      sized = All-set (λ (p : Spot). p.len ≤ 8192) ps i w fits is.sized;
+      sized = All-set (λ (p : Spot). p.len ≤ LONGEST) ps i w fits is.sized;
       free = i ∷ is.free;
       linked = (refl, omega arith, subst (λ m. Linked (set ps i w) n m is.free) (sym (ap (λ p. p.next) here ∙ next)) (Linked-set ps n i w first is.free out is.linked));
       once = λ j within. let inside : j < length ps = omega arith in elim (hit_or_not j i) [
@@ -115,9 +116,9 @@ freed ps n first i w is lt used none next fits =
     }
 
 -- the first free place is taken
-taken_from : (ps : List Spot) (n first : ℕ) (w : Spot) (fs : List ℕ) → n < 2 ^ 32 → length ps ≤ n → All (λ p. p.len ≤ 8192) ps
+taken_from : (ps : List Spot) (n first : ℕ) (w : Spot) (fs : List ℕ) → n < 2 ^ 32 → length ps ≤ n → All (λ p. p.len ≤ LONGEST) ps
     → Linked ps n first fs → ((i : ℕ) → i < length ps → times i fs ≡ free_by (spot_at ps i).count)
-    → first < length ps → 0 < w.count → w.len ≤ 8192 → IsPool (set ps first w) n (spot_at ps first).next × ((spot_at ps first).count ≡ 0)
+    → first < length ps → 0 < w.count → w.len ≤ LONGEST → IsPool (set ps first w) n (spot_at ps first).next × ((spot_at ps first).count ≡ 0)
 taken_from ps n first w [] few room sized l once lt pos fits = absurd (omega arith)
 taken_from ps n first w (f ∷ fs) few room sized l once lt pos fits =
     let long = length-set ps first w in let same : first ≡ f = l.0 in let here = get_or-set_same ps first w no_spot lt in
@@ -127,7 +128,7 @@ taken_from ps n first w (f ∷ fs) few room sized l once lt pos fits =
       record {
         few = few;
         room = omega arith;
-        sized = All-set (λ (p : Spot). p.len ≤ 8192) ps first w fits sized;
+        sized = All-set (λ (p : Spot). p.len ≤ LONGEST) ps first w fits sized;
         free = fs;
         linked = Linked-set ps n first w (spot_at ps first).next fs out (subst (λ m. Linked ps n (spot_at ps m).next fs) (sym same) l.2);
         once = λ j within. let inside : j < length ps = omega arith in elim (eqb_tells j first) [
@@ -140,7 +141,7 @@ taken_from ps n first w (f ∷ fs) few room sized l once lt pos fits =
       free,
     )
 
-pub taken : (ps : List Spot) (n first : ℕ) (w : Spot) → IsPool ps n first → first < length ps → 0 < w.count → w.len ≤ 8192 → IsPool (set ps first w) n (spot_at ps first).next × ((spot_at ps first).count ≡ 0)
+pub taken : (ps : List Spot) (n first : ℕ) (w : Spot) → IsPool ps n first → first < length ps → 0 < w.count → w.len ≤ LONGEST → IsPool (set ps first w) n (spot_at ps first).next × ((spot_at ps first).count ≡ 0)
 taken ps n first w is lt pos fits = taken_from ps n first w is.free is.few is.room is.sized is.linked is.once lt pos fits
 
 -- a first past the places says that none of them is free, and that it is the end
@@ -153,13 +154,13 @@ pub all_in_use : (ps : List Spot) (n first : ℕ) → IsPool ps n first → leng
 all_in_use ps n first is past = (none_free ps n first is.free is.linked is.once past).1
 
 -- a place that was never used is taken
-pub pushed : (ps : List Spot) (n first : ℕ) (w : Spot) → IsPool ps n first → length ps ≤ first → length ps < n → 0 < w.count → w.len ≤ 8192 → IsPool (ps ++ w ∷ []) n first
+pub pushed : (ps : List Spot) (n first : ℕ) (w : Spot) → IsPool ps n first → length ps ≤ first → length ps < n → 0 < w.count → w.len ≤ LONGEST → IsPool (ps ++ w ∷ []) n first
 pushed ps n first w is past lt pos fits =
     let long = length-append ps (w ∷ []) in let none = none_free ps n first is.free is.linked is.once past in
     record {
       few = is.few;
       room = omega arith;
-      sized = All-append (λ (p : Spot). p.len ≤ 8192) ps (w ∷ []) is.sized (All-cons (λ (p : Spot). p.len ≤ 8192) w [] fits (All-nil (λ (p : Spot). p.len ≤ 8192)));
+      sized = All-append (λ (p : Spot). p.len ≤ LONGEST) ps (w ∷ []) is.sized (All-cons (λ (p : Spot). p.len ≤ LONGEST) w [] fits (All-nil (λ (p : Spot). p.len ≤ LONGEST)));
       free = [];
       linked = none.0;
       once = λ j within. elim (below_or_not j (length ps)) [

@@ -7,6 +7,7 @@ use Rattle.std.proofs.lemmas.Bool.{le-ltb, lt-ltb}
 use Rattle.std.proofs.lemmas.Bool.Decides.{eqb_tells}
 use Rattle.raw_block.specs.Run.{Run, run}
 use Rattle.slot_pool.specs.Spots.{Spot, no_spot, spot_at, spot, joined, no_place, place_at, ArePlaces, HoldsOne, Sets, Adds, Reaches, Grows}
+use Rattle.slot_pool.specs.declared.place.TheConstants.{SHORT}
 use Rattle.slot_pool.specs.declared.place.Place.{Place}
 use Rattle.slot_pool.proofs.Held.{below_or_not}
 
@@ -43,33 +44,33 @@ joined_push (p ∷ ps) [] v le = ap (λ ss. spot p [] ∷ ss) (joined_push ps []
 joined_push (p ∷ ps) (l ∷ ls) v le = ap (λ ss. spot p l ∷ ss) (joined_push ps ls v (omega arith))
 
 -- the bytes of a short body are those of its place
-pub spot_short : (p : Place) (long : List ℕ) → p.len ≤ 512 → (spot p long).bytes ≡ p.bytes
-spot_short p long le = ap (λ b. if b then long else p.bytes) (le-ltb 512 p.len (omega arith))
+pub spot_short : (p : Place) (long : List ℕ) → p.len ≤ SHORT → (spot p long).bytes ≡ p.bytes
+spot_short p long le = ap (λ b. if b then long else p.bytes) (le-ltb SHORT p.len (omega arith))
 
 -- and those of a long one are elsewhere
-spot_long : (p : Place) (long : List ℕ) → 512 < p.len → (spot p long).bytes ≡ long
-spot_long p long lt = ap (λ b. if b then long else p.bytes) (lt-ltb 512 p.len lt)
+spot_long : (p : Place) (long : List ℕ) → SHORT < p.len → (spot p long).bytes ≡ long
+spot_long p long lt = ap (λ b. if b then long else p.bytes) (lt-ltb SHORT p.len lt)
 
 -- more places for long bodies show none
-pub joined_more : (ps : List Place) (ls zs : List (List ℕ)) → ((i : ℕ) → i < length ps → 512 < (place_at ps i).len → i < length ls) → joined ps (ls ++ zs) ≡ joined ps ls
+pub joined_more : (ps : List Place) (ls zs : List (List ℕ)) → ((i : ℕ) → i < length ps → SHORT < (place_at ps i).len → i < length ls) → joined ps (ls ++ zs) ≡ joined ps ls
 joined_more [] ls zs long = refl
 joined_more (p ∷ ps) [] [] long = refl
 joined_more (p ∷ ps) [] (z ∷ zs) long =
-    let none : p.len ≤ 512 = elim (below_or_not 512 p.len) [ inl far ↦ let within : 0 < 0 = long 0 (omega arith) far in absurd (omega arith) | inr le ↦ le ] in
+    let none : p.len ≤ SHORT = elim (below_or_not SHORT p.len) [ inl far ↦ let within : 0 < 0 = long 0 (omega arith) far in absurd (omega arith) | inr le ↦ le ] in
     let bytes : (spot p z).bytes ≡ (spot p []).bytes = spot_short p z none ∙ sym (spot_short p [] none) in
     (λ i. (record { count = p.count; next = p.next; len = p.len; bytes = bytes i }) ∷ joined_more ps [] zs (λ j lt far. let within : suc j < 0 = long (suc j) (omega arith) far in absurd (omega arith)) i)
 joined_more (p ∷ ps) (l ∷ ls) zs long = ap (λ ss. spot p l ∷ ss) (joined_more ps ls zs (λ j lt far. let within : suc j < suc (length ls) = long (suc j) (omega arith) far in omega arith))
 
 module _ (ps : List Place) (ls : List (List ℕ)) (n m : ℕ) (are : ArePlaces ps ls n m) where
-  pub set_places : (i : ℕ) (v : Place) → i < length ps → (512 < v.len → i < length ls) → ArePlaces (set ps i v) ls n m
+  pub set_places : (i : ℕ) (v : Place) → i < length ps → (SHORT < v.len → i < length ls) → ArePlaces (set ps i v) ls n m
   set_places i v lt far = let count = length-set ps i v in record {
     few = are.few;
     same = are.same;
     within = omega (arith, are.within);
     fewer = omega (arith, are.fewer);
     long = λ j within is. let inside : j < length ps = omega arith in elim (eqb_tells j i) [
-      | inl same ↦ subst (λ k. k < length ls) (sym same.1) (far (subst (λ (p : Place). 512 < p.len) (ap (place_at (set ps i v)) same.1 ∙ get_or-set_same ps i v no_place lt) is))
-      | inr other ↦ are.long j inside (subst (λ (p : Place). 512 < p.len) (get_or-set_other ps i j v no_place other.1) is)
+      | inl same ↦ subst (λ k. k < length ls) (sym same.1) (far (subst (λ (p : Place). SHORT < p.len) (ap (place_at (set ps i v)) same.1 ∙ get_or-set_same ps i v no_place lt) is))
+      | inr other ↦ are.long j inside (subst (λ (p : Place). SHORT < p.len) (get_or-set_other ps i j v no_place other.1) is)
     ];
   }
 
@@ -89,9 +90,9 @@ module _ (ps : List Place) (ls : List (List ℕ)) (n m : ℕ) (are : ArePlaces p
     within = omega arith;
     fewer = omega (arith, are.fewer);
     long = λ j within is. elim (below_or_not j (length ps)) [
-      | inl inside ↦ are.long j inside (subst (λ (p : Place). 512 < p.len) (get_or_append_left ps (v ∷ []) no_place j inside) is)
+      | inl inside ↦ are.long j inside (subst (λ (p : Place). SHORT < p.len) (get_or_append_left ps (v ∷ []) no_place j inside) is)
       | inr last ↦ let same : j ≡ length ps + 0 = omega arith in
-          let long : 512 < v.len = subst (λ (p : Place). 512 < p.len) (ap (place_at (ps ++ v ∷ [])) same ∙ get_or-append-add ps (v ∷ []) 0 no_place) is in absurd (omega arith)
+          let long : SHORT < v.len = subst (λ (p : Place). SHORT < p.len) (ap (place_at (ps ++ v ∷ [])) same ∙ get_or-append-add ps (v ∷ []) 0 no_place) is in absurd (omega arith)
     ];
   }
 
@@ -137,7 +138,7 @@ module _ (ps : List Place) (ls : List (List ℕ)) (n i : ℕ) (q : Run Spot) (vi
   written v = (λ j. run (joined_set ps ls i v j) n) ∙ (λ j. run (set (view j).values i (spot v (get_or ls i []))) (view j).capacity)
 
   -- its one reference is to a short body
-  pub sets_short : (v : Place) (bs : List ℕ) → i < length q.values → v.count ≡ 1 → v.len ≡ length bs → take (length bs) v.bytes ≡ bs → length bs ≤ 512
+  pub sets_short : (v : Place) (bs : List ℕ) → i < length q.values → v.count ≡ 1 → v.len ≡ length bs → take (length bs) v.bytes ≡ bs → length bs ≤ SHORT
       → Sets q (run (joined (set ps i v) ls) n) i bs
   sets_short v bs lt one long same few = sets q _ i (spot v (get_or ls i [])) bs lt (written v) (record {
     one = one;
@@ -166,7 +167,7 @@ module _ (ps : List Place) (long longer : Run (List ℕ)) (n i : ℕ) (reach : R
   are_long v b = long_places (set ps i v) longer.values n longer.capacity (set_places ps longer.values n longer.capacity still i v lt (λ _. reach.reached)) i b
 
   -- the one reference of a place is to a long body
-  pub sets_long : (q : Run Spot) → run (joined ps long.values) n ≡ q → (v : Place) (b bs : List ℕ) → v.count ≡ 1 → v.len ≡ length bs → take (length bs) b ≡ bs → 512 < length bs
+  pub sets_long : (q : Run Spot) → run (joined ps long.values) n ≡ q → (v : Place) (b bs : List ℕ) → v.count ≡ 1 → v.len ≡ length bs → take (length bs) b ≡ bs → SHORT < length bs
       → Sets q (run (joined (set ps i v) (set longer.values i b)) n) i bs
   sets_long q view v b bs one sized same far =
       let as_seen : joined ps longer.values ≡ joined ps long.values = ap (joined ps) reach.values ∙ joined_more ps long.values reach.more are.long in

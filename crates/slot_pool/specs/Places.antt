@@ -3,6 +3,7 @@ use Rattle.std.specs.Prelude.{◌≡◌, ℕ, ◌-◌, ◌^◌, ◌<◌, ◌≤�
 use Rattle.slot_pool.specs.Held.{Held, held_if, unused, free_by}
 use Rattle.slot_pool.specs.Times.{times}
 use Rattle.slot_pool.specs.Spots.{Spot, spot_at}
+use Rattle.slot_pool.specs.declared.place.TheConstants.{LONGEST}
 
 -- what the slot of a place holds
 abbrev pub shown_place : Spot → Held
@@ -21,7 +22,7 @@ Linked ps n at (f ∷ fs) = (at ≡ f) × (f < length ps) × Linked ps n (spot_a
 pub record IsPool (ps : List Spot) (n first : ℕ) : Type 0 where
   pub few : n < 2 ^ 32
   pub room : length ps ≤ n
-  pub sized : All (λ p. p.len ≤ 8192) ps
+  pub sized : All (λ p. p.len ≤ LONGEST) ps
   pub free : List ℕ
   pub linked : Linked ps n first free
   pub once : (i : ℕ) → i < length ps → times i free ≡ free_by (spot_at ps i).count

@@ -2,6 +2,7 @@
 use Rattle.std.specs.Prelude.{◌≡◌, ℕ, ◌^◌, ◌<◌, ◌≤◌, List, [], ◌∷◌, ◌++◌, length, take, slice_index_or, slice_set, nat_lt, if◌then◌else◌, refl}
 use Rattle.std.specs.Coded.{Coded, code_by, coded×, coded_list, coded_ℕ}
 use Rattle.raw_block.specs.Run.{Run, run}
+use Rattle.slot_pool.specs.declared.place.TheConstants.{SHORT}
 use Rattle.slot_pool.specs.declared.place.Place.{Place}
 
 -- a place with its bytes: a free one with the free one behind it, or a count and a body of len bytes
@@ -21,7 +22,7 @@ spot_at ps i = slice_index_or ps i no_spot
 
 -- a place, with the bytes that are there for a long body
 abbrev pub spot : Place → List ℕ → Spot
-spot p long = record { count = p.count; next = p.next; len = p.len; bytes = if nat_lt 512 p.len then long else p.bytes }
+spot p long = record { count = p.count; next = p.next; len = p.len; bytes = if nat_lt SHORT p.len then long else p.bytes }
 
 -- the places, with those for long bodies, which are as many or fewer
 abbrev pub joined : List Place → List (List ℕ) → List Spot
@@ -41,7 +42,7 @@ pub record ArePlaces (ps : List Place) (ls : List (List ℕ)) (n m : ℕ) : Type
   pub same : m ≡ n
   pub within : length ps ≤ n
   pub fewer : length ls ≤ length ps
-  pub long : (i : ℕ) → i < length ps → 512 < (place_at ps i).len → i < length ls
+  pub long : (i : ℕ) → i < length ps → SHORT < (place_at ps i).len → i < length ls
 
 -- the spot's one reference is to these bytes
 pub record HoldsOne (s : Spot) (bs : List ℕ) : Type 0 where

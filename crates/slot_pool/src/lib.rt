@@ -13,6 +13,7 @@ pub use laws::{
     a_map_is_of_one_pool, a_pool_is_a_finite_map, calls_move_references, counts_stay_exact,
     moves_compose, slots_suffice,
 };
+pub use place::LONGEST;
 #[doc(hidden)]
 pub use place::Place;
 pub use pool::{Memory, Pool, Slot};

@@ -1,14 +1,20 @@
 //! One place of the pool's block: a count with a short body, or a link of the list of free places.
 ghost use Rattle.std.specs.Prelude.{◌≡◌, ℕ, ◌+◌, ◌-◌, ◌<◌, ◌≤◌, ◌↔◌, List, IsTrue, length, take};
 
+/// The most bytes of a body that lies in its place.
+pub(crate) const SHORT: usize = 512;
+
+/// The most bytes of a body.
+pub const LONGEST: usize = 8192;
+
 /// With a count of 0 it is free, and `next` is the free place behind it; else its body has `len` bytes, which are the first here where they
-/// are at most 512, and lie in a place of their own else.
+/// are at most `SHORT`, and lie in a place of their own else.
 #[derive(Clone, Copy)]
 pub struct Place {
     pub(crate) count: u32,
     pub(crate) next: u32,
     pub(crate) len: u32,
-    pub(crate) bytes: [u8; 512],
+    pub(crate) bytes: [u8; SHORT],
 }
 
 impl Place {
@@ -20,13 +26,13 @@ impl Place {
             count: 0,
             next: 0,
             len: 0,
-            bytes: [0; 512],
+            bytes: [0; SHORT],
         }
     }
 
     /// From now on the place's one reference is to a copy of a short `body`.
     pub(crate) fn hold(&mut self, body: &[u8])
-        requires { length body.now ≤ 512 }
+        requires { length body.now ≤ SHORT }
         ensures count { self.new.count ≡ 1 }
         ensures len { self.new.len ≡ length body.now }
         ensures body { take (length body.now) self.new.bytes ≡ body.now }

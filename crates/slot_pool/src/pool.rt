@@ -2,6 +2,7 @@
 ghost use Rattle.std.specs.Prelude.{◌≡◌, ℕ, ◌+◌, ◌<◌, ◌≤◌, ◌↔◌, List, ◌++◌, length, take, slice_set, replicate, IfOk, IfSome, IfNone, IsNone, IsTrue};
 ghost use Rattle.slot_pool.specs.Held.{held, unused, held_at, count_at, bytes_at, one_less, range, IsFull, Puts};
 
+use crate::place::LONGEST;
 use crate::row::Row;
 use std::alloc::Global;
 use std::marker::Model;
@@ -58,7 +59,7 @@ impl Pool {
 
     /// A first reference to a copy of `bytes`, in a slot that was unused.
     pub fn put(&mut self, bytes: &[u8]) -> Option<Slot>
-        requires { length bytes.now ≤ 8192 }
+        requires { length bytes.now ≤ LONGEST }
         ensures full { IsNone result ↔ IsFull self.old }
         ensures none { IfNone result (self.new ≡ self.old) }
         ensures some { IfSome result (Puts self.old self.new bytes.now) }
@@ -105,7 +106,7 @@ impl Pool {
     pub fn bytes(&self, s: &Slot) -> &[u8]
         requires { 0 < count_at self.now s.now }
         ensures bytes { result.now ≡ bytes_at self.now s.now }
-        ensures fits { length result.now ≤ 8192 }
+        ensures fits { length result.now ≤ LONGEST }
     {
         self.places.body(s.index as usize)
     }
@@ -124,13 +125,13 @@ impl Pool {
         requires b_used { 0 < count_at self.old b.now }
         requires a_range { a_from + a_len ≤ length (bytes_at self.old a.now) }
         requires b_range { b_from + b_len ≤ length (bytes_at self.old b.now) }
-        requires fits { a_len + b_len ≤ 8192 }
+        requires fits { a_len + b_len ≤ LONGEST }
         ensures full { IsNone result ↔ IsFull self.old }
         ensures none { IfNone result (self.new ≡ self.old) }
         ensures some { IfSome result (Puts self.old self.new (range a_from a_len (bytes_at self.old a.now) ++ range b_from b_len (bytes_at self.old b.now))) }
     {
         let whole = a_len as usize + b_len as usize;
-        let mut body = [0; 8192];
+        let mut body = [0; LONGEST];
         let front = part(self.bytes(a), a_from, a_len);
         let back = part(self.bytes(b), b_from, b_len);
         write_both(&mut body, front, back);

@@ -3,20 +3,17 @@ ghost use Rattle.std.specs.Prelude.{◌≡◌, ℕ, ◌+◌, ◌-◌, ◌^◌, �
 ghost use Rattle.raw_block.specs.Run.{run};
 ghost use Rattle.slot_pool.specs.Spots.{spot_at, Sets, Adds, Reaches};
 
-use crate::place::Place;
+use crate::place::{LONGEST, Place, SHORT};
 use raw_block::Block;
 use std::alloc::{AllocError, Global};
 use std::marker::Model;
-
-/// The most bytes of a body that lies in its place.
-const SHORT: usize = 512;
 
 /// At most so many places. Memory is taken for all at once, and that of a place is first touched when the place is first used, or, where it
 /// is for a long body, when that place or one behind it has one.
 #[derive(Drop)]
 pub struct Row {
     block: Block<Place, Global>,
-    long: Block<[u8; 8192], Global>,
+    long: Block<[u8; LONGEST], Global>,
 }
 
 impl Model for Row {
@@ -71,7 +68,7 @@ impl Row {
     #[tactic(auto, using(crate::proofs::Spots::length_joined, crate::proofs::Spots::spot_at_joined, crate::proofs::Spots::spot_short))]
     pub(crate) fn body(&self, index: usize) -> &[u8]
         requires there { index < length self.now.values }
-        requires fits { (spot_at self.now.values index).len ≤ 8192 }
+        requires fits { (spot_at self.now.values index).len ≤ LONGEST }
         ensures { result.now ≡ take (spot_at self.now.values index).len (spot_at self.now.values index).bytes }
     {
         let place = &self.block.as_slice()[index];
@@ -112,7 +109,7 @@ impl Row {
     /// From now on a place's one reference is to a copy of `body`.
     pub(crate) fn hold(&mut self, index: usize, body: &[u8])
         requires there { index < length self.old.values }
-        requires fits { length body.now ≤ 8192 }
+        requires fits { length body.now ≤ LONGEST }
         ensures { Sets self.old self.new index body.now }
     {
         if body.len() <= SHORT {
@@ -127,7 +124,7 @@ impl Row {
     /// A place more, whose one reference is to a copy of `body`.
     pub(crate) fn push(&mut self, body: &[u8])
         requires room { length self.old.values < self.old.capacity }
-        requires fits { length body.now ≤ 8192 }
+        requires fits { length body.now ≤ LONGEST }
         ensures { Adds self.old self.new body.now }
     {
         let last = self.block.len();
@@ -137,19 +134,19 @@ impl Row {
 }
 
 /// Fills the places up to this one with zeros, where they have none yet.
-fn reach(long: &mut Block<[u8; 8192], Global>, index: usize)
+fn reach(long: &mut Block<[u8; LONGEST], Global>, index: usize)
     requires there { index < long.old.capacity }
     requires few { long.old.capacity < 2 ^ 32 }
     ensures { Reaches long.old long.new index }
 {
     for _ in long.len()..index + 1 {
-        long.push([0; 8192]);
+        long.push([0; LONGEST]);
     }
 }
 
 /// Writes `body` to the start of `bytes`.
-fn write_front(bytes: &mut [u8; 8192], body: &[u8])
-    requires { length body.now ≤ 8192 }
+fn write_front(bytes: &mut [u8; LONGEST], body: &[u8])
+    requires { length body.now ≤ LONGEST }
     ensures { take (length body.now) bytes.new ≡ body.now }
 {
     bytes[..body.len()].copy_from_slice(body);

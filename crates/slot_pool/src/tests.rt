@@ -1,12 +1,12 @@
 ghost use Rattle.std.specs.Prelude.{◌≡◌, ◌<◌, ◌≤◌, length};
 ghost use Rattle.slot_pool.specs.Held.{count_at, IsFull, Puts};
 
-use crate::{Pool, Slot};
+use crate::{LONGEST, Pool, Slot};
 use std::process::Abort;
 use std::test::Fail;
 
 fn put(rt: &impl Abort, pool: &mut Pool, bytes: &[u8]) -> Slot
-    requires { length bytes.now ≤ 8192 }
+    requires { length bytes.now ≤ LONGEST }
     ensures { Puts pool.old pool.new bytes.now result }
 {
     match pool.put(bytes) {
@@ -67,13 +67,13 @@ fn two_slots_are_filled_kept_given_back_and_joined(rt: HostRuntime) -> Result<()
 #[test]
 fn a_body_of_8192_bytes_is_put_and_joined(rt: HostRuntime) -> Result<(), Fail> {
     let mut pool = Pool::with_slots(rt.alloc(), 3)?;
-    let long = put(&rt, &mut pool, &[7; 8192]);
-    assert_eq!(rt; pool.bytes(&long), [7; 8192].as_slice());
+    let long = put(&rt, &mut pool, &[7; LONGEST]);
+    assert_eq!(rt; pool.bytes(&long), [7; LONGEST].as_slice());
     let short = put(&rt, &mut pool, b"head");
     match pool.join(&short, 1, 3, &long, 3, 8189) {
         Some(joined) => {
             let bytes = pool.bytes(&joined);
-            assert_eq!(rt; bytes.len(), 8192);
+            assert_eq!(rt; bytes.len(), LONGEST);
             assert_eq!(rt; &bytes[..3], b"ead".as_slice());
             assert!(rt; bytes[3..].iter().all(|byte| *byte == 7));
             pool.give_back(joined);
