@@ -13,6 +13,7 @@ use Rattle.packet_plans.specs.Trees.{plans_tree}
 use Rattle.entry_shapes.specs.Shapes.{short_shapes}
 use Rattle.run_mean.specs.Member.{opened}
 use Rattle.file_layer.specs.Making.{Making}
+use Rattle.bypass_member.specs.Making.{MadeAtMost}
 use Rattle.bypass_member.specs.Placed.{Placed}
 use Rattle.bypass_member.specs.declared.error.OpenError.{OpenError}
 use Rattle.bypass_member.specs.declared.error.OpenError.TheVariants.{TooLarge, Memory}
@@ -50,13 +51,8 @@ pub record IsOpen (o : Opening) (view : View) (id : ℕ) (before after : Making)
   pub same : after.stack ≡ before.stack
   pub made : after.made ≡ before.made + length (stack_in o)
 
--- There is no memory; as many layers were made as there are, or fewer.
-pub record NoMemory (o : Opening) (before after : Making) : Type 0 where
-  pub same : after.stack ≡ before.stack
-  pub made : after.made ≤ before.made + length (stack_in o)
-
--- It is opened, or its layers may keep too many rows, or there is no memory.
+-- It is opened, or its layers may keep too many rows, or there is no memory, and as many layers were made as there are, or fewer.
 abbrev pub Opens : Opening → View → (id : ℕ) → (before after : Making) → Result Placed OpenError → Type 0
 Opens o view id before after (Ok m) = IsOpen o view id before after m
 Opens o view id before after (Err TooLarge) = (most_rows < rows_in o view) × (after ≡ before)
-Opens o view id before after (Err Memory) = NoMemory o before after
+Opens o view id before after (Err Memory) = MadeAtMost (length (stack_in o)) before after

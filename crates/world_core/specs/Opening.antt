@@ -8,6 +8,7 @@ use Rattle.run_mean.specs.Member.{opened}
 use Rattle.run_mean.specs.View.{first_view}
 use Rattle.run_mean.specs.World.{first_world}
 use Rattle.file_layer.specs.Making.{Making}
+use Rattle.bypass_member.specs.Making.{MadeAtMost}
 use Rattle.bypass_member.specs.Opening.{plans_in, stack_in}
 use Rattle.bypass_member.specs.Placed.{Placed}
 use Rattle.bypass_member.specs.declared.error.OpenError.{OpenError}
@@ -34,15 +35,10 @@ pub record AreOpen (o : Opening) (n : ℕ) (before after : Making) (members : Li
   pub same : after.stack ≡ before.stack
   pub made : after.made ≡ before.made + n * length (stack_in o)
 
--- There is no memory; as many layers were made, or fewer.
-pub record NoMemory (o : Opening) (n : ℕ) (before after : Making) : Type 0 where
-  pub same : after.stack ≡ before.stack
-  pub made : after.made ≤ before.made + n * length (stack_in o)
-
--- The members may keep too many rows, or there is no memory.
+-- The members may keep too many rows, or there is no memory, and as many layers were made as all have, or fewer.
 abbrev pub IsNotOpen : Opening → (n : ℕ) → (before after : Making) → OpenError → Type 0
 IsNotOpen o n before after TooLarge = (most_rows < rows_of (stack_in o) n) × (after ≡ before)
-IsNotOpen o n before after Memory = NoMemory o n before after
+IsNotOpen o n before after Memory = MadeAtMost (n * length (stack_in o)) before after
 
 -- The members of a group are opened, or none is left.
 abbrev pub OpensAll : Opening → (n : ℕ) → (before after : Making) → Result (Vec Placed Global) OpenError → Type 0
