@@ -98,6 +98,15 @@ first_header (Some m) = first_of m.headers
 abbrev pub header_popped : Laid → Laid
 header_popped p = record p { arrived = option_map popped p.arrived }
 
+-- What a popped header says; where there is none the tag is 0, and there are no fields.
+abbrev pub said_tag : Option Header → ℕ
+said_tag None = 0
+said_tag (Some h) = h.tag
+
+abbrev pub said_fields : Option Header → List ℕ
+said_fields None = []
+said_fields (Some h) = h.fields
+
 -- A block is entered: its scope has the event's numbers, the fields of the popped header and the message that arrived, and behind
 -- them so many numbers and messages that the block declares.
 abbrev pub enters : Envelope → List ℕ → ℕ → ℕ → Laid → Laid

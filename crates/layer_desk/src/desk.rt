@@ -10,7 +10,7 @@ ghost use Rattle.layer_mean.specs.State.{number_at, flat_index, rows_at, row_at,
 ghost use Rattle.layer_mean.specs.Value.{number_in, message_in};
 ghost use Rattle.layer_mean.specs.Effect.{sent_as};
 ghost use Rattle.typed_layer.specs.View.{carried_tree, taken_tree};
-ghost use Rattle.layer_desk.specs.Laid.{Laid, bound, assigned, assigned_square, lifted, changed, joined, queued, queued_first, is_found, taken_row, event_in, sends, sends_first, first_header, header_popped, enters, passes_on, left};
+ghost use Rattle.layer_desk.specs.Laid.{Laid, bound, assigned, assigned_square, lifted, changed, joined, queued, queued_first, is_found, taken_row, event_in, sends, sends_first, first_header, header_popped, enters, passes_on, left, said_tag, said_fields};
 ghost use Rattle.layer_desk.specs.Need.{Layout, Room, nothing_needed, one_slot, one_place, one_in_hand, held_need, room_need, taken_need, entry_need, passing_need};
 ghost use Rattle.layer_desk.specs.Spent.{Begun, SpentAtMost, Spent, Lifted};
 
@@ -298,11 +298,13 @@ pub trait Desk {
             (shown pool.old self.old))) }
         ensures spent { Spent (free pool.old self.old) (free pool.new self.new) one_place result };
 
-    /// Takes the first header off the message that arrived.
-    fn pop_header<K: Start>(&mut self, pool: &Pool) -> Option<Header>
-        requires { ready K.begun pool.now self.old }
+    /// Takes the first header off the message that arrived: says its tag, 0 where there is none, and its fields.
+    fn pop_header<K: Start>(&mut self, pool: &Pool, fields: &mut Fields) -> u8
+        requires ready { ready K.begun pool.now self.old }
+        requires none { fields.old ≡ [] }
         ensures ready { ready K.begun pool.now self.new }
-        ensures header { result ≡ first_header (shown pool.now self.old).arrived }
+        ensures tag { result ≡ said_tag (first_header (shown pool.now self.old).arrived) }
+        ensures fields { fields.new ≡ said_fields (first_header (shown pool.now self.old).arrived) }
         ensures shown { shown pool.now self.new ≡ header_popped (shown pool.now self.old) }
         ensures free { free pool.now self.new ≡ free pool.now self.old };
 

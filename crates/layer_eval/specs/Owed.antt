@@ -1,5 +1,5 @@
 -- Emissions that are yet to go.
-use Rattle.std.specs.Prelude.{ℕ, ◌+◌, Bool, true, false, List, [], ◌∷◌, ◌++◌, slice_index_or, Option, Some, None, Result, Ok, Err}
+use Rattle.std.specs.Prelude.{◌≡◌, ℕ, ◌+◌, Bool, true, false, List, [], ◌∷◌, ◌++◌, slice_index_or, Option, Some, None, Result, Ok, Err}
 use Rattle.msg_core.specs.Chain.{plain}
 use Rattle.layer_ast.specs.declared.tokens.Dir.{Dir}
 use Rattle.layer_mean.specs.declared.run.Event.{Event}
@@ -42,3 +42,13 @@ owing owed n = record n { places = owed_places owed + n.places }
 abbrev pub SpentOwing : {A : Type 0} → Option Pending → Option Pending → Room → Room → Need → Result A NoRoom → Type 0
 SpentOwing before now old new n (Ok a) = SpentAtMost (record old { places = owed_places now + old.places }) new (owing before n)
 SpentOwing before now old new n (Err e) = Lacks old (owing before n) e
+
+-- An emission of this event is owed.
+pub record PutOff (owed : Option Pending) (event : Dir × Event) (p : Laid) : Type 0 where
+  pub sent : with_owed owed p ≡ p.sent ++ event ∷ []
+  pub places : owed_places owed ≡ 1
+
+-- Whether one was put off: else nothing is owed.
+abbrev pub IsPutOff : Bool → Option Pending → Dir × Event → Laid → Type 0
+IsPutOff true owed event p = PutOff owed event p
+IsPutOff false owed event p = owed ≡ None

@@ -14,10 +14,10 @@ ghost use Rattle.layer_eval.specs.Did.{Did, statement_does, block_does};
 
 use crate::message::make;
 use crate::predicted::Predicted;
-use crate::value::{fields, nth_number, number};
+use crate::value::{fields, fill, nth_number, number};
 use layer_ast::Kind;
 use layer_desk::{Desk, Envelope, NoRoom, Start};
-use msg_core::Header;
+use msg_core::{Fields, Header};
 use slot_pool::Pool;
 use typed_layer::{Block, Content, Emission, MessageExpression, Row, Statement};
 
@@ -303,7 +303,8 @@ fn send_last<K: Start, D: Desk>(
 {
     if let Some(content) = &emission.content {
         if let MessageExpression::Local(slot) = &content.message {
-            let header = header::<K, D>(place, content, desk, pool);
+            let mut header = no_header();
+            write_header::<K, D>(place, content, desk, pool, &mut header);
             return desk.send_local_and_leave::<K>(
                 pool,
                 emission.direction,
@@ -336,7 +337,8 @@ fn send<K: Start, D: Desk>(
     match &emission.content {
         None => desk.send::<K>(pool, emission.direction, envelope),
         Some(content) => {
-            let header = header::<K, D>(place, content, desk, pool);
+            let mut header = no_header();
+            write_header::<K, D>(place, content, desk, pool, &mut header);
             if let MessageExpression::Local(slot) = &content.message {
                 return desk.send_local::<K>(pool, emission.direction, envelope, header, *slot);
             }
@@ -346,16 +348,30 @@ fn send<K: Start, D: Desk>(
     }
 }
 
-/// The header of an emission's message.
+/// A header becomes that of an emission's message, where it lies.
 #[inline(always)]
-pub fn header<K: Start, D: Desk>(place: u8, content: &Content, desk: &D, pool: &Pool) -> Header
+pub fn write_header<K: Start, D: Desk>(
+    place: u8,
+    content: &Content,
+    desk: &D,
+    pool: &Pool,
+    header: &mut Header,
+)
     requires { D.ready K.begun pool.now desk.now }
-    ensures { result ≡ header_of place (content_tree content.now) (D.shown pool.now desk.now).state (D.shown pool.now desk.now).scope }
+    ensures { header.new ≡ header_of place (content_tree content.now) (D.shown pool.now desk.now).state (D.shown pool.now desk.now).scope }
 {
+    header.layer = place;
+    header.tag = content.tag;
+    fill::<K, D>(&content.fields, desk, pool, &mut header.fields);
+}
+
+/// A header that is yet to be written.
+#[inline(always)]
+pub fn no_header() -> Header {
     Header {
-        layer: place,
-        tag: content.tag,
-        fields: fields::<K, D>(&content.fields, desk, pool),
+        layer: 0,
+        tag: 0,
+        fields: Fields::none(),
     }
 }
 

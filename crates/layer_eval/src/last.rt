@@ -8,7 +8,7 @@ ghost use Rattle.layer_eval.specs.Did.{Did, Ended, statement_does, block_does};
 ghost use Rattle.layer_eval.specs.Owed.{sets_number, settled, owing, SpentOwing};
 
 use crate::effect::{emit_last, run_alone};
-use crate::pending::{Pending, finish, put_off, settle};
+use crate::pending::Owed;
 use crate::predicted::Predicted;
 use crate::value::number;
 use layer_desk::{Desk, NoRoom, Start};
@@ -22,7 +22,7 @@ use typed_layer::{Block, Statement};
 pub fn run_last_block<K: Start, D: Desk>(
     place: u8,
     block: &Block,
-    pending: &mut Option<Pending>,
+    pending: &mut Owed,
     desk: &mut D,
     pool: &mut Pool,
     predicted: &mut Predicted,
@@ -35,7 +35,7 @@ pub fn run_last_block<K: Start, D: Desk>(
         (owing pending.old (block_need K.begun.layout (block_tree block.now))) result }
 {
     match block.statements.as_slice() {
-        [] => finish::<K, D>(pending, desk, pool),
+        [] => pending.finish::<K, D>(desk, pool),
         [last] => run_last::<K, D>(place, last, pending, desk, pool, predicted),
         [front @ .., last] => {
             run_front::<K, D>(place, front, pending, desk, pool, predicted)?;
@@ -51,7 +51,7 @@ pub fn run_last_block<K: Start, D: Desk>(
 fn run_last<K: Start, D: Desk>(
     place: u8,
     statement: &Statement,
-    pending: &mut Option<Pending>,
+    pending: &mut Owed,
     desk: &mut D,
     pool: &mut Pool,
     predicted: &mut Predicted,
@@ -65,7 +65,7 @@ fn run_last<K: Start, D: Desk>(
 {
     match statement {
         Statement::Emit(emission) => {
-            settle::<K, D>(pending, desk, pool)?;
+            pending.settle::<K, D>(desk, pool)?;
             emit_last::<K, D>(place, emission, desk, pool)
         }
         Statement::Branch {
@@ -89,7 +89,7 @@ fn run_last<K: Start, D: Desk>(
             block,
             otherwise,
         } => {
-            settle::<K, D>(pending, desk, pool)?;
+            pending.settle::<K, D>(desk, pool)?;
             let index = number::<K, D>(index, desk, pool);
             if desk.take::<K>(pool, *cell, index, taken)? {
                 run_last_block::<K, D>(place, block, pending, desk, pool, predicted)
@@ -107,7 +107,7 @@ fn run_last<K: Start, D: Desk>(
 fn run_end<K: Start, D: Desk>(
     place: u8,
     statement: &Statement,
-    pending: &mut Option<Pending>,
+    pending: &mut Owed,
     desk: &mut D,
     pool: &mut Pool,
     predicted: &mut Predicted,
@@ -120,7 +120,7 @@ fn run_end<K: Start, D: Desk>(
         (owing pending.old (statement_need K.begun.layout (statement_tree statement.now))) result }
 {
     run_owing::<K, D>(place, statement, pending, desk, pool, predicted)?;
-    finish::<K, D>(pending, desk, pool)
+    pending.finish::<K, D>(desk, pool)
 }
 
 /// Runs statements that have others behind them.
@@ -128,7 +128,7 @@ fn run_end<K: Start, D: Desk>(
 fn run_front<K: Start, D: Desk>(
     place: u8,
     statements: &[Statement],
-    pending: &mut Option<Pending>,
+    pending: &mut Owed,
     desk: &mut D,
     pool: &mut Pool,
     predicted: &mut Predicted,
@@ -151,7 +151,7 @@ fn run_front<K: Start, D: Desk>(
 fn run_owing<K: Start, D: Desk>(
     place: u8,
     statement: &Statement,
-    pending: &mut Option<Pending>,
+    pending: &mut Owed,
     desk: &mut D,
     pool: &mut Pool,
     predicted: &mut Predicted,
@@ -166,10 +166,9 @@ fn run_owing<K: Start, D: Desk>(
     if sets_a_number(statement) {
         return run_alone::<K, D>(place, statement, desk, pool, predicted);
     }
-    settle::<K, D>(pending, desk, pool)?;
+    pending.settle::<K, D>(desk, pool)?;
     if let Statement::Emit(emission) = statement {
-        if let Some(owed) = put_off::<K, D>(place, emission, desk, pool) {
-            *pending = Some(owed);
+        if pending.put_off::<K, D>(place, emission, desk, pool) {
             return Ok(());
         }
     }

@@ -1,6 +1,6 @@
 //! One visit: what a layer meets, the handler for it, and what is done without one.
 
-ghost use Rattle.std.specs.Prelude.{◌≡◌, ◌+◌, length, IfOk};
+ghost use Rattle.std.specs.Prelude.{◌≡◌, ◌+◌, [], length, IfOk};
 ghost use Rattle.layer_mean.specs.Visit.{met};
 ghost use Rattle.typed_layer.specs.View.{expected_tree, handler_tree, layer_tree};
 ghost use Rattle.layer_desk.specs.Need.{handler_need, passing_need};
@@ -10,6 +10,7 @@ ghost use Rattle.layer_eval.specs.Did.{as_predicted};
 ghost use Rattle.layer_eval.specs.Visit.{Visits, visited, needed, meets, IsPopped, expected_decisions, handler_visited, passed};
 
 use crate::last::run_last_block;
+use crate::pending::Owed;
 use crate::predicted::Predicted;
 use crate::value::number;
 use layer_ast::Dir;
@@ -69,43 +70,28 @@ fn take_from<K: Start, D: Desk>(
     ensures spent { Spent (D.free pool.old desk.old) (D.free pool.new desk.new)
         (needed K.begun.layout (layer_tree layer.now) direction envelope (D.shown pool.old desk.old)) result }
 {
-    let Popped { tag, fields } = meet::<K, D>(direction, desk, pool);
+    let mut fields = Fields::none();
+    let tag = meet::<K, D>(direction, desk, pool, &mut fields);
     match layer.handlers.find(direction, envelope.kind, tag) {
         Some(handler) => run_handler::<K, D>(place, handler, envelope, &fields, desk, pool),
         None => pass::<K, D>(place, direction, envelope, tag, desk, pool),
     }
 }
 
-/// What a popped header says; the tag is 0 where none was popped.
-#[derive(Drop)]
-struct Popped {
-    tag: u8,
-    fields: Fields,
-}
-
-/// Going up the layer's header is popped.
-fn meet<K: Start, D: Desk>(direction: Dir, desk: &mut D, pool: &Pool) -> Popped
-    requires { D.ready K.begun pool.now desk.old }
+/// Going up the layer's header is popped: says its tag, 0 where none was popped, and its fields.
+fn meet<K: Start, D: Desk>(direction: Dir, desk: &mut D, pool: &Pool, fields: &mut Fields) -> u8
+    requires ready { D.ready K.begun pool.now desk.old }
+    requires none { fields.old ≡ [] }
     ensures ready { D.ready K.begun pool.now desk.new }
-    ensures tag { result.tag ≡ (met direction (D.shown pool.now desk.old).arrived).tag }
-    ensures fields { result.fields ≡ (met direction (D.shown pool.now desk.old).arrived).fields }
-    ensures popped { IsPopped result.tag (met direction (D.shown pool.now desk.old).arrived).message }
+    ensures tag { result ≡ (met direction (D.shown pool.now desk.old).arrived).tag }
+    ensures fields { fields.new ≡ (met direction (D.shown pool.now desk.old).arrived).fields }
+    ensures popped { IsPopped result (met direction (D.shown pool.now desk.old).arrived).message }
     ensures shown { D.shown pool.now desk.new ≡ meets direction (D.shown pool.now desk.old) }
     ensures free { D.free pool.now desk.new ≡ D.free pool.now desk.old }
 {
-    let popped = match direction {
-        Dir::Up => desk.pop_header::<K>(pool),
-        Dir::Down => None,
-    };
-    match popped {
-        Some(header) => Popped {
-            tag: header.tag,
-            fields: header.fields,
-        },
-        None => Popped {
-            tag: 0,
-            fields: Fields::none(),
-        },
+    match direction {
+        Dir::Up => desk.pop_header::<K>(pool, fields),
+        Dir::Down => 0,
     }
 }
 
@@ -128,7 +114,8 @@ fn run_handler<K: Start, D: Desk>(
 {
     desk.enter::<K>(pool, envelope, fields, handler.numbers, handler.messages)?;
     let mut predicted = expect::<K, D>(&handler.expected, desk, pool);
-    run_last_block::<K, D>(place, &handler.block, &mut None, desk, pool, &mut predicted)?;
+    let mut owed = Owed::nothing();
+    run_last_block::<K, D>(place, &handler.block, &mut owed, desk, pool, &mut predicted)?;
     Ok(predicted)
 }
 

@@ -1,7 +1,7 @@
 use Rattle.std.proofs.Common.{◌≡◌, take, map}
 use Rattle.typed_layer.specs.View.{expression_tree}
 use Rattle.layer_eval.specs.Worth.{numbers_of}
-use Rattle.layer_eval.proofs.value.fields.Given as goal
+use Rattle.layer_eval.proofs.value.fill.Given as goal
 
 abbrev pub invariant-loop-expression : goal.invariant-loop-expression
 invariant-loop-expression g l =
