@@ -1,13 +1,16 @@
 -- What entered is the only task.
-use Rattle.std.proofs.Common.{◌≡◌, ◌∙◌, ℕ, List, [], ◌∷◌, ◌++◌, Some, None, refl, sym, ap, subst, arith}
+use Rattle.std.proofs.Common.{◌≡◌, ◌∙◌, ℕ, List, [], ◌∷◌, ◌++◌, length, Some, None, refl, sym, ap, subst, arith}
 use Rattle.circular_buffer.specs.Buffer.{Buffer, buffer}
 use Rattle.slot_pool.specs.Held.{Held}
 use Rattle.slot_pool.specs.References.{Moved}
 use Rattle.slot_pool.proofs.References.{moved-same}
+use Rattle.msg_core.specs.Chain.{Content}
 use Rattle.msg_core.specs.declared.packet.Dest.{Dest}
 use Rattle.msg_core.specs.declared.packet.Dest.TheVariants as dest
 use Rattle.msg_core.specs.declared.packet.Packet.{Packet}
 use Rattle.layer_ast.specs.declared.tokens.Dir.TheVariants as dir
+use Rattle.layer_ast.specs.declared.tokens.Kind.{Kind}
+use Rattle.layer_desk.specs.declared.envelope.Envelope.{Envelope}
 use Rattle.layer_mean.specs.Event.{event_of}
 use Rattle.layer_mean.specs.declared.run.Event.{Event}
 use Rattle.layer_mean.specs.Tree.{LayerTree}
@@ -27,6 +30,13 @@ use Rattle.bypass_member.specs.declared.entry.Entry.{Entry}
 -- the task of what enters
 abbrev pub entering : List LayerTree → Here → Entry → Task Event
 entering stack here entry = member.first_task stack here.rank (entry_meant here entry)
+
+-- the envelope of an event that names a peer; and the task of one of the application's
+abbrev pub of_peer : Kind → ℕ → Envelope
+of_peer kind peer = record { kind = kind; peer = peer; a = 0; b = 0 }
+
+abbrev pub from_top : List LayerTree → Content → Envelope → Task Event
+from_top stack content envelope = carrying_task (record { at = length stack; direction = dir.Down; envelope = envelope }) content
 
 -- behind none it is the only one
 pub only_task : (old new : Buffer PoolTask) (task : PoolTask) → old.items ≡ [] → new ≡ buffer (old.items ++ task ∷ []) old.capacity →
@@ -67,9 +77,10 @@ brings_bare stack me what p old new task none last bare is = brings stack me wha
 
 -- the task of a packet that came is told by its destination
 pub packet_task : (stack : List LayerTree) (me : ℕ) (packet : Packet) →
-    carrying_task 1 dir.Up (kind_of packet.dest) packet.sender 0 0 packet.message ≡ member.first_task stack me (from_peer packet)
+    carrying_task (record { at = 1; direction = dir.Up; envelope = of_peer (kind_of packet.dest) packet.sender }) packet.message
+    ≡ member.first_task stack me (from_peer packet)
 packet_task stack me packet = go packet.dest where
-  go : (d : Dest) → carrying_task 1 dir.Up (kind_of d) packet.sender 0 0 packet.message
+  go : (d : Dest) → carrying_task (record { at = 1; direction = dir.Up; envelope = of_peer (kind_of d) packet.sender }) packet.message
       ≡ record { at = 1; dir = dir.Up; event = event_of (kind_of d) (packet.sender ∷ []) (Some packet.message) }
   go dest.All = refl
   go (dest.Rank r) = refl

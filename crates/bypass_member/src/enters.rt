@@ -3,6 +3,7 @@
 ghost use Rattle.std.specs.Prelude.{◌≡◌, ◌<◌, ◌≤◌, [], ◌∷◌, drop, length};
 ghost use Rattle.circular_buffer.specs.Buffer.{buffer};
 ghost use Rattle.layer_ast.specs.declared.tokens.Dir.TheVariants as dir;
+ghost use Rattle.layer_ast.specs.declared.tokens.Kind.TheVariants as kind;
 ghost use Rattle.packet_mean.specs.Plan as mean;
 ghost use Rattle.event_graph.specs.Answer.{stack_tree};
 ghost use Rattle.msg_core.specs.Parts.{longest_body};
@@ -15,30 +16,34 @@ ghost use Rattle.bypass_member.specs.Judged.{entry_meant, body_of, LiesWithin};
 use crate::entry::Entry;
 use event_graph::Stack;
 use layer_ast::{Dir, Kind};
+use layer_desk::Envelope;
 use msg_core::{Dest, Headers};
 use packet_full::Scan;
 use packet_mean::Here;
 use slot_pool::Pool;
-use stack_queue::Tasks;
+use stack_queue::{BareTask, Tasks};
 
-/// A task that carries a message of these headers and a copy of these bytes, in a pool that isn't full, becomes the last.
-fn carry(
-    at: u16,
-    direction: Dir,
-    kind: Kind,
-    peer: u32,
-    headers: &Headers,
-    body: &[u8],
-    tasks: &mut Tasks,
-    pool: &mut Pool,
-)
+/// A task with a message of these headers and a copy of these bytes, in a pool that isn't full, becomes the last.
+fn carry(task: BareTask, headers: &Headers, body: &[u8], tasks: &mut Tasks, pool: &mut Pool)
     requires fits { length body.now ≤ longest_body }
     requires room { IsFull pool.old → ⊥ }
     requires places { length tasks.old.items < tasks.old.capacity }
-    ensures { PutLast pool.old tasks.old (carrying_task at direction kind peer 0 0 (record { headers = headers.now; body = body.now })) pool.new tasks.new }
+    ensures { PutLast pool.old tasks.old (carrying_task task (record { headers = headers.now; body = body.now })) pool.new tasks.new }
 {
-    if !tasks.push_put(at, direction, kind, peer, 0, 0, headers, body, pool) {
+    if !tasks.push_put(task, headers, body, pool) {
         unreachable!();
+    }
+}
+
+/// The envelope of an event of the application or of a packet.
+fn of_peer(kind: Kind, peer: u32) -> Envelope
+    ensures { result ≡ record { kind = kind; peer = peer; a = 0; b = 0 } }
+{
+    Envelope {
+        kind,
+        peer,
+        a: 0,
+        b: 0,
     }
 }
 
@@ -72,29 +77,48 @@ pub(crate) fn enter(
 {
     match entry {
         Entry::Cast(body) => {
-            enter_above(
-                Kind::Cast,
-                u32::from(here.rank),
-                body,
-                stack,
-                bare,
-                tasks,
-                pool,
-            );
+            let envelope = of_peer(Kind::Cast, u32::from(here.rank));
+            enter_above(envelope, body, stack, bare, tasks, pool);
         }
-        Entry::Send(to, body) => enter_above(Kind::Send, to, body, stack, bare, tasks, pool),
-        Entry::Leave => {
-            tasks.push_bare(u16::from(stack.places()), Dir::Down, Kind::Leave, 0, 0, 0);
+        Entry::Send(to, body) => {
+            enter_above(of_peer(Kind::Send, to), body, stack, bare, tasks, pool);
         }
-        Entry::Tick(moment) => tasks.push_bare(1, Dir::Up, Kind::Timer, 0, moment, 0),
+        Entry::Leave => tasks.push_bare(leaving(stack)),
+        Entry::Tick(moment) => tasks.push_bare(ticking(moment)),
         Entry::Packet(scan, bytes) => enter_packet(scan, bytes, tasks, pool),
+    }
+}
+
+/// The application's leave, at the top.
+fn leaving(stack: &Stack) -> BareTask
+    ensures { result ≡ record { at = length (stack_tree stack.now); direction = dir.Down; envelope = record { kind = kind.Leave; peer = 0; a = 0; b = 0 } } }
+{
+    BareTask {
+        at: u16::from(stack.places()),
+        direction: Dir::Down,
+        envelope: of_peer(Kind::Leave, 0),
+    }
+}
+
+/// A tick of the clock at this moment, at the lowest place.
+fn ticking(moment: u32) -> BareTask
+    ensures { result ≡ record { at = 1; direction = dir.Up; envelope = record { kind = kind.Timer; peer = 0; a = moment; b = 0 } } }
+{
+    BareTask {
+        at: 1,
+        direction: Dir::Up,
+        envelope: Envelope {
+            kind: Kind::Timer,
+            peer: 0,
+            a: moment,
+            b: 0,
+        },
     }
 }
 
 /// A cast or a send of the application becomes the last task, at the top, without a header.
 fn enter_above(
-    kind: Kind,
-    peer: u32,
+    envelope: Envelope,
     body: &[u8],
     stack: &Stack,
     bare: &Headers,
@@ -105,10 +129,15 @@ fn enter_above(
     requires bare { bare.now ≡ [] }
     requires room { IsFull pool.old → ⊥ }
     requires places { length tasks.old.items < tasks.old.capacity }
-    ensures { PutLast pool.old tasks.old (carrying_task (length (stack_tree stack.now)) dir.Down kind peer 0 0 (record { headers = []; body = body.now })) pool.new tasks.new }
+    ensures { PutLast pool.old tasks.old (carrying_task (record { at = length (stack_tree stack.now); direction = dir.Down; envelope = envelope })
+        (record { headers = []; body = body.now })) pool.new tasks.new }
 {
-    let top = u16::from(stack.places());
-    carry(top, Dir::Down, kind, peer, bare, body, tasks, pool);
+    let task = BareTask {
+        at: u16::from(stack.places()),
+        direction: Dir::Down,
+        envelope,
+    };
+    carry(task, bare, body, tasks, pool);
 }
 
 /// A packet that came becomes the last task, at the lowest place.
@@ -117,13 +146,17 @@ fn enter_packet(scan: &Scan, bytes: &[u8], tasks: &mut Tasks, pool: &mut Pool)
     requires fits { length (drop scan.now.body bytes.now) ≤ longest_body }
     requires room { IsFull pool.old → ⊥ }
     requires places { length tasks.old.items < tasks.old.capacity }
-    ensures { PutLast pool.old tasks.old (carrying_task 1 dir.Up (mean.kind_of scan.now.dest) scan.now.sender 0 0 (record { headers = scan.now.headers; body = drop scan.now.body bytes.now })) pool.new tasks.new }
+    ensures { PutLast pool.old tasks.old (carrying_task
+        (record { at = 1; direction = dir.Up; envelope = record { kind = mean.kind_of scan.now.dest; peer = scan.now.sender; a = 0; b = 0 } })
+        (record { headers = scan.now.headers; body = drop scan.now.body bytes.now })) pool.new tasks.new }
 {
+    let task = BareTask {
+        at: 1,
+        direction: Dir::Up,
+        envelope: of_peer(kind_of(scan.dest), u32::from(scan.sender)),
+    };
     carry(
-        1,
-        Dir::Up,
-        kind_of(scan.dest),
-        u32::from(scan.sender),
+        task,
         &scan.headers,
         &bytes[scan.body as usize..],
         tasks,

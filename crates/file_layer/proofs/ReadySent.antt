@@ -18,10 +18,10 @@ use Rattle.pool_message.specs.Piled.{pile_refs}
 use Rattle.pool_message.specs.Seen.{bodiless, refs, seen}
 use Rattle.pool_message.specs.declared.event.PoolEvent.{PoolEvent}
 use Rattle.pool_message.specs.declared.message.PoolMessage.{PoolMessage}
-use Rattle.pool_message.specs.Sent.{sent_refs, sent_behind}
+use Rattle.pool_message.specs.Sent.{sent_refs, sent_behind, pool_event}
 use Rattle.file_layer.specs.Scope.{without_messages}
 use Rattle.file_layer.specs.Sent.{TakesLast}
-use Rattle.file_layer.specs.Stock.{Stock, laid, pool_event}
+use Rattle.file_layer.specs.Stock.{Stock, laid}
 use Rattle.file_layer.specs.Steps.{InPool}
 use Rattle.file_layer.specs.Fits.{IsShort, StockFits, SentGrows}
 use Rattle.file_layer.proofs.Lists.{all-front, seen_at, seen_none}

@@ -14,11 +14,11 @@ use Rattle.layer_desk.specs.Spent.{Begun}
 use Rattle.layer_desk.specs.declared.envelope.Envelope.{Envelope}
 use Rattle.pool_message.specs.Seen.{bodiless, refs, seen, Lies, refs_if, seen_if, LiesIf, event_refs, event_seen, EventLies}
 use Rattle.pool_message.specs.Moves.{Kept, Derived}
-use Rattle.pool_message.specs.Sent.{sent_behind}
+use Rattle.pool_message.specs.Sent.{sent_behind, pool_event}
 use Rattle.pool_message.specs.declared.event.PoolEvent.{PoolEvent}
 use Rattle.pool_message.specs.declared.message.PoolMessage.{PoolMessage}
 use Rattle.pool_message.proofs.Stays.{message_stays}
-use Rattle.file_layer.specs.Stock.{Stock, laid, StockLies, pool_event}
+use Rattle.file_layer.specs.Stock.{Stock, laid, StockLies}
 use Rattle.file_layer.specs.Steps.{InPool, TakesOut}
 use Rattle.file_layer.proofs.Hand.{laid_top}
 use Rattle.file_layer.proofs.Lists.{all-append, all-at, all-front, all-behind, all-set, item_there}

@@ -1,19 +1,12 @@
 -- A desk whose tray becomes another.
-use Rattle.std.proofs.Common.{◌≡◌, ◌≤◌, List, Option, ◌-◌, sym, subst, ◌∙◌}
+use Rattle.std.proofs.Common.{◌≡◌, ◌≤◌, List, ◌-◌, sym, subst, ◌∙◌}
 use Rattle.slot_pool.specs.Held.{Held}
-use Rattle.layer_ast.specs.declared.tokens.Dir.{Dir}
 use Rattle.layer_desk.specs.Spent.{Begun}
-use Rattle.layer_desk.specs.declared.envelope.Envelope.{Envelope}
-use Rattle.pool_message.specs.Tray.{OnTray, also_sent}
-use Rattle.pool_message.specs.declared.message.PoolMessage.{PoolMessage}
+use Rattle.pool_message.specs.Tray.{OnTray}
 use Rattle.file_layer.specs.Steps.{InPool}
 use Rattle.file_layer.specs.Fits.{StockFits, SentGrows}
 use Rattle.file_layer.specs.Ready.{stock_of, layout_of, IsReady}
 use Rattle.file_layer.specs.declared.desk.FileDesk.{FileDesk}
-
--- An event of which all but its message is known is sent behind others.
-abbrev pub with_event : Dir → Envelope → Option PoolMessage → OnTray → OnTray
-with_event dir e message t = also_sent dir e.kind e.peer e.a e.b message t
 
 -- A desk that is in order stays so where its tray has as many places as before, and sends behind what was sent.
 pub tray_ready : (b : Begun) (p q : List Held) (d : FileDesk) (t new : OnTray) → IsReady b p d → new ≡ t → InPool b q (stock_of (record d { tray = t })) →

@@ -10,7 +10,6 @@ use Rattle.pool_message.specs.declared.event.PoolEvent.{PoolEvent}
 use Rattle.pool_message.specs.declared.message.PoolMessage.{PoolMessage}
 use Rattle.pool_message.specs.declared.row.PoolRow.{PoolRow}
 use Rattle.layer_desk.specs.Laid.{Laid}
-use Rattle.layer_desk.specs.declared.envelope.Envelope.{Envelope}
 
 -- The state's cells; the numbers and the messages of the scope; the message that arrived; the messages in hand, the newest last; and
 -- what was sent.
@@ -58,11 +57,3 @@ pub record StockLies (p : List Held) (s : Stock) : Type 0 where
   pub arrived : LiesIf p s.arrived
   pub hand : AllByRecursion (Lies p) s.hand
   pub sent : SentLie p s.sent
-
--- An event of which all but its message is known.
-abbrev pub pool_event : Envelope → Option PoolMessage → PoolEvent
-pool_event e message = record { kind = e.kind; peer = e.peer; a = e.a; b = e.b; message = message }
-
--- And what is known of an event but for its message.
-abbrev pub envelope_of : PoolEvent → Envelope
-envelope_of e = record { kind = e.kind; peer = e.peer; a = e.a; b = e.b }

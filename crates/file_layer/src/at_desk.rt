@@ -201,8 +201,8 @@ impl Desk for FileDesk {
         sends::send_local_and_leave::<K>(self, pool, direction, envelope, header, slot)
     }
 
-    fn pop_header<K: Start>(&mut self, pool: &Pool) -> Option<Header> {
-        sends::pop_header::<K>(self, pool)
+    fn pop_header<K: Start>(&mut self, pool: &Pool, fields: &mut Fields) -> u8 {
+        sends::pop_header::<K>(self, pool, fields)
     }
 
     fn enter<K: Start>(

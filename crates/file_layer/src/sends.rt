@@ -5,7 +5,7 @@ ghost use Rattle.std.specs.List.{AllByRecursion};
 ghost use Rattle.circular_buffer.specs.Buffer.{buffer};
 ghost use Rattle.msg_core.specs.Chain.{plain};
 ghost use Rattle.layer_mean.specs.Effect.{sent_as};
-ghost use Rattle.layer_desk.specs.Laid.{event_in, sends, sends_first, first_header, header_popped, passes_on, left};
+ghost use Rattle.layer_desk.specs.Laid.{event_in, sends, sends_first, first_header, said_tag, said_fields, header_popped, passes_on, left};
 ghost use Rattle.layer_desk.specs.Need.{one_place, headers_of, passing_need};
 ghost use Rattle.layer_desk.specs.Spent.{Spent, SpentAtMost};
 ghost use Rattle.pool_message.specs.Seen.{seen_if, bodiless};
@@ -21,7 +21,7 @@ use crate::desk::{FileDesk, MOST_ABOVE};
 use crate::leaves::{forget_rest, leave};
 use layer_ast::Dir;
 use layer_desk::{Envelope, NoRoom, Start};
-use msg_core::Header;
+use msg_core::{Fields, Header};
 use pool_message::{Messages, Place, PoolMessage, Tray};
 use slot_pool::Pool;
 
@@ -61,13 +61,7 @@ pub(crate) fn send<K: Start>(
     if desk.tray.len() >= desk.places {
         return Err(NoRoom::Place);
     }
-    desk.tray.send_bare(
-        direction,
-        envelope.kind,
-        envelope.peer,
-        envelope.a,
-        envelope.b,
-    );
+    desk.tray.send_bare(direction, envelope);
     Ok(())
 }
 
@@ -90,14 +84,7 @@ pub(crate) fn send_first<K: Start>(
         return Ok(());
     }
     put_last_behind(direction, header, &mut desk.hand);
-    desk.tray.send_last(
-        direction,
-        envelope.kind,
-        envelope.peer,
-        envelope.a,
-        envelope.b,
-        &mut desk.hand,
-    );
+    desk.tray.send_last(direction, envelope, &mut desk.hand);
     Ok(())
 }
 
@@ -116,20 +103,13 @@ fn nothing_behind(direction: Dir, header: Header) -> PoolMessage
 /// Sends an event with a message without bytes, going down behind a header.
 fn send_nothing(tray: &mut Tray, direction: Dir, envelope: Envelope, header: Header)
     requires { length tray.old.sent.items < tray.old.sent.capacity }
-    ensures { tray.new ≡ also_sent direction envelope.kind envelope.peer envelope.a envelope.b (Some (sent_behind direction header (bodiless []))) tray.old }
+    ensures { tray.new ≡ also_sent direction envelope (Some (sent_behind direction header (bodiless []))) tray.old }
 {
     let mut message = nothing_behind(direction, header);
     let mut place = Place::empty();
     place.fill(&mut message);
     message.close();
-    tray.send_from(
-        direction,
-        envelope.kind,
-        envelope.peer,
-        envelope.a,
-        envelope.b,
-        &mut place,
-    );
+    tray.send_from(direction, envelope, &mut place);
     place.close();
 }
 
@@ -175,16 +155,8 @@ pub(crate) fn send_local<K: Start>(
     let place = usize::from(slot);
     match desk.tray.message(place) {
         Some(_message) => {
-            desk.tray.send_message(
-                direction,
-                envelope.kind,
-                envelope.peer,
-                envelope.a,
-                envelope.b,
-                header,
-                place,
-                pool,
-            );
+            desk.tray
+                .send_message(direction, envelope, header, place, pool);
             Ok(())
         }
         None => {
@@ -212,16 +184,8 @@ fn send_last_local<K: Start>(
         (laid pool.old (stock_of desk.old))) }
     ensures spent { SpentAtMost (room_of pool.old desk.old) (room_of pool.new desk.new) one_place }
 {
-    desk.tray.send_and_clear(
-        direction,
-        envelope.kind,
-        envelope.peer,
-        envelope.a,
-        envelope.b,
-        header,
-        usize::from(slot),
-        pool,
-    );
+    desk.tray
+        .send_and_clear(direction, envelope, header, usize::from(slot), pool);
 }
 
 pub(crate) fn send_local_and_leave<K: Start>(
@@ -252,14 +216,16 @@ pub(crate) fn send_local_and_leave<K: Start>(
     Ok(())
 }
 
-pub(crate) fn pop_header<K: Start>(desk: &mut FileDesk, pool: &Pool) -> Option<Header>
-    requires { IsReady K.begun pool.now desk.old }
+pub(crate) fn pop_header<K: Start>(desk: &mut FileDesk, pool: &Pool, fields: &mut Fields) -> u8
+    requires ready { IsReady K.begun pool.now desk.old }
+    requires none { fields.old ≡ [] }
     ensures ready { IsReady K.begun pool.now desk.new }
-    ensures header { result ≡ first_header (laid pool.now (stock_of desk.old)).arrived }
+    ensures tag { result ≡ said_tag (first_header (laid pool.now (stock_of desk.old)).arrived) }
+    ensures fields { fields.new ≡ said_fields (first_header (laid pool.now (stock_of desk.old)).arrived) }
     ensures shown { laid pool.now (stock_of desk.new) ≡ header_popped (laid pool.now (stock_of desk.old)) }
     ensures free { room_of pool.now desk.new ≡ room_of pool.now desk.old }
 {
-    desk.tray.pop_header()
+    desk.tray.pop_header(fields)
 }
 
 /// How many headers the message has that arrived.
@@ -291,12 +257,6 @@ pub(crate) fn pass_on<K: Start>(
         return Err(NoRoom::Headers);
     }
     put_behind(direction, header, &mut desk.tray);
-    desk.tray.send_arrived(
-        direction,
-        envelope.kind,
-        envelope.peer,
-        envelope.a,
-        envelope.b,
-    );
+    desk.tray.send_arrived(direction, envelope);
     Ok(())
 }

@@ -12,9 +12,9 @@ ghost use Rattle.layer_stage.specs.Front.{first_way, first_seen, behind_first};
 ghost use Rattle.layer_stage.specs.Room.{slots_needed, places_needed, headers_met, most_counted, CountsWithin};
 ghost use Rattle.cell_store.specs.Kept.{state_of};
 ghost use Rattle.pool_message.specs.Seen.{row_seen, event_refs, EventLies};
-ghost use Rattle.pool_message.specs.Sent.{sent_refs, sent_seen, SentLie, first_sent, most_events};
+ghost use Rattle.pool_message.specs.Sent.{sent_refs, sent_seen, SentLie, first_sent, most_events, envelope_of};
 ghost use Rattle.file_layer.specs.Rest.{IsAtRest, begins, ends};
-ghost use Rattle.file_layer.specs.Stock.{kept_refs, envelope_of};
+ghost use Rattle.file_layer.specs.Stock.{kept_refs};
 
 use crate::desk::FileDesk;
 use layer_ast::Dir;
@@ -24,37 +24,19 @@ use pool_message::Events;
 use slot_pool::Pool;
 use typed_layer::TypedLayer;
 
-/// The way of the first event, and its kind and numbers.
-fn first_envelope(events: &Events) -> (Dir, Envelope)
-    requires { 0 < length events.now.items }
-    ensures { result ≡ (first_way events.now.items, envelope_of (first_sent events.now.items).1) }
-{
-    match events.first() {
-        Some((direction, event)) => {
-            let envelope = Envelope {
-                kind: event.kind,
-                peer: event.peer,
-                a: event.a,
-                b: event.b,
-            };
-            (direction, envelope)
-        }
-        None => unreachable!(),
-    }
-}
-
-/// Lays the first event on the desk, with its message. What the desk sends comes behind the others.
-fn begin(desk: &mut FileDesk, events: &mut Events)
+/// Lays the first event on the desk, with its message, and says its direction and its envelope. What the desk sends comes behind the others.
+fn begin(desk: &mut FileDesk, events: &mut Events) -> (Dir, Envelope)
     requires some { 0 < length events.old.items }
     requires idle { (desk.old.tray.arrived ≡ None) × (desk.old.tray.messages.items ≡ []) }
     ensures desk { desk.new ≡ begins (first_sent events.old.items).1.message (buffer (behind_first events.old.items) (events.old.capacity - 1)) desk.old }
     ensures events { events.new ≡ buffer desk.old.tray.sent.items (desk.old.tray.sent.capacity + 1) }
     ensures within { length (behind_first events.old.items) ≤ events.old.capacity - 1 }
     ensures few { events.old.capacity - 1 ≤ most_events }
+    ensures first { result ≡ (first_way events.old.items, envelope_of (first_sent events.old.items).1) }
 {
     desk.first = events.len() - 1;
     desk.places = events.places() - 1;
-    desk.tray.begin(events);
+    desk.tray.begin(events)
 }
 
 /// Takes what was sent off the desk.
@@ -103,8 +85,7 @@ pub(crate) fn visit(
     ensures rest { IsAtRest (layer_tree layer.now) pool.new desk.new }
     ensures out { SentLie pool.new events.new.items }
 {
-    let (direction, envelope) = first_envelope(events);
-    begin(desk, events);
+    let (direction, envelope) = begin(desk, events);
     let predicted = take_event(place, layer, direction, envelope, desk, pool);
     end(desk, events);
     predicted

@@ -1,6 +1,7 @@
 -- Events come into slots, change there, and go.
 use Rattle.std.proofs.Common.{◌≡◌, ℕ, zero, suc, ◌+◌, ◌-◌, ◌<◌, ◌≤◌, ◌⊎◌, inl, inr, List, [], ◌∷◌, ◌++◌, set, get_or, drop, slice_get, slice_index_or, length, refl, sym, ap, ◌∙◌, subst, arith}
-use Rattle.std.specs.Prelude.{None, Some}
+use Rattle.std.specs.Prelude.{◌==◌, ◌≢◌, None, Some, true, false}
+use Rattle.std.proofs.lemmas.Bool.{eqb-true, eqb-false}
 use Rattle.std.specs.List.{AllByRecursion}
 use Rattle.std.proofs.lemmas.List.{get_or-set_same, get_or-set_other, length-set, length-append, map-append}
 use Rattle.circular_buffer.specs.Buffer.{last_item}
@@ -8,7 +9,7 @@ use Rattle.slot_pool.specs.Times.{hit, times}
 use Rattle.slot_pool.proofs.Times.{hit_or_not, hit_same, times-append}
 use Rattle.layer_ast.specs.declared.tokens.Dir.{Dir}
 use Rattle.pool_message.specs.Sent.{first_sent}
-use Rattle.pool_message.specs.Slots.{slot_at, standing, AreParted}
+use Rattle.pool_message.specs.Slots.{slot_at, standing, first_number, AreParted, IsFirst}
 use Rattle.pool_message.specs.declared.event.PoolEvent.{PoolEvent}
 
 -- a slot is changed, and others stay
@@ -198,6 +199,33 @@ front_of : (order : List ℕ) (k : ℕ) → slice_get order 0 ≡ Some k → ord
 front_of [] k at = absurd (cc)
 front_of (i ∷ order) k at = let same : i ≡ k = cc in λ j. same j ∷ order
 
+pub front_at : (xs olds : List (Dir × PoolEvent)) (order : List ℕ) (first : ℕ) → IsFirst first order → standing xs order ≡ olds → 0 < length olds → slice_get order 0 ≡ Some first
+front_at xs olds [] first is stands some = absurd (omega (arith, some, ap length stands))
+front_at xs olds (k ∷ order) first is stands some = ap Some (sym (is (omega arith)))
+
+pub number_of : (order : List ℕ) (k : ℕ) → slice_get order 0 ≡ Some k → k ≡ first_number order
+number_of [] k at = absurd (cc)
+number_of (i ∷ order) k at = cc
+
+pub number_of_none : (order : List ℕ) → slice_get order 0 ≡ None → 0 ≡ first_number order
+number_of_none [] at = refl
+number_of_none (i ∷ order) at = absurd (cc)
+
+-- a number more behind some, of which there is none, or is one
+pub first_alone : (order : List ℕ) (k : ℕ) → length order ≡ 0 → IsFirst k (order ++ k ∷ [])
+first_alone [] k none = λ some. refl
+first_alone (i ∷ order) k none = absurd (omega (arith, none))
+
+pub first_before : (order : List ℕ) (first k : ℕ) → 0 < length order → IsFirst first order → IsFirst first (order ++ k ∷ [])
+first_before [] first k some is = absurd (omega (arith, some))
+first_before (i ∷ order) first k some is = λ more. is some
+
+pub is_none : (order : List ℕ) → true ≡ (length order == 0) → length order ≡ 0
+is_none order none = eqb-true (length order) 0 (sym none)
+
+pub is_some : (order : List ℕ) → false ≡ (length order == 0) → 0 < length order
+is_some order some = let not : length order ≢ 0 = eqb-false (length order) 0 (sym some) in omega (arith, not)
+
 -- what an index gives
 pub value_at : (xs : List (Dir × PoolEvent)) (k : ℕ) (x : Dir × PoolEvent) → k < length xs → x ≡ slice_index_or xs k x → x ≡ slot_at xs k
 value_at [] k x lt is = absurd (omega (arith, lt))
@@ -218,9 +246,9 @@ got_at xs [] i k at = absurd (cc)
 got_at xs (n ∷ order) zero k at = let same : n ≡ k = cc in ap (λ m. Some (slot_at xs m)) same
 got_at xs (n ∷ order) (suc i) k at = got_at xs order i k at
 
-pub none_first : (xs : List (Dir × PoolEvent)) (order : List ℕ) → slice_get order 0 ≡ None → slice_get (standing xs order) 0 ≡ None
-none_first xs [] at = refl
-none_first xs (n ∷ order) at = absurd (cc)
+pub none_first : (xs : List (Dir × PoolEvent)) (order : List ℕ) → length order ≡ 0 → slice_get (standing xs order) 0 ≡ None
+none_first xs [] none = refl
+none_first xs (n ∷ order) none = absurd (omega (arith, none))
 
 pub none_behind : (xs : List (Dir × PoolEvent)) (order : List ℕ) (i : ℕ) → slice_get order i ≡ None → length (standing xs order) ≤ i
 none_behind xs [] i at = omega arith

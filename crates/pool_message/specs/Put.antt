@@ -1,23 +1,24 @@
 -- An event with a message that is put behind others.
-use Rattle.std.specs.Prelude.{◌≡◌, ℕ, Bool, true, false, List, [], ◌∷◌, ◌++◌, Some}
+use Rattle.std.specs.Prelude.{◌≡◌, Bool, true, false, List, [], ◌∷◌, ◌++◌, Some}
 use Rattle.circular_buffer.specs.Buffer.{Buffer, buffer}
 use Rattle.slot_pool.specs.Held.{Held, IsFull}
 use Rattle.msg_core.specs.Chain.{Content}
 use Rattle.layer_ast.specs.declared.tokens.Dir.{Dir}
-use Rattle.layer_ast.specs.declared.tokens.Kind.{Kind}
+use Rattle.layer_desk.specs.declared.envelope.Envelope.{Envelope}
 use Rattle.pool_message.specs.Moves.{Made}
+use Rattle.pool_message.specs.Sent.{pool_event}
 use Rattle.pool_message.specs.declared.event.PoolEvent.{PoolEvent}
 use Rattle.pool_message.specs.declared.message.PoolMessage.{PoolMessage}
 
 -- In a pool that wasn't full a message was made that shows this, and an event with it is the last.
-pub record PutLast (p : List Held) (old : Buffer (Dir × PoolEvent)) (dir : Dir) (kind : Kind) (peer a b : ℕ) (content : Content) (q : List Held)
+pub record PutLast (p : List Held) (old : Buffer (Dir × PoolEvent)) (dir : Dir) (envelope : Envelope) (content : Content) (q : List Held)
     (new : Buffer (Dir × PoolEvent)) : Type 0 where
   pub message : PoolMessage
   pub made : Made p q [] content message
-  pub last : new ≡ buffer (old.items ++ (dir, record { kind = kind; peer = peer; a = a; b = b; message = Some message }) ∷ []) old.capacity
+  pub last : new ≡ buffer (old.items ++ (dir, pool_event envelope (Some message)) ∷ []) old.capacity
   pub room : IsFull p → ⊥
 
 -- Such an event was put; or the pool is full, and nothing has changed.
-abbrev pub Puts : List Held → Buffer (Dir × PoolEvent) → Dir → Kind → (peer a b : ℕ) → Content → List Held → Buffer (Dir × PoolEvent) → Bool → Type 0
-Puts p old dir kind peer a b content q new true = PutLast p old dir kind peer a b content q new
-Puts p old dir kind peer a b content q new false = IsFull p × (q ≡ p) × (new ≡ old)
+abbrev pub Puts : List Held → Buffer (Dir × PoolEvent) → Dir → Envelope → Content → List Held → Buffer (Dir × PoolEvent) → Bool → Type 0
+Puts p old dir envelope content q new true = PutLast p old dir envelope content q new
+Puts p old dir envelope content q new false = IsFull p × (q ≡ p) × (new ≡ old)

@@ -8,6 +8,7 @@ use Rattle.msg_core.specs.declared.message.Header.{Header}
 use Rattle.layer_ast.specs.declared.tokens.Dir.{Dir}
 use Rattle.layer_ast.specs.declared.tokens.Dir.TheVariants.{Up, Down}
 use Rattle.layer_ast.specs.declared.tokens.Kind.TheVariants as kind
+use Rattle.layer_desk.specs.declared.envelope.Envelope.{Envelope}
 use Rattle.layer_mean.specs.declared.run.Event.{Event}
 use Rattle.pool_message.specs.Seen.{event_refs, event_seen, EventLies}
 use Rattle.pool_message.specs.declared.event.PoolEvent.{PoolEvent}
@@ -52,6 +53,13 @@ sent_behind Down header m = with_header header m
 abbrev pub message_passed : Dir → Header → PoolMessage → PoolMessage
 message_passed Up header m = without_first m
 message_passed Down header m = with_header header m
+
+-- An event of which all but its message is known, with a message, if it has one; and what is known of an event then.
+abbrev pub pool_event : Envelope → Option PoolMessage → PoolEvent
+pool_event e message = record { kind = e.kind; peer = e.peer; a = e.a; b = e.b; message = message }
+
+abbrev pub envelope_of : PoolEvent → Envelope
+envelope_of e = record { kind = e.kind; peer = e.peer; a = e.a; b = e.b }
 
 -- An event without its message.
 abbrev pub bared : Dir × PoolEvent → Dir × PoolEvent

@@ -1,5 +1,5 @@
 -- Slots in which events stand, in an order that is kept beside them.
-use Rattle.std.specs.Prelude.{◌≡◌, ℕ, ◌+◌, ◌<◌, ◌≤◌, List, [], map, length, get_or, None}
+use Rattle.std.specs.Prelude.{◌≡◌, ℕ, ◌+◌, ◌<◌, ◌≤◌, List, [], ◌∷◌, map, length, get_or, None}
 use Rattle.slot_pool.specs.Times.{times}
 use Rattle.layer_ast.specs.declared.tokens.Dir.{Dir}
 use Rattle.pool_message.specs.Sent.{first_sent}
@@ -11,6 +11,14 @@ slot_at slots k = get_or slots k (first_sent [])
 
 abbrev pub standing : List (Dir × PoolEvent) → List ℕ → List (Dir × PoolEvent)
 standing slots order = map (slot_at slots) order
+
+-- The first number of some; 0 where there is none. Where there is one, it is this.
+abbrev pub first_number : List ℕ → ℕ
+first_number [] = 0
+first_number (k ∷ ks) = k
+
+abbrev pub IsFirst : ℕ → List ℕ → Type 0
+IsFirst first order = 0 < length order → first ≡ first_number order
 
 -- Each slot's number stands once, in the order or among those that are free; in a free one there is no message.
 pub record AreParted (slots : List (Dir × PoolEvent)) (order free : List ℕ) : Type 0 where

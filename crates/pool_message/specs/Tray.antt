@@ -2,8 +2,8 @@
 use Rattle.std.specs.Prelude.{◌≡◌, ℕ, ◌<◌, true, List, [], ◌∷◌, ◌++◌, drop, length, slice_index_or, Option, None, option_to_list, is_some}
 use Rattle.circular_buffer.specs.Buffer.{Buffer, buffer}
 use Rattle.layer_ast.specs.declared.tokens.Dir.{Dir}
-use Rattle.layer_ast.specs.declared.tokens.Kind.{Kind}
-use Rattle.pool_message.specs.Sent.{first_sent}
+use Rattle.layer_desk.specs.declared.envelope.Envelope.{Envelope}
+use Rattle.pool_message.specs.Sent.{first_sent, pool_event}
 use Rattle.pool_message.specs.Seen.{bodiless}
 use Rattle.pool_message.specs.declared.event.PoolEvent.{PoolEvent}
 use Rattle.pool_message.specs.declared.message.PoolMessage.{PoolMessage}
@@ -48,10 +48,10 @@ HasSpare Gone ms = Unit {0}
 HasSpare Arrived ms = Unit {0}
 HasSpare Bound ms = length ms.items < ms.capacity
 
--- An event of this kind, with these numbers and this message, is sent behind others.
-abbrev pub also_sent : Dir → Kind → ℕ → ℕ → ℕ → Option PoolMessage → OnTray → OnTray
-also_sent dir kind peer a b message t = record t {
-  sent = buffer (t.sent.items ++ (dir, record { kind = kind; peer = peer; a = a; b = b; message = message }) ∷ []) t.sent.capacity;
+-- An event with this envelope and this message is sent behind others.
+abbrev pub also_sent : Dir → Envelope → Option PoolMessage → OnTray → OnTray
+also_sent dir envelope message t = record t {
+  sent = buffer (t.sent.items ++ (dir, pool_event envelope message) ∷ []) t.sent.capacity;
 }
 
 -- The message number k of some, and of the scope.

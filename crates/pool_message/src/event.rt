@@ -2,6 +2,7 @@
 
 use crate::place::Place;
 use layer_ast::Kind;
+use layer_desk::Envelope;
 
 /// What travels between adjacent layers. Numbers that its kind doesn't have are 0, and a Cast and a Send alone carry a message.
 pub struct PoolEvent {
@@ -15,6 +16,43 @@ pub struct PoolEvent {
 
 impl PoolEvent {
     ghost use Rattle.std.specs.Prelude.{◌≡◌, None};
+    ghost use Rattle.pool_message.specs.Sent.{envelope_of, pool_event};
+
+    /// The event of this envelope that carries what lies in a place.
+    pub(crate) fn of(envelope: Envelope, message: Place) -> PoolEvent
+        ensures { result ≡ pool_event envelope message }
+    {
+        let Envelope { kind, peer, a, b } = envelope;
+        PoolEvent {
+            kind,
+            peer,
+            a,
+            b,
+            message,
+        }
+    }
+
+    /// All but its message.
+    pub fn envelope(&self) -> Envelope
+        ensures { result ≡ envelope_of self.now }
+    {
+        Envelope {
+            kind: self.kind,
+            peer: self.peer,
+            a: self.a,
+            b: self.b,
+        }
+    }
+
+    /// Gets another envelope, and keeps its message, if it has one.
+    pub(crate) fn become_of(&mut self, envelope: Envelope)
+        ensures { self.new ≡ pool_event envelope self.old.message }
+    {
+        self.kind = envelope.kind;
+        self.peer = envelope.peer;
+        self.a = envelope.a;
+        self.b = envelope.b;
+    }
 
     /// Ends an event without a message.
     pub(crate) fn close(self)

@@ -8,15 +8,16 @@ ghost use Rattle.pool_message.specs.Moves.{CanKeep, Kept, Returned};
 ghost use Rattle.pool_message.specs.Piled.{without_last};
 ghost use Rattle.pool_message.specs.Put.{Puts};
 ghost use Rattle.pool_message.specs.Seen.{refs, event_refs};
-ghost use Rattle.pool_message.specs.Sent.{sent_refs, most_events, first_sent, sent_behind, message_passed, CanPass};
+ghost use Rattle.pool_message.specs.Sent.{sent_refs, most_events, first_sent, sent_behind, message_passed, pool_event, CanPass};
 
 use crate::event::PoolEvent;
 use crate::list::List;
 use crate::message::PoolMessage;
 use crate::messages::Messages;
 use crate::place::Place;
-use layer_ast::{Dir, Kind};
-use msg_core::{Header, Headers};
+use layer_ast::Dir;
+use layer_desk::Envelope;
+use msg_core::{Fields, Header, Headers};
 use slot_pool::{Memory, Pool};
 use std::alloc::Global;
 use std::marker::Model;
@@ -99,79 +100,57 @@ impl Events {
         self.list.go_round();
     }
 
-    /// Puts an event of this kind, with these numbers and with what lies in a place, behind the others. The place is empty then.
-    pub fn push_from(
-        &mut self,
-        direction: Dir,
-        kind: Kind,
-        peer: u32,
-        a: u32,
-        b: u32,
-        message: &mut Place,
-    )
+    /// Puts an event with this envelope and with what lies in a place, behind the others. The place is empty then.
+    pub fn push_from(&mut self, direction: Dir, envelope: Envelope, message: &mut Place)
         requires { length self.old.items < self.old.capacity }
-        ensures pushed { self.new ≡ buffer (self.old.items ++ (direction, record { kind = kind; peer = peer; a = a; b = b; message = message.old }) ∷ []) self.old.capacity }
+        ensures pushed { self.new ≡ buffer (self.old.items ++ (direction, pool_event envelope message.old) ∷ []) self.old.capacity }
         ensures left { message.new ≡ None }
     {
-        self.list.push_from(direction, kind, peer, a, b, message);
+        self.list.push_from(direction, envelope, message);
     }
 
-    /// Puts an event of this kind, with these numbers and without a message, behind the others.
-    pub fn push_bare(&mut self, direction: Dir, kind: Kind, peer: u32, a: u32, b: u32)
+    /// Puts an event with this envelope and without a message, behind the others.
+    pub fn push_bare(&mut self, direction: Dir, envelope: Envelope)
         requires { length self.old.items < self.old.capacity }
-        ensures { self.new ≡ buffer (self.old.items ++ (direction, record { kind = kind; peer = peer; a = a; b = b; message = None }) ∷ []) self.old.capacity }
+        ensures { self.new ≡ buffer (self.old.items ++ (direction, pool_event envelope None) ∷ []) self.old.capacity }
     {
-        self.list.push_bare(direction, kind, peer, a, b);
+        self.list.push_bare(direction, envelope);
     }
 
-    /// Puts an event of this kind, with these numbers and with the last of some messages, if there is one, behind the others. That message is
+    /// Puts an event with this envelope and with the last of some messages, if there is one, behind the others. That message is
     /// taken out.
-    pub fn push_last(
-        &mut self,
-        direction: Dir,
-        kind: Kind,
-        peer: u32,
-        a: u32,
-        b: u32,
-        messages: &mut Messages,
-    )
+    pub fn push_last(&mut self, direction: Dir, envelope: Envelope, messages: &mut Messages)
         requires { length self.old.items < self.old.capacity }
-        ensures pushed { self.new ≡ buffer (self.old.items ++ (direction, record { kind = kind; peer = peer; a = a; b = b; message = last_item messages.old.items }) ∷ []) self.old.capacity }
+        ensures pushed { self.new ≡ buffer (self.old.items ++ (direction, pool_event envelope (last_item messages.old.items)) ∷ []) self.old.capacity }
         ensures rest { messages.new ≡ buffer (without_last messages.old.items) messages.old.capacity }
     {
-        self.list.push_last(direction, kind, peer, a, b, messages);
+        self.list.push_last(direction, envelope, messages);
     }
 
-    /// Puts an event of this kind, with these numbers and with a message of these headers and a copy of these bytes, behind the others: the
+    /// Puts an event with this envelope and with a message of these headers and a copy of these bytes, behind the others: the
     /// bytes in a slot that was unused, and the headers where the event stands. False where the pool is full, and then nothing has changed.
     pub fn push_put(
         &mut self,
         direction: Dir,
-        kind: Kind,
-        peer: u32,
-        a: u32,
-        b: u32,
+        envelope: Envelope,
         headers: &Headers,
         bytes: &[u8],
         pool: &mut Pool,
     ) -> bool
         requires room { length self.old.items < self.old.capacity }
         requires fits { length bytes.now ≤ longest_body }
-        ensures { Puts pool.old self.old direction kind peer a b (record { headers = headers.now; body = bytes.now }) pool.new self.new result }
+        ensures { Puts pool.old self.old direction envelope (record { headers = headers.now; body = bytes.now }) pool.new self.new result }
     {
         self.list
-            .push_put(direction, kind, peer, a, b, headers, bytes, pool)
+            .push_put(direction, envelope, headers, bytes, pool)
     }
 
-    /// Puts an event of this kind, with these numbers and with a message once more, which goes down behind this header, behind the others. The
+    /// Puts an event with this envelope and with a message once more, which goes down behind this header, behind the others. The
     /// two share the message's bytes, to which there is one more reference.
     pub fn push_kept(
         &mut self,
         direction: Dir,
-        kind: Kind,
-        peer: u32,
-        a: u32,
-        b: u32,
+        envelope: Envelope,
         header: Header,
         message: &PoolMessage,
         pool: &mut Pool,
@@ -180,11 +159,11 @@ impl Events {
         requires room { CanPass direction (Some message.now) }
         requires there { Covers pool.old (refs message.now) }
         requires keeps { CanKeep pool.old (refs message.now) }
-        ensures pushed { self.new ≡ buffer (self.old.items ++ (direction, record { kind = kind; peer = peer; a = a; b = b; message = Some (sent_behind direction header message.now) }) ∷ []) self.old.capacity }
+        ensures pushed { self.new ≡ buffer (self.old.items ++ (direction, pool_event envelope (Some (sent_behind direction header message.now))) ∷ []) self.old.capacity }
         ensures kept { Kept pool.old pool.new (refs message.now) }
     {
         self.list
-            .push_kept(direction, kind, peer, a, b, header, message, pool);
+            .push_kept(direction, envelope, header, message, pool);
     }
 
     /// The first one becomes the last of others.
@@ -249,7 +228,7 @@ pub fn pass_message(direction: Dir, header: Header, message: &mut Place)
 {
     match direction {
         Dir::Up => {
-            let _popped = message.pop_header();
+            let _tag = message.pop_header(&mut Fields::none());
         }
         Dir::Down => message.push_header(header),
     }

@@ -8,7 +8,8 @@ ghost use Rattle.pool_message.specs.Moves.{CanKeep, Kept, Returned};
 ghost use Rattle.pool_message.specs.Piled.{without_last};
 ghost use Rattle.pool_message.specs.Put.{Puts};
 ghost use Rattle.pool_message.specs.Seen.{refs, event_refs};
-ghost use Rattle.pool_message.specs.Sent.{sent_refs, most_events, first_sent, sent_behind, bared, CanPass};
+ghost use Rattle.pool_message.specs.Sent.{sent_refs, most_events, first_sent, sent_behind, bared, pool_event, CanPass};
+ghost use Rattle.pool_message.specs.Slots.{first_number};
 
 use crate::event::PoolEvent;
 use crate::message::PoolMessage;
@@ -16,7 +17,8 @@ use crate::messages::Messages;
 use crate::part::Part;
 use crate::place::Place;
 use circular_buffer::HeapCircularBuffer;
-use layer_ast::{Dir, Kind};
+use layer_ast::Dir;
+use layer_desk::Envelope;
 use msg_core::{Header, Headers};
 use slot_pool::{Memory, Pool};
 use std::alloc::Global;
@@ -31,6 +33,8 @@ pub(crate) struct List {
     order: HeapCircularBuffer<u32>,
     /// The numbers of the others.
     free: Vec<u32>,
+    /// The number of the slot of the first event, if there is one: it is looked up far more often than it changes.
+    first: u32,
 }
 
 impl Model for List {
@@ -38,7 +42,7 @@ impl Model for List {
     ghost use Rattle.circular_buffer.specs.Buffer.{Buffer, buffer};
     ghost use Rattle.layer_ast.specs.declared.tokens.Dir.{Dir};
     ghost use Rattle.pool_message.specs.Sent.{most_events};
-    ghost use Rattle.pool_message.specs.Slots.{standing, AreParted};
+    ghost use Rattle.pool_message.specs.Slots.{standing, AreParted, IsFirst};
     ghost use Rattle.pool_message.specs.declared.event.PoolEvent.{PoolEvent};
 
     ghost Value = { Buffer (Dir × PoolEvent) };
@@ -46,7 +50,7 @@ impl Model for List {
     ghost view = { λ e. buffer (standing e.slots.items e.order.items) e.order.capacity };
 
     ghost invariant = { λ e. AreParted e.slots.items e.order.items e.free.items × (e.order.capacity ≤ most_events)
-        × (e.order.capacity ≤ vec_capacity e.slots) × (e.order.capacity ≤ vec_capacity e.free) × (length e.slots.items ≤ e.order.capacity) };
+        × (e.order.capacity ≤ vec_capacity e.slots) × (e.order.capacity ≤ vec_capacity e.free) × (length e.slots.items ≤ e.order.capacity) × IsFirst e.first e.order.items };
 }
 
 impl List {
@@ -61,7 +65,12 @@ impl List {
         let order = HeapCircularBuffer::with_capacity(alloc, places)?;
         let free = Vec::with_capacity(alloc, places)?;
         let slots = Vec::with_capacity(alloc, places)?;
-        Ok(List { slots, order, free })
+        Ok(List {
+            slots,
+            order,
+            free,
+            first: 0,
+        })
     }
 
     /// How many there are.
@@ -84,13 +93,11 @@ impl List {
     pub fn first(&self) -> Option<(Dir, &PoolEvent)>
         ensures { option_map (λ e. (e.0, e.1.now)) result ≡ slice_get self.now.items 0 }
     {
-        match self.order.front() {
-            Some(k) => {
-                let sent = &self.slots[*k as usize];
-                Some((sent.0, &sent.1))
-            }
-            None => None,
+        if self.order.is_empty() {
+            return None;
         }
+        let sent = &self.slots[self.first as usize];
+        Some((sent.0, &sent.1))
     }
 
     /// The first one, to be changed where it lies.
@@ -99,10 +106,7 @@ impl List {
         ensures* writes_back { sem 𝓛 (lends_listed self.entry result) }
         ensures value { result.now ≡ first_sent self.old.items }
     {
-        let Some(k) = self.order.front().copied() else {
-            unreachable!();
-        };
-        &mut self.slots[k as usize]
+        &mut self.slots[self.first as usize]
     }
 
     /// The first one becomes the last.
@@ -120,97 +124,76 @@ impl List {
             Ok(()) => {}
             Err(_k) => unreachable!(),
         }
+        self.first = first_of(&self.order);
     }
 
-    /// Puts an event of this kind, with these numbers and with what lies in a place, behind the others. The place is empty then.
-    pub fn push_from(
-        &mut self,
-        direction: Dir,
-        kind: Kind,
-        peer: u32,
-        a: u32,
-        b: u32,
-        message: &mut Place,
-    )
+    /// Puts an event with this envelope and with what lies in a place, behind the others. The place is empty then.
+    pub fn push_from(&mut self, direction: Dir, envelope: Envelope, message: &mut Place)
         requires { length self.old.items < self.old.capacity }
-        ensures pushed { self.new ≡ buffer (self.old.items ++ (direction, record { kind = kind; peer = peer; a = a; b = b; message = message.old }) ∷ []) self.old.capacity }
+        ensures pushed { self.new ≡ buffer (self.old.items ++ (direction, pool_event envelope message.old) ∷ []) self.old.capacity }
         ensures left { message.new ≡ None }
     {
-        self.push_bare(direction, kind, peer, a, b);
+        self.push_bare(direction, envelope);
         let Some(k) = self.order.back() else {
             unreachable!();
         };
         fill_from(&mut self.slots[*k as usize], message);
     }
 
-    /// Puts an event of this kind, with these numbers and without a message, behind the others.
-    pub fn push_bare(&mut self, direction: Dir, kind: Kind, peer: u32, a: u32, b: u32)
+    /// Puts an event with this envelope and without a message, behind the others.
+    pub fn push_bare(&mut self, direction: Dir, envelope: Envelope)
         requires { length self.old.items < self.old.capacity }
-        ensures { self.new ≡ buffer (self.old.items ++ (direction, record { kind = kind; peer = peer; a = a; b = b; message = None }) ∷ []) self.old.capacity }
+        ensures { self.new ≡ buffer (self.old.items ++ (direction, pool_event envelope None) ∷ []) self.old.capacity }
     {
         let k = match self.free.pop() {
             Some(k) => {
-                begin_event(&mut self.slots[k as usize], direction, kind, peer, a, b);
+                begin_event(&mut self.slots[k as usize], direction, envelope);
                 k
             }
             None => {
                 let k = self.slots.len() as u32;
                 let message = Place::empty();
-                let event = PoolEvent {
-                    kind,
-                    peer,
-                    a,
-                    b,
-                    message,
-                };
+                let event = PoolEvent::of(envelope, message);
                 self.slots.push_reserved((direction, event));
                 k
             }
         };
+        if self.order.is_empty() {
+            self.first = k;
+        }
         match self.order.try_push_back(k) {
             Ok(()) => {}
             Err(_k) => unreachable!(),
         }
     }
 
-    /// Puts an event of this kind, with these numbers and with the last of some messages, if there is one, behind the others. That message is
+    /// Puts an event with this envelope and with the last of some messages, if there is one, behind the others. That message is
     /// taken out.
-    pub fn push_last(
-        &mut self,
-        direction: Dir,
-        kind: Kind,
-        peer: u32,
-        a: u32,
-        b: u32,
-        messages: &mut Messages,
-    )
+    pub fn push_last(&mut self, direction: Dir, envelope: Envelope, messages: &mut Messages)
         requires { length self.old.items < self.old.capacity }
-        ensures pushed { self.new ≡ buffer (self.old.items ++ (direction, record { kind = kind; peer = peer; a = a; b = b; message = last_item messages.old.items }) ∷ []) self.old.capacity }
+        ensures pushed { self.new ≡ buffer (self.old.items ++ (direction, pool_event envelope (last_item messages.old.items)) ∷ []) self.old.capacity }
         ensures rest { messages.new ≡ buffer (without_last messages.old.items) messages.old.capacity }
     {
-        self.push_bare(direction, kind, peer, a, b);
+        self.push_bare(direction, envelope);
         let Some(k) = self.order.back() else {
             unreachable!();
         };
         fill_last(&mut self.slots[*k as usize], messages);
     }
 
-    /// Puts an event of this kind, with these numbers and with a message of these headers and a copy of these bytes, behind the others: the
+    /// Puts an event with this envelope and with a message of these headers and a copy of these bytes, behind the others: the
     /// bytes in a slot that was unused, and the headers where the event stands. False where the pool is full, and then nothing has changed.
     pub fn push_put(
         &mut self,
         direction: Dir,
-        kind: Kind,
-        peer: u32,
-        a: u32,
-        b: u32,
+        envelope: Envelope,
         headers: &Headers,
         bytes: &[u8],
         pool: &mut Pool,
     ) -> bool
         requires room { length self.old.items < self.old.capacity }
         requires fits { length bytes.now ≤ longest_body }
-        ensures { Puts pool.old self.old direction kind peer a b (record { headers = headers.now; body = bytes.now }) pool.new self.new result }
+        ensures { Puts pool.old self.old direction envelope (record { headers = headers.now; body = bytes.now }) pool.new self.new result }
     {
         let Some(slot) = pool.put(bytes) else {
             return false
@@ -220,40 +203,28 @@ impl List {
             from: 0,
             len: bytes.len() as u32,
         };
-        self.push_made(direction, kind, peer, a, b, headers, part);
+        self.push_made(direction, envelope, headers, part);
         true
     }
 
-    /// Puts an event of this kind, with these numbers and with a message of these headers before this body, behind the others.
-    fn push_made(
-        &mut self,
-        direction: Dir,
-        kind: Kind,
-        peer: u32,
-        a: u32,
-        b: u32,
-        headers: &Headers,
-        body: Part,
-    )
+    /// Puts an event with this envelope and with a message of these headers before this body, behind the others.
+    fn push_made(&mut self, direction: Dir, envelope: Envelope, headers: &Headers, body: Part)
         requires { length self.old.items < self.old.capacity }
-        ensures { self.new ≡ buffer (self.old.items ++ (direction, record { kind = kind; peer = peer; a = a; b = b; message = Some (record { headers = headers.now; body = Some body }) }) ∷ []) self.old.capacity }
+        ensures { self.new ≡ buffer (self.old.items ++ (direction, pool_event envelope (Some (record { headers = headers.now; body = Some body }))) ∷ []) self.old.capacity }
     {
-        self.push_bare(direction, kind, peer, a, b);
+        self.push_bare(direction, envelope);
         let Some(k) = self.order.back() else {
             unreachable!();
         };
         fill_made(&mut self.slots[*k as usize], headers, body);
     }
 
-    /// Puts an event of this kind, with these numbers and with a message once more, which goes down behind this header, behind the others. The
+    /// Puts an event with this envelope and with a message once more, which goes down behind this header, behind the others. The
     /// two share the message's bytes, to which there is one more reference.
     pub fn push_kept(
         &mut self,
         direction: Dir,
-        kind: Kind,
-        peer: u32,
-        a: u32,
-        b: u32,
+        envelope: Envelope,
         header: Header,
         message: &PoolMessage,
         pool: &mut Pool,
@@ -262,10 +233,10 @@ impl List {
         requires room { CanPass direction (Some message.now) }
         requires there { Covers pool.old (refs message.now) }
         requires keeps { CanKeep pool.old (refs message.now) }
-        ensures pushed { self.new ≡ buffer (self.old.items ++ (direction, record { kind = kind; peer = peer; a = a; b = b; message = Some (sent_behind direction header message.now) }) ∷ []) self.old.capacity }
+        ensures pushed { self.new ≡ buffer (self.old.items ++ (direction, pool_event envelope (Some (sent_behind direction header message.now))) ∷ []) self.old.capacity }
         ensures kept { Kept pool.old pool.new (refs message.now) }
     {
-        self.push_bare(direction, kind, peer, a, b);
+        self.push_bare(direction, envelope);
         let Some(k) = self.order.back() else {
             unreachable!();
         };
@@ -285,10 +256,7 @@ impl List {
         ensures rest { self.new ≡ buffer (drop 1 self.old.items) self.old.capacity }
         ensures moved { to.new ≡ buffer (to.old.items ++ first_sent self.old.items ∷ []) to.old.capacity }
     {
-        let Some(k) = self.order.front() else {
-            unreachable!();
-        };
-        move_event(&mut self.slots[*k as usize], to);
+        move_event(&mut self.slots[self.first as usize], to);
         self.end_first();
     }
 
@@ -299,10 +267,7 @@ impl List {
         ensures rest { self.new ≡ buffer (drop 1 self.old.items) self.old.capacity }
         ensures returned { Returned pool.old pool.new (event_refs (first_sent self.old.items).1) }
     {
-        let Some(k) = self.order.front() else {
-            unreachable!();
-        };
-        drop_message(&mut self.slots[*k as usize], pool);
+        drop_message(&mut self.slots[self.first as usize], pool);
         self.end_first();
     }
 
@@ -316,6 +281,7 @@ impl List {
             unreachable!();
         };
         self.free.push_reserved(k);
+        self.first = first_of(&self.order);
     }
 
     /// The direction of event number `k`, which is one of those that there are.
@@ -348,6 +314,7 @@ impl List {
             mut slots,
             order,
             free: _,
+            first: _,
         } = self;
         while let Some((_direction, event)) = slots.pop() {
             event.close();
@@ -357,22 +324,22 @@ impl List {
     }
 }
 
-/// An event gets this direction, this kind and these numbers, and keeps its message, if it has one.
-pub(crate) fn begin_event(
-    sent: &mut (Dir, PoolEvent),
-    direction: Dir,
-    kind: Kind,
-    peer: u32,
-    a: u32,
-    b: u32,
-)
-    ensures { sent.new ≡ (direction, record { kind = kind; peer = peer; a = a; b = b; message = sent.old.1.message }) }
+/// The first number of some; 0 where there is none.
+fn first_of(order: &HeapCircularBuffer<u32>) -> u32
+    ensures { result ≡ first_number order.now.items }
+{
+    match order.front() {
+        Some(k) => *k,
+        None => 0,
+    }
+}
+
+/// An event gets this direction and this envelope, and keeps its message, if it has one.
+pub(crate) fn begin_event(sent: &mut (Dir, PoolEvent), direction: Dir, envelope: Envelope)
+    ensures { sent.new ≡ (direction, pool_event envelope sent.old.1.message) }
 {
     sent.0 = direction;
-    sent.1.kind = kind;
-    sent.1.peer = peer;
-    sent.1.a = a;
-    sent.1.b = b;
+    sent.1.become_of(envelope);
 }
 
 /// An event without a message takes what lies in a place.
@@ -432,14 +399,7 @@ fn move_event(sent: &mut (Dir, PoolEvent), to: &mut List)
 {
     let direction = sent.0;
     let event = &mut sent.1;
-    to.push_from(
-        direction,
-        event.kind,
-        event.peer,
-        event.a,
-        event.b,
-        &mut event.message,
-    );
+    to.push_from(direction, event.envelope(), &mut event.message);
 }
 
 /// An event lets its message go, whose reference goes back.

@@ -3,7 +3,7 @@
 use crate::headers::none_headers;
 use crate::join::join_bodies;
 use crate::part::Part;
-use msg_core::{Header, Headers};
+use msg_core::{Fields, Header, Headers};
 use slot_pool::Pool;
 use std::mem;
 
@@ -18,6 +18,7 @@ impl PoolMessage {
     ghost use Rattle.std.specs.Prelude.{◌≡◌, ℕ, ◌+◌, ◌<◌, ◌≤◌, List, [], ◌∷◌, ◌++◌, map, length, Some, None};
     ghost use Rattle.std.specs.List.{range_with_len};
     ghost use Rattle.slot_pool.specs.References.{Covers};
+    ghost use Rattle.layer_desk.specs.Laid.{said_tag, said_fields};
     ghost use Rattle.msg_core.specs.Chain.{first_of, rest_of};
     ghost use Rattle.msg_core.specs.Headers.{most_headers};
     ghost use Rattle.msg_core.specs.Parts as parts;
@@ -150,11 +151,19 @@ impl PoolMessage {
     }
 
     /// Takes the first header off.
-    pub fn pop_header(&mut self) -> Option<Header>
-        ensures first { result ≡ first_of self.old.headers }
+    pub fn pop_header(&mut self, fields: &mut Fields) -> u8
+        requires none { fields.old ≡ [] }
+        ensures tag { result ≡ said_tag (first_of self.old.headers) }
+        ensures fields { fields.new ≡ said_fields (first_of self.old.headers) }
         ensures rest { self.new ≡ record self.old { headers = rest_of self.old.headers } }
     {
-        self.headers.pop_front()
+        match self.headers.pop_front() {
+            Some(header) => {
+                *fields = header.fields;
+                header.tag
+            }
+            None => 0,
+        }
     }
 
     /// Becomes what another message is, which is then without headers and bytes. It has no bytes itself.

@@ -4,7 +4,7 @@ ghost use Rattle.std.specs.Prelude.{◌≡◌};
 
 use crate::message::PoolMessage;
 use crate::part::Part;
-use msg_core::{Header, Headers};
+use msg_core::{Fields, Header, Headers};
 use slot_pool::Pool;
 use std::marker::Model;
 
@@ -29,6 +29,7 @@ impl Model for Place {
 impl Place {
     ghost use Rattle.std.specs.Prelude.{◌≡◌, ◌<◌, length, Some, None, option_copied, option_map, [], IfSome};
     ghost use Rattle.slot_pool.specs.References.{Covers};
+    ghost use Rattle.layer_desk.specs.Laid.{said_tag, said_fields};
     ghost use Rattle.msg_core.specs.Headers.{most_headers};
     ghost use Rattle.pool_message.specs.Seen.{refs, refs_if, bodiless};
     ghost use Rattle.pool_message.specs.Sent.{first_header, with_header, without_first};
@@ -109,15 +110,17 @@ impl Place {
         }
     }
 
-    /// Takes the first header off the message, if there is one.
-    pub fn pop_header(&mut self) -> Option<Header>
-        ensures first { result ≡ first_header self.old }
+    /// Takes the first header off the message, if there is one: says its tag, 0 where there is none, and its fields.
+    pub fn pop_header(&mut self, fields: &mut Fields) -> u8
+        requires none { fields.old ≡ [] }
+        ensures tag { result ≡ said_tag (first_header self.old) }
+        ensures fields { fields.new ≡ said_fields (first_header self.old) }
         ensures rest { self.new ≡ option_map without_first self.old }
     {
         if self.is_full {
-            self.message.pop_header()
+            self.message.pop_header(fields)
         } else {
-            None
+            0
         }
     }
 

@@ -5,7 +5,7 @@ ghost use Rattle.circular_buffer.specs.Buffer.{buffer};
 ghost use Rattle.slot_pool.specs.References.{Covers};
 ghost use Rattle.pool_message.specs.Moves.{CanKeep, Kept, Returned};
 ghost use Rattle.pool_message.specs.Seen.{refs, refs_if, bodiless};
-ghost use Rattle.pool_message.specs.Sent.{first_sent, sent_behind, CanPass};
+ghost use Rattle.pool_message.specs.Sent.{first_sent, sent_behind, pool_event, envelope_of, CanPass};
 ghost use Rattle.pool_message.specs.Tray.{first_message, arrived_at, bound_at, sent_at, message_in, StandsSo};
 
 use crate::event::PoolEvent;
@@ -14,8 +14,9 @@ use crate::list::begin_event;
 use crate::message::PoolMessage;
 use crate::messages::Messages;
 use crate::place::Place;
-use layer_ast::{Dir, Kind};
-use msg_core::Header;
+use layer_ast::Dir;
+use layer_desk::Envelope;
+use msg_core::{Fields, Header};
 use slot_pool::{Memory, Pool};
 use std::alloc::Global;
 use std::marker::Model;
@@ -62,9 +63,10 @@ impl Tray {
     ghost use Rattle.std.specs.Prelude.{◌≡◌, nat_lt, ◌+◌, ◌-◌, ◌<◌, ◌≤◌, [], ◌∷◌, ◌++◌, drop, length, slice_get, slice_index_or, slice_set, Some, None, option_copied, option_map, option_to_list, IfOk, IfSome};
     ghost use Rattle.circular_buffer.specs.Buffer.{buffer, last_item};
     ghost use Rattle.slot_pool.specs.References.{Covers};
+    ghost use Rattle.layer_desk.specs.Laid.{said_tag, said_fields};
     ghost use Rattle.msg_core.specs.Headers.{most_headers};
     ghost use Rattle.pool_message.specs.Seen.{refs, refs_if, bodiless};
-    ghost use Rattle.pool_message.specs.Sent.{first_sent, most_events, first_header, with_header, without_first, sent_behind, CanPass};
+    ghost use Rattle.pool_message.specs.Sent.{first_sent, most_events, first_header, with_header, without_first, sent_behind, envelope_of, CanPass};
     ghost use Rattle.pool_message.specs.Moves.{CanKeep, Kept, Returned};
     ghost use Rattle.pool_message.specs.Piled.{pile_refs, without_last};
     ghost use Rattle.pool_message.specs.Tray.{also_sent, message_at};
@@ -87,9 +89,9 @@ impl Tray {
         }
     }
 
-    /// Takes the first of some events, behind which what is sent will come. What was sent before goes there. Nothing has arrived, and the scope
-    /// is empty.
-    pub fn begin(&mut self, events: &mut Events)
+    /// Takes the first of some events, behind which what is sent will come, and says its direction and its envelope. What was sent before goes
+    /// there. Nothing has arrived, and the scope is empty.
+    pub fn begin(&mut self, events: &mut Events) -> (Dir, Envelope)
         requires some { 0 < length events.old.items }
         requires within { length events.old.items ≤ events.old.capacity }
         requires idle { (self.old.arrived ≡ None) × (self.old.messages.items ≡ []) }
@@ -99,10 +101,12 @@ impl Tray {
           sent = buffer (drop 1 events.old.items) (events.old.capacity - 1);
         } }
         ensures sent { events.new ≡ buffer self.old.sent.items (self.old.sent.capacity + 1) }
+        ensures first { result ≡ ((first_sent events.old.items).0, envelope_of (first_sent events.old.items).1) }
     {
         settle(self.front, &mut self.events);
         self.front = Front::Arrived;
         mem::swap(&mut self.events, events);
+        way_of(&self.events)
     }
 
     /// Gives what was sent back, and has these events in its place. Nothing has arrived that didn't go, and the scope is empty.
@@ -138,14 +142,16 @@ impl Tray {
         }
     }
 
-    /// Takes the first header off the message that arrived, if there is one.
-    pub fn pop_header(&mut self) -> Option<Header>
-        ensures first { result ≡ first_header self.old.arrived }
+    /// Takes the first header off the message that arrived, if there is one: says its tag, 0 where there is none, and its fields.
+    pub fn pop_header(&mut self, fields: &mut Fields) -> u8
+        requires none { fields.old ≡ [] }
+        ensures tag { result ≡ said_tag (first_header self.old.arrived) }
+        ensures fields { fields.new ≡ said_fields (first_header self.old.arrived) }
         ensures rest { self.new ≡ record self.old { arrived = option_map without_first self.old.arrived } }
     {
         match self.front {
-            Front::Arrived => self.events.first_mut().1.message.pop_header(),
-            Front::Gone | Front::Bound => None,
+            Front::Arrived => self.events.first_mut().1.message.pop_header(fields),
+            Front::Gone | Front::Bound => 0,
         }
     }
 
@@ -277,71 +283,52 @@ impl Tray {
         self.events.places() - 1
     }
 
-    /// Sends an event of this kind, with these numbers and without a message.
-    pub fn send_bare(&mut self, direction: Dir, kind: Kind, peer: u32, a: u32, b: u32)
+    /// Sends an event with this envelope and without a message.
+    pub fn send_bare(&mut self, direction: Dir, envelope: Envelope)
         requires { length self.old.sent.items < self.old.sent.capacity }
-        ensures { self.new ≡ also_sent direction kind peer a b None self.old }
+        ensures { self.new ≡ also_sent direction envelope None self.old }
     {
-        self.events.push_bare(direction, kind, peer, a, b);
+        self.events.push_bare(direction, envelope);
     }
 
-    /// Sends an event of this kind, with these numbers and with what lies in a place. The place is empty then.
-    pub fn send_from(
-        &mut self,
-        direction: Dir,
-        kind: Kind,
-        peer: u32,
-        a: u32,
-        b: u32,
-        message: &mut Place,
-    )
+    /// Sends an event with this envelope and with what lies in a place. The place is empty then.
+    pub fn send_from(&mut self, direction: Dir, envelope: Envelope, message: &mut Place)
         requires { length self.old.sent.items < self.old.sent.capacity }
-        ensures sent { self.new ≡ also_sent direction kind peer a b message.old self.old }
+        ensures sent { self.new ≡ also_sent direction envelope message.old self.old }
         ensures left { message.new ≡ None }
     {
-        self.events.push_from(direction, kind, peer, a, b, message);
+        self.events.push_from(direction, envelope, message);
     }
 
-    /// Sends an event of this kind, with these numbers and with the last of some messages, if there is one. That message is taken out.
-    pub fn send_last(
-        &mut self,
-        direction: Dir,
-        kind: Kind,
-        peer: u32,
-        a: u32,
-        b: u32,
-        messages: &mut Messages,
-    )
+    /// Sends an event with this envelope and with the last of some messages, if there is one. That message is taken out.
+    pub fn send_last(&mut self, direction: Dir, envelope: Envelope, messages: &mut Messages)
         requires { length self.old.sent.items < self.old.sent.capacity }
-        ensures sent { self.new ≡ also_sent direction kind peer a b (last_item messages.old.items) self.old }
+        ensures sent { self.new ≡ also_sent direction envelope (last_item messages.old.items) self.old }
         ensures rest { messages.new ≡ buffer (without_last messages.old.items) messages.old.capacity }
     {
-        self.events.push_last(direction, kind, peer, a, b, messages);
+        self.events.push_last(direction, envelope, messages);
     }
 
-    /// Sends an event of this kind, with these numbers and with the message that arrived, if there is one that isn't bound.
-    pub fn send_arrived(&mut self, direction: Dir, kind: Kind, peer: u32, a: u32, b: u32)
+    /// Sends an event with this envelope and with the message that arrived, if there is one that isn't bound.
+    pub fn send_arrived(&mut self, direction: Dir, envelope: Envelope)
         requires { length self.old.sent.items < self.old.sent.capacity }
-        ensures { self.new ≡ record (also_sent direction kind peer a b self.old.arrived self.old) { arrived = None } }
+        ensures { self.new ≡ record (also_sent direction envelope self.old.arrived self.old) { arrived = None } }
     {
         match self.front {
             Front::Arrived => {
-                send_first(&mut self.events, direction, kind, peer, a, b);
+                send_first(&mut self.events, direction, envelope);
                 self.front = Front::Gone;
             }
-            Front::Gone | Front::Bound => self.events.push_bare(direction, kind, peer, a, b),
+            Front::Gone | Front::Bound => self.events.push_bare(direction, envelope),
         }
     }
 
-    /// Sends an event of this kind, with these numbers and with the message number `k` of the scope once more, which goes down behind this
+    /// Sends an event with this envelope and with the message number `k` of the scope once more, which goes down behind this
     /// header. The two share the message's bytes, to which there is one more reference.
     pub fn send_message(
         &mut self,
         direction: Dir,
-        kind: Kind,
-        peer: u32,
-        a: u32,
-        b: u32,
+        envelope: Envelope,
         header: Header,
         k: usize,
         pool: &mut Pool,
@@ -351,7 +338,7 @@ impl Tray {
         requires room { CanPass direction (Some (message_at k self.old)) }
         requires there { Covers pool.old (refs (message_at k self.old)) }
         requires keeps { CanKeep pool.old (refs (message_at k self.old)) }
-        ensures sent { self.new ≡ also_sent direction kind peer a b (Some (sent_behind direction header (message_at k self.old))) self.old }
+        ensures sent { self.new ≡ also_sent direction envelope (Some (sent_behind direction header (message_at k self.old))) self.old }
         ensures kept { Kept pool.old pool.new (refs (message_at k self.old)) }
     {
         let place = match self.front {
@@ -361,10 +348,7 @@ impl Tray {
                         &mut self.events,
                         &mut self.messages,
                         direction,
-                        kind,
-                        peer,
-                        a,
-                        b,
+                        envelope,
                         header,
                         pool,
                     );
@@ -378,10 +362,7 @@ impl Tray {
             &mut self.events,
             &self.messages,
             direction,
-            kind,
-            peer,
-            a,
-            b,
+            envelope,
             header,
             place,
             pool,
@@ -393,10 +374,7 @@ impl Tray {
     pub fn send_and_clear(
         &mut self,
         direction: Dir,
-        kind: Kind,
-        peer: u32,
-        a: u32,
-        b: u32,
+        envelope: Envelope,
         header: Header,
         k: usize,
         pool: &mut Pool,
@@ -406,7 +384,7 @@ impl Tray {
         requires room { CanPass direction (Some (message_at k self.old)) }
         requires there { Covers pool.old (pile_refs self.old.messages.items) }
         requires keeps { CanKeep pool.old (refs (message_at k self.old)) }
-        ensures sent { self.new ≡ record (also_sent direction kind peer a b (Some (sent_behind direction header (message_at k self.old))) self.old)
+        ensures sent { self.new ≡ record (also_sent direction envelope (Some (sent_behind direction header (message_at k self.old))) self.old)
             { messages = buffer [] self.old.messages.capacity } }
         ensures returned { Returned pool.old pool.new (pile_refs (slice_set self.old.messages.items k (bodiless []))) }
     {
@@ -414,14 +392,14 @@ impl Tray {
             Front::Bound => {
                 if k == 0 {
                     self.messages.clear(pool);
-                    send_first_behind(&mut self.events, direction, kind, peer, a, b, header);
+                    send_first_behind(&mut self.events, direction, envelope, header);
                     self.front = Front::Gone;
                     return;
                 }
             }
             Front::Gone | Front::Arrived => {}
         }
-        self.send_message(direction, kind, peer, a, b, header, k, pool);
+        self.send_message(direction, envelope, header, k, pool);
         self.clear_messages(pool);
     }
 
@@ -452,34 +430,46 @@ fn settle(front: Front, events: &mut Events)
     }
 }
 
-/// The first event goes on as the last, in this direction, of this kind, with these numbers and with its message.
-fn send_first(events: &mut Events, direction: Dir, kind: Kind, peer: u32, a: u32, b: u32)
-    requires { 0 < length events.old.items }
-    ensures { events.new ≡ buffer (drop 1 events.old.items ++ (direction, record { kind = kind; peer = peer; a = a; b = b; message = first_message events.old.items }) ∷ []) events.old.capacity }
+/// The direction and the envelope of the first event.
+fn way_of(events: &Events) -> (Dir, Envelope)
+    requires { 0 < length events.now.items }
+    ensures { result ≡ ((first_sent events.now.items).0, envelope_of (first_sent events.now.items).1) }
 {
-    begin_event(events.first_mut(), direction, kind, peer, a, b);
+    match events.first() {
+        Some((direction, event)) => (direction, event.envelope()),
+        None => unreachable!(),
+    }
+}
+
+/// The first event goes on as the last, in this direction, with this envelope and with its message.
+fn send_first(events: &mut Events, direction: Dir, envelope: Envelope)
+    requires { 0 < length events.old.items }
+    ensures { events.new ≡ buffer (drop 1 events.old.items ++ (direction, pool_event envelope (first_message events.old.items)) ∷ []) events.old.capacity }
+{
+    begin_event(events.first_mut(), direction, envelope);
     events.go_round();
 }
 
 /// The same where its message, if it has one, goes down behind a header.
-fn send_first_behind(
-    events: &mut Events,
-    direction: Dir,
-    kind: Kind,
-    peer: u32,
-    a: u32,
-    b: u32,
-    header: Header,
-)
+fn send_first_behind(events: &mut Events, direction: Dir, envelope: Envelope, header: Header)
     requires some { 0 < length events.old.items }
     requires room { CanPass direction (first_message events.old.items) }
-    ensures { events.new ≡ buffer (drop 1 events.old.items ++ (direction, record { kind = kind; peer = peer; a = a; b = b; message = option_map (sent_behind direction header) (first_message events.old.items) }) ∷ []) events.old.capacity }
+    ensures { events.new ≡ buffer (drop 1 events.old.items ++ (direction, pool_event envelope (option_map (sent_behind direction header) (first_message events.old.items))) ∷ []) events.old.capacity }
 {
+    begin_behind(events.first_mut(), direction, envelope, header);
+    events.go_round();
+}
+
+/// An event gets this direction and this envelope, and its message, if it has one, goes down behind a header.
+fn begin_behind(sent: &mut (Dir, PoolEvent), direction: Dir, envelope: Envelope, header: Header)
+    requires { CanPass direction sent.old.1.message }
+    ensures { sent.new ≡ (direction, pool_event envelope (option_map (sent_behind direction header) sent.old.1.message)) }
+{
+    begin_event(sent, direction, envelope);
     match direction {
         Dir::Up => {}
-        Dir::Down => events.first_mut().1.message.push_header(header),
+        Dir::Down => sent.1.message.push_header(header),
     }
-    send_first(events, direction, kind, peer, a, b);
 }
 
 /// The message of the first event, which there is, goes once more, and down behind a header. Meanwhile it lies in a spare place.
@@ -488,10 +478,7 @@ fn send_first_again(
     events: &mut Events,
     spare: &mut Messages,
     direction: Dir,
-    kind: Kind,
-    peer: u32,
-    a: u32,
-    b: u32,
+    envelope: Envelope,
     header: Header,
     pool: &mut Pool,
 )
@@ -501,7 +488,7 @@ fn send_first_again(
     requires room { CanPass direction (first_message events.old.items) }
     requires there { Covers pool.old (refs_if (first_message events.old.items)) }
     requires keeps { CanKeep pool.old (refs_if (first_message events.old.items)) }
-    ensures sent { events.new ≡ buffer (events.old.items ++ (direction, record { kind = kind; peer = peer; a = a; b = b; message = option_map (sent_behind direction header) (first_message events.old.items) }) ∷ []) events.old.capacity }
+    ensures sent { events.new ≡ buffer (events.old.items ++ (direction, pool_event envelope (option_map (sent_behind direction header) (first_message events.old.items))) ∷ []) events.old.capacity }
     ensures same { spare.new ≡ spare.old }
     ensures kept { Kept pool.old pool.new (refs_if (first_message events.old.items)) }
 {
@@ -509,7 +496,7 @@ fn send_first_again(
         unreachable!();
     };
     keep_behind(spare, direction, header, message, pool);
-    events.push_last(direction, kind, peer, a, b, spare);
+    events.push_last(direction, envelope, spare);
 }
 
 /// A message comes once more behind others, and going down behind a header.
@@ -551,10 +538,7 @@ fn send_listed(
     events: &mut Events,
     messages: &Messages,
     direction: Dir,
-    kind: Kind,
-    peer: u32,
-    a: u32,
-    b: u32,
+    envelope: Envelope,
     header: Header,
     k: usize,
     pool: &mut Pool,
@@ -564,12 +548,12 @@ fn send_listed(
     requires room { CanPass direction (Some (message_in k messages.now.items)) }
     requires there { Covers pool.old (refs (message_in k messages.now.items)) }
     requires keeps { CanKeep pool.old (refs (message_in k messages.now.items)) }
-    ensures sent { events.new ≡ buffer (events.old.items ++ (direction, record { kind = kind; peer = peer; a = a; b = b; message = Some (sent_behind direction header (message_in k messages.now.items)) }) ∷ []) events.old.capacity }
+    ensures sent { events.new ≡ buffer (events.old.items ++ (direction, pool_event envelope (Some (sent_behind direction header (message_in k messages.now.items)))) ∷ []) events.old.capacity }
     ensures kept { Kept pool.old pool.new (refs (message_in k messages.now.items)) }
 {
     match messages.get(k) {
         Some(message) => {
-            events.push_kept(direction, kind, peer, a, b, header, message, pool);
+            events.push_kept(direction, envelope, header, message, pool);
         }
         None => unreachable!(),
     }

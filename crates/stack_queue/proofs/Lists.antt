@@ -164,10 +164,10 @@ goes_on at places ys dir k to now is next there many =
 
 -- the only event goes on from the only place
 pub alone_goes_on : (at : ℕ) (places : List ℕ) (ys : List (Dir × PoolEvent)) (dir : Dir) (to room : ℕ) (now : Buffer ℕ) → length places ≡ 1 → length ys ≡ 1 →
-    to ≡ beyond dir at → option_map (λ (e : Dir × PoolEvent). e.0) (slice_get ys 0) ≡ Some dir → now ≡ buffer (to ∷ []) room →
+    to ≡ beyond dir at → dir ≡ (first_sent ys).0 → now ≡ buffer (to ∷ []) room →
     now ≡ buffer (drop 1 places ++ places_on at (drop (length (drop 1 places)) ys)) room
 alone_goes_on at (p ∷ []) (y ∷ []) dir to room now one other next there is =
-    is ∙ ap (λ n. buffer (n ∷ []) room) (next ∙ ap (λ d. beyond d at) (sym (cc there)))
+    is ∙ ap (λ n. buffer (n ∷ []) room) (next ∙ ap (λ d. beyond d at) there)
 alone_goes_on at [] ys dir to room now one other next there is = absurd (omega (arith, one))
 alone_goes_on at (p ∷ q ∷ places) ys dir to room now one other next there is = absurd (omega (arith, one))
 alone_goes_on at (p ∷ []) [] dir to room now one other next there is = absurd (omega (arith, other))

@@ -1,5 +1,5 @@
 -- An event passes one layer while others are pending, and its task becomes the last.
-use Rattle.std.proofs.Common.{◌-◌, ◌≡◌, ℕ, ◌<◌, List, [], ◌∷◌, ◌++◌, drop, length, Some, slice_get, option_map, refl, sym, ap, subst, ◌∙◌, arith}
+use Rattle.std.proofs.Common.{◌-◌, ◌≡◌, ℕ, ◌<◌, Bool, true, false, ◌&&◌, List, [], ◌∷◌, ◌++◌, drop, length, refl, sym, ap, subst, ◌∙◌, arith}
 use Rattle.std.proofs.lemmas.List.{map-append}
 use Rattle.circular_buffer.specs.Buffer.{Buffer, buffer}
 use Rattle.slot_pool.specs.Held.{Held}
@@ -12,7 +12,8 @@ use Rattle.layer_mean.specs.State.{State}
 use Rattle.layer_mean.specs.Tree.{LayerTree}
 use Rattle.layer_mean.specs.Visit.{Visited, step, none_header}
 use Rattle.layer_mean.specs.Queue.{beyond, tasks_of}
-use Rattle.layer_eval.specs.Did.{as_predicted}
+use Rattle.layer_eval.specs.Did.{as_predicted, both}
+use Rattle.layer_eval.specs.declared.predicted.Predicted.{Predicted}
 use Rattle.layer_stage.specs.Passes.{passed_by}
 use Rattle.layer_stage.proofs.Passed.{sends, passes_on, same_message, still_lies}
 use Rattle.pool_message.specs.Seen.{event_refs, event_seen, EventLies}
@@ -24,13 +25,20 @@ use Rattle.stack_queue.specs.Round.{HasPassed, HasGoneRound, sent_by}
 use Rattle.stack_queue.proofs.Lists.{first_event, rest_at, same_behind, pushed}
 use Rattle.stack_queue.proofs.Refs.{all_both, each_both}
 
+-- where nothing was decided, what was decided before stays
+pub joins_none : (p : Predicted) → p ≡ both p (as_predicted [])
+joins_none p = (λ j. record { first = stays p.first j; second = stays p.second j }) where
+  stays : (b : Bool) → b ≡ (b && true)
+  stays true = refl
+  stays false = refl
+
 module _ {S : Type 0} (place : S → ℕ) (layer : S → LayerTree) (refs : S → List ℕ) (Ready : List Held → S → Type 0)
     (state : List Held → S → State) (s s' : S) where
   -- The two lists, of which each was turned.
   pub goes_round : (ps : Buffer ℕ) (es : List (Dir × PoolEvent)) (tasks : Buffer PoolTask) → length ps.items ≡ length es →
       buffer (tasks_at ps.items es) (ps.capacity - 1) ≡ tasks → (sent w : Dir × PoolEvent) → sent ≡ first_sent es →
       HasPassed place layer refs Ready state s sent s' w → (at to : ℕ) (dir : Dir) → (first_task tasks.items).at ≡ at →
-      option_map (λ (e : Dir × PoolEvent). e.0) (slice_get (w ∷ drop 1 es) 0) ≡ Some dir → to ≡ beyond dir at →
+      dir ≡ (first_sent es).0 → to ≡ beyond dir at →
       (front now : Buffer ℕ) (events : Buffer (Dir × PoolEvent)) → front ≡ buffer (drop 1 ps.items) ps.capacity →
       now ≡ buffer (front.items ++ to ∷ []) front.capacity → events.items ≡ drop 1 es ++ w ∷ [] →
       HasGoneRound place layer refs Ready state s tasks s' (buffer (tasks_at now.items events.items) (now.capacity - 1))
@@ -45,11 +53,8 @@ module _ {S : Type 0} (place : S → ℕ) (layer : S → LayerTree) (refs : S �
     was : sent_by (first_task tasks.items) ≡ first_sent es
     was = first_event ps.items es tasks.items same (ap (λ b. b.items) view)
 
-    is_way : w.0 ≡ dir
-    is_way = cc dir_is
-
     way : dir ≡ (first_task tasks.items).direction
-    way = sym is_way ∙ ap (λ (x : Dir × PoolEvent). x.0) passed.event ∙ ap (λ (x : Dir × PoolEvent). x.0) (sent_is ∙ sym was)
+    way = dir_is ∙ ap (λ (x : Dir × PoolEvent). x.0) (sym was)
 
     placed : now ≡ buffer (drop 1 ps.items ++ to ∷ []) ps.capacity
     placed = put ∙ ap (λ b. buffer (b.items ++ to ∷ []) b.capacity) ended

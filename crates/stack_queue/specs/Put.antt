@@ -1,20 +1,25 @@
 -- A task with a message that is put behind others.
-use Rattle.std.specs.Prelude.{◌≡◌, ℕ, ◌+◌, ◌≤◌, Bool, true, false, [], ◌∷◌, ◌++◌, List, Some}
+use Rattle.std.specs.Prelude.{◌≡◌, ◌+◌, ◌≤◌, Bool, true, false, [], ◌∷◌, ◌++◌, List, Option, Some}
 use Rattle.circular_buffer.specs.Buffer.{Buffer, buffer}
 use Rattle.slot_pool.specs.Held.{Held, IsFull, spare}
 use Rattle.slot_pool.specs.References.{Moved}
 use Rattle.msg_core.specs.Chain.{Content}
-use Rattle.layer_ast.specs.declared.tokens.Dir.{Dir}
-use Rattle.layer_ast.specs.declared.tokens.Kind.{Kind}
+use Rattle.layer_desk.specs.Laid.{event_in}
 use Rattle.layer_mean.specs.declared.run.Event.{Event}
 use Rattle.layer_mean.specs.Queue.{Task}
 use Rattle.pool_message.specs.Seen.{event_refs, EventLies}
+use Rattle.pool_message.specs.Sent.{pool_event}
+use Rattle.pool_message.specs.declared.message.PoolMessage.{PoolMessage}
 use Rattle.stack_queue.specs.Pending.{task_seen}
+use Rattle.stack_queue.specs.declared.tasks.BareTask.{BareTask}
 use Rattle.stack_queue.specs.declared.tasks.PoolTask.{PoolTask}
 
--- An event of a kind, with these numbers and this message, on its way to a place.
-abbrev pub carrying_task : (at : ℕ) → Dir → Kind → (peer a b : ℕ) → Content → Task Event
-carrying_task at dir kind peer a b content = record { at = at; dir = dir; event = record { kind = kind; peer = peer; a = a; b = b; message = Some content } }
+-- A task of which all but its message is known, with a message, if it has one; and such a task as it is shown.
+abbrev pub task_with : BareTask → Option PoolMessage → PoolTask
+task_with t message = record { at = t.at; direction = t.direction; event = pool_event t.envelope message }
+
+abbrev pub carrying_task : BareTask → Content → Task Event
+carrying_task t content = record { at = t.at; dir = t.direction; event = event_in t.envelope (Some content) }
 
 -- In a pool that wasn't full a task was made that shows this, with its body in one slot more, and it is the last.
 pub record PutLast (p : List Held) (old : Buffer PoolTask) (shown : Task Event) (q : List Held) (new : Buffer PoolTask) : Type 0 where

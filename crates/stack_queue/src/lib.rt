@@ -10,5 +10,5 @@ mod turns;
 
 pub use laws::{entries_fit, stacks_fit};
 pub use sent::events_for;
-pub use tasks::{PoolTask, Tasks};
+pub use tasks::{BareTask, PoolTask, Tasks};
 pub use turns::run;

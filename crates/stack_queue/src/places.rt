@@ -3,6 +3,7 @@
 ghost use Rattle.std.specs.Prelude.{◌≡◌, ◌<◌, ◌≤◌, [], ◌∷◌, ◌++◌, drop, length};
 ghost use Rattle.circular_buffer.specs.Buffer.{buffer};
 ghost use Rattle.layer_mean.specs.Queue as spec;
+ghost use Rattle.pool_message.specs.Sent.{first_sent};
 ghost use Rattle.stack_queue.specs.Pending.{places_on};
 
 use circular_buffer::HeapCircularBuffer;
@@ -49,7 +50,7 @@ pub(crate) fn go_on(places: &mut HeapCircularBuffer<u16>, events: &Events, at: u
     ensures { places.new ≡ buffer (drop 1 places.old.items ++ places_on at (drop (length (drop 1 places.old.items)) events.now.items)) places.old.capacity }
 {
     if places.len() == 1 && events.len() == 1 {
-        stand_alone(places, beyond(events.direction(0), at));
+        stand_alone(places, beyond(first_way(events), at));
         return;
     }
     end_first(places);
@@ -64,6 +65,17 @@ fn put_places(places: &mut HeapCircularBuffer<u16>, events: &Events, at: u16)
 {
     for k in places.len()..events.len() {
         put_place(places, beyond(events.direction(k), at));
+    }
+}
+
+/// The direction of the first event.
+pub(crate) fn first_way(events: &Events) -> Dir
+    requires { 0 < length events.now.items }
+    ensures { result ≡ (first_sent events.now.items).0 }
+{
+    match events.first() {
+        Some((direction, _event)) => direction,
+        None => unreachable!(),
     }
 }
 

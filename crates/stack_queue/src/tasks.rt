@@ -5,10 +5,11 @@ ghost use Rattle.circular_buffer.specs.Buffer.{buffer};
 ghost use Rattle.stack_mean.specs.Acceptance.{largest_weight};
 
 use crate::passes::{pass_along, pass_one};
-use crate::places::{beyond, end_first, go_on, put_place, stand_alone};
+use crate::places::{beyond, end_first, first_way, go_on, put_place, stand_alone};
 use circular_buffer::HeapCircularBuffer;
 use event_graph::Stack;
-use layer_ast::{Dir, Kind};
+use layer_ast::Dir;
+use layer_desk::Envelope;
 use layer_eval::Predicted;
 use layer_stage::Stage;
 use msg_core::Headers;
@@ -23,6 +24,14 @@ pub struct PoolTask {
     pub at: u16,
     pub direction: Dir,
     pub event: PoolEvent,
+}
+
+/// A task of whose event all but its message is known.
+#[derive(Clone, Copy)]
+pub struct BareTask {
+    pub at: u16,
+    pub direction: Dir,
+    pub envelope: Envelope,
 }
 
 /// The tasks of a run that are pending, first in, first out, in as many places as the weight of its stack: their events with their
@@ -53,14 +62,14 @@ impl Tasks {
     ghost use Rattle.layer_mean.specs.Queue.{tasks_of};
     ghost use Rattle.layer_mean.specs.Visit.{step};
     ghost use Rattle.layer_desk.specs.Need.{most_above};
-    ghost use Rattle.layer_eval.specs.Did.{as_predicted};
+    ghost use Rattle.layer_eval.specs.Did.{as_predicted, both};
     ghost use Rattle.layer_stage.specs.Room.{slots_needed, places_needed, headers_met, most_counted, CountsWithin};
     ghost use Rattle.pool_message.specs.Seen.{event_seen};
     ghost use Rattle.pool_message.specs.Sent.{CanPass};
     ghost use Rattle.stack_queue.specs.Passing.{Rest, GoesWith, Continues, StaysAt};
     ghost use Rattle.stack_queue.specs.Round.{PassesRound};
     ghost use Rattle.stack_queue.specs.Pending.{first_task, tasks_seen, tasks_refs, TasksLie};
-    ghost use Rattle.stack_queue.specs.Put.{carrying_task, Puts};
+    ghost use Rattle.stack_queue.specs.Put.{carrying_task, task_with, Puts};
 
     /// No task, with places for the weight of a stack.
     pub fn fresh(alloc: Global, stack: &Stack) -> Result<Tasks, AllocError>
@@ -78,42 +87,36 @@ impl Tasks {
         }
     }
 
-    /// An event of this kind, with these numbers and with a message of these headers and a copy of these bytes, becomes the last task, and goes
-    /// to this place: the bytes are in a slot that was unused, and the headers where the event stands. False where the pool is full, and then
-    /// nothing has changed.
+    /// A task whose event has a message of these headers and a copy of these bytes becomes the last: the bytes are in a slot that was unused, and
+    /// the headers where the event stands. False where the pool is full, and then nothing has changed.
     pub fn push_put(
         &mut self,
-        at: u16,
-        direction: Dir,
-        kind: Kind,
-        peer: u32,
-        a: u32,
-        b: u32,
+        task: BareTask,
         headers: &Headers,
         bytes: &[u8],
         pool: &mut Pool,
     ) -> bool
         requires room { length self.old.items < self.old.capacity }
         requires fits { length bytes.now ≤ longest_body }
-        ensures { Puts pool.old self.old (carrying_task at direction kind peer a b (record { headers = headers.now; body = bytes.now })) pool.new self.new result }
+        ensures { Puts pool.old self.old (carrying_task task (record { headers = headers.now; body = bytes.now })) pool.new self.new result }
     {
         if !self
             .events
-            .push_put(direction, kind, peer, a, b, headers, bytes, pool)
+            .push_put(task.direction, task.envelope, headers, bytes, pool)
         {
             return false;
         }
-        put_place(&mut self.places, at);
+        put_place(&mut self.places, task.at);
         true
     }
 
-    /// An event of this kind, with these numbers and without a message, becomes the last task, and goes to this place.
-    pub fn push_bare(&mut self, at: u16, direction: Dir, kind: Kind, peer: u32, a: u32, b: u32)
+    /// A task whose event has no message becomes the last.
+    pub fn push_bare(&mut self, task: BareTask)
         requires { length self.old.items < self.old.capacity }
-        ensures { self.new ≡ buffer (self.old.items ++ record { at = at; direction = direction; event = record { kind = kind; peer = peer; a = a; b = b; message = None } } ∷ []) self.old.capacity }
+        ensures { self.new ≡ buffer (self.old.items ++ task_with task None ∷ []) self.old.capacity }
     {
-        self.events.push_bare(direction, kind, peer, a, b);
-        put_place(&mut self.places, at);
+        self.events.push_bare(task.direction, task.envelope);
+        put_place(&mut self.places, task.at);
     }
 
     /// Where the first task stands, if there is one.
@@ -154,8 +157,15 @@ impl Tasks {
         to
     }
 
-    /// A layer takes the event of the first task, which stands at a place, and what it sends becomes tasks behind the others.
-    pub(crate) fn visit<S: Stage>(&mut self, at: u16, stage: &mut S, pool: &mut Pool) -> Predicted
+    /// A layer takes the event of the first task, which stands at a place, and what it sends becomes tasks behind the others. What it decided
+    /// is joined to what was decided before.
+    pub(crate) fn visit<S: Stage>(
+        &mut self,
+        at: u16,
+        stage: &mut S,
+        pool: &mut Pool,
+        predicted: &mut Predicted,
+    )
         requires some { 0 < length self.old.items }
         requires at { (first_task self.old.items).at ≡ at }
         requires place { (1 ≤ at) × (at ≤ 255) }
@@ -171,8 +181,8 @@ impl Tasks {
             (step (S.place stage.old) (S.layer stage.old) (S.state pool.old stage.old) (first_task self.old.items).direction (event_seen pool.old (first_task self.old.items).event)).state }
         ensures tasks { tasks_seen pool.new self.new.items ≡ tasks_seen pool.old (drop 1 self.old.items) ++ tasks_of at
             (step (S.place stage.old) (S.layer stage.old) (S.state pool.old stage.old) (first_task self.old.items).direction (event_seen pool.old (first_task self.old.items).event)).sent }
-        ensures predicted { result ≡ as_predicted
-            (step (S.place stage.old) (S.layer stage.old) (S.state pool.old stage.old) (first_task self.old.items).direction (event_seen pool.old (first_task self.old.items).event)).decided }
+        ensures predicted { predicted.new ≡ both predicted.old (as_predicted
+            (step (S.place stage.old) (S.layer stage.old) (S.state pool.old stage.old) (first_task self.old.items).direction (event_seen pool.old (first_task self.old.items).event)).decided) }
 
         // Its references, and those of the tasks, have moved in the pool, and no others.
         ensures moved { Moved pool.old pool.new (S.refs stage.old ++ tasks_refs self.old.items) (S.refs stage.new ++ tasks_refs self.new.items) }
@@ -185,9 +195,10 @@ impl Tasks {
         ensures layer { S.layer stage.new ≡ S.layer stage.old }
     {
         if self.pass_round(at, stage) {
-            return Predicted::usual();
+            return;
         }
-        self.bring(at, stage, pool)
+        let decided = self.bring(at, stage, pool);
+        *predicted = predicted.and(decided);
     }
 
     /// Where others are pending, the event of the first task passes a layer that has no handler for it, and the task becomes the last. Says whether
@@ -202,17 +213,17 @@ impl Tasks {
         if self.events.len() < 2 {
             return false;
         }
+        let direction = first_way(&self.events);
         if !pass_one(stage, self.events.first_mut()) {
             return false;
         }
-        let direction = self.events.direction(0);
         self.events.go_round();
         end_first(&mut self.places);
         put_place(&mut self.places, beyond(direction, at));
         true
     }
 
-    /// The same of an event that doesn't pass.
+    /// A layer takes an event of the first task that doesn't pass. Says what it decided.
     fn bring<S: Stage>(&mut self, at: u16, stage: &mut S, pool: &mut Pool) -> Predicted
         requires some { 0 < length self.old.items }
         requires at { (first_task self.old.items).at ≡ at }

@@ -68,16 +68,16 @@ pub fn run<S: Stage>(
     ensures capacity { out.new.capacity ≡ out.old.capacity }
 {
     let mut predicted = Predicted::usual();
+    let places = stack.places();
     while let Some(at) = tasks.first() {
         let here = tasks.pass(at, stages, visits);
-        if is_edge(stack.places(), here) {
+        if is_edge(places, here) {
             tasks.leave(out);
             continue;
         }
         let stage = &mut stages[usize::from(here) - 1];
-        let decided = tasks.visit(here, stage, pool);
+        tasks.visit(here, stage, pool, &mut predicted);
         *visits += 1;
-        predicted = predicted.and(decided);
     }
     predicted
 }

@@ -1,36 +1,36 @@
-use Rattle.std.proofs.Common.{None, length, sym, ap, ◌∙◌, refl}
+use Rattle.std.proofs.Common.{None, sym, ap, ◌∙◌, refl}
 use Rattle.msg_core.specs.Chain.{plain}
-use Rattle.layer_ast.specs.declared.tokens.Dir.TheVariants as dir
 use Rattle.layer_ast.specs.declared.tokens.Kind.TheVariants as kind
 use Rattle.event_graph.specs.Answer.{stack_tree}
 use Rattle.packet_full.specs.Scanned.{packet_scanned}
 use Rattle.stack_queue.specs.Pending.{task_seen}
-use Rattle.stack_queue.specs.Put.{carrying_task}
-use Rattle.bypass_member.proofs.Entering.{entering, only_first, brings_carried, brings_bare, packet_task}
+use Rattle.stack_queue.specs.Put.{task_with}
+use Rattle.bypass_member.proofs.Entering.{entering, of_peer, from_top, only_first, brings_carried, brings_bare, packet_task}
 use Rattle.bypass_member.proofs.enters.enter.Goals as goal
 
 pub returns-in-Cast-clause-brings : goal.returns-in-Cast-clause-brings
 returns-in-Cast-clause-brings c =
     brings_carried _ _ _ _ _ _ _ c.requires.none _ c.enter_above.ensures
-    (ap (λ me. carrying_task (length (stack_tree c.args.stack.now)) dir.Down kind.Cast me 0 0 (plain c.in-Cast.body.now)) c.from.ensures
+    (ap (from_top (stack_tree c.args.stack.now) (plain c.in-Cast.body.now)) (c.of_peer-envelope.ensures ∙ ap (of_peer kind.Cast) c.from.ensures)
     ∙ sym (ap (entering (stack_tree c.args.stack.now) c.args.here.now) c.in-Cast.is))
 
 pub returns-in-Send-clause-brings : goal.returns-in-Send-clause-brings
 returns-in-Send-clause-brings c =
     brings_carried _ _ _ _ _ _ _ c.requires.none _ c.enter_above-in-Send.ensures
-    (sym (ap (entering (stack_tree c.args.stack.now) c.args.here.now) c.in-Send.is))
+    (ap (from_top (stack_tree c.args.stack.now) (plain c.in-Send.body.now)) c.of_peer.ensures
+    ∙ sym (ap (entering (stack_tree c.args.stack.now) c.args.here.now) c.in-Send.is))
 
 pub returns-in-Leave-clause-brings : goal.returns-in-Leave-clause-brings
 returns-in-Leave-clause-brings c =
     brings_bare _ _ _ c.args.pool.now _ _ _ c.requires.none c.push_bare.ensures refl
-    (ap (λ at. task_seen c.args.pool.now (record { at = at; direction = dir.Down; event = record { kind = kind.Leave; peer = 0; a = 0; b = 0; message = None } }))
-    (c.from-in-Leave.ensures ∙ c.places.ensures)
+    (ap (λ t. task_seen c.args.pool.now (task_with t None)) c.leaving.ensures
     ∙ sym (ap (entering (stack_tree c.args.stack.now) c.args.here.now) c.in-Leave.is))
 
 pub returns-in-Tick-clause-brings : goal.returns-in-Tick-clause-brings
 returns-in-Tick-clause-brings c =
-    brings_bare _ _ _ _ _ _ _ c.requires.none c.push_bare-in-Tick.ensures refl
-    (sym (ap (entering (stack_tree c.args.stack.now) c.args.here.now) c.in-Tick.is))
+    brings_bare _ _ _ c.args.pool.now _ _ _ c.requires.none c.push_bare-in-Tick.ensures refl
+    (ap (λ t. task_seen c.args.pool.now (task_with t None)) c.ticking.ensures
+    ∙ sym (ap (entering (stack_tree c.args.stack.now) c.args.here.now) c.in-Tick.is))
 
 pub returns-in-Packet-clause-brings : goal.returns-in-Packet-clause-brings
 returns-in-Packet-clause-brings c =

@@ -2,10 +2,11 @@ use Rattle.std.proofs.Common.{◌∷◌, [], length, rules, arith, sym, ap, subs
 use Rattle.std.proofs.lemmas.List.{length-append}
 use Rattle.circular_buffer.specs.Buffer.{Buffer, last_item}
 use Rattle.layer_desk.specs.Need.{Layout}
+use Rattle.pool_message.specs.Sent.{pool_event}
 use Rattle.pool_message.specs.Tray.{OnTray}
 use Rattle.pool_message.specs.declared.message.PoolMessage.{PoolMessage}
 use Rattle.file_layer.specs.Ready.{stock_of, IsReady}
-use Rattle.file_layer.specs.Stock.{laid, pool_event}
+use Rattle.file_layer.specs.Stock.{laid}
 use Rattle.file_layer.proofs.Lists.{items_are}
 use Rattle.file_layer.proofs.ReadySent.{sent_grows, first_fits}
 use Rattle.file_layer.proofs.Sent.{taken_off}

@@ -5,18 +5,18 @@ use Rattle.layer_mean.specs.Effect.{sent_as}
 use Rattle.layer_desk.specs.Laid.{event_in, sends}
 use Rattle.layer_desk.specs.Need.{Layout}
 use Rattle.pool_message.specs.Seen.{bodiless, refs, seen}
-use Rattle.pool_message.specs.Sent.{sent_behind}
-use Rattle.pool_message.specs.Tray.{message_at}
+use Rattle.pool_message.specs.Sent.{sent_behind, pool_event}
+use Rattle.pool_message.specs.Tray.{message_at, also_sent}
 use Rattle.file_layer.specs.Ready.{stock_of}
 use Rattle.file_layer.specs.Scope.{without_messages}
-use Rattle.file_layer.specs.Stock.{laid, pool_event}
+use Rattle.file_layer.specs.Stock.{laid}
 use Rattle.file_layer.proofs.Fits.{can_keep}
 use Rattle.file_layer.proofs.Lists.{item_within}
 use Rattle.file_layer.proofs.Ready.{scope_there}
 use Rattle.file_layer.proofs.ReadyScope.{scope_covered}
 use Rattle.file_layer.proofs.ReadySent.{sent_grows, last_fits}
 use Rattle.file_layer.proofs.Sent.{can_pass}
-use Rattle.file_layer.proofs.Tray.{with_event, tray_ready}
+use Rattle.file_layer.proofs.Tray.{tray_ready}
 use Rattle.file_layer.proofs.sends.send_last_local.Goals as goal
 
 pub send_and_clear-requires-clause-room : goal.send_and_clear-requires-clause-room
@@ -41,7 +41,7 @@ returns-clause-ready g c =
     c.args.header (omega arith) c.send_and_clear.new.pool c.from.result (message_at c.from.result c.args.desk.now.tray)
     (item_within c.args.desk.now.tray.messages.items c.from.result (bodiless []) (omega (arith, c.from.ensures, c.requires.some))) c.send_and_clear.ensures.returned in
     tray_ready g.K.Start.begun c.args.pool.now c.send_and_clear.new.pool c.args.desk.now
-    (record (with_event c.args.direction c.args.envelope (Some (sent_behind c.args.direction c.args.header (message_at c.from.result c.args.desk.now.tray))) c.args.desk.now.tray) { messages = buffer [] c.args.desk.now.tray.messages.capacity }) c.send_and_clear.new.self
+    (record (also_sent c.args.direction c.args.envelope (Some (sent_behind c.args.direction c.args.header (message_at c.from.result c.args.desk.now.tray))) c.args.desk.now.tray) { messages = buffer [] c.args.desk.now.tray.messages.capacity }) c.send_and_clear.new.self
     c.requires.ready c.send_and_clear.ensures.sent step.0 step.1 refl
     (sent_grows g.K.Start.begun.refs g.K.Start.begun.list c.args.desk.now.first c.args.desk.now.places c.args.desk.now.tray.sent
     (c.args.direction, pool_event c.args.envelope (Some (sent_behind c.args.direction c.args.header (message_at c.from.result c.args.desk.now.tray)))) c.requires.ready.sent)

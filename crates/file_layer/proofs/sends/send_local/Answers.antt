@@ -1,16 +1,16 @@
 use Rattle.std.proofs.Common.{[], Some, slice_get, refl, arith, sym, ap, ◌∙◌}
 use Rattle.layer_desk.specs.Need.{Layout}
 use Rattle.pool_message.specs.Seen.{bodiless, refs}
-use Rattle.pool_message.specs.Sent.{sent_behind}
-use Rattle.pool_message.specs.Tray.{message_at}
+use Rattle.pool_message.specs.Sent.{sent_behind, pool_event}
+use Rattle.pool_message.specs.Tray.{message_at, also_sent}
 use Rattle.file_layer.specs.Ready.{stock_of}
-use Rattle.file_layer.specs.Stock.{laid, pool_event}
+use Rattle.file_layer.specs.Stock.{laid}
 use Rattle.file_layer.proofs.Fits.{can_keep}
 use Rattle.file_layer.proofs.Lists.{read_there}
 use Rattle.file_layer.proofs.Ready.{scope_there}
 use Rattle.file_layer.proofs.ReadySent.{sent_grows, local_fits}
 use Rattle.file_layer.proofs.Sent.{can_pass}
-use Rattle.file_layer.proofs.Tray.{with_event, tray_ready}
+use Rattle.file_layer.proofs.Tray.{tray_ready}
 use Rattle.file_layer.proofs.sends.send_local.Goals as goal
 
 pub send_message-requires-clause-room : goal.send_message-requires-clause-room
@@ -38,7 +38,7 @@ returns-in-Some-clause-ready g c =
     (ap (slice_get c.args.desk.now.tray.messages.items) (sym c.from-place.ensures) ∙
     read_there c.args.desk.now.tray.messages.items c.from-place.result (bodiless []) _ _ c.message.ensures c.in-Some.is) c.send_message.ensures.kept in
     tray_ready g.K.Start.begun c.args.pool.now c.send_message.new.pool c.args.desk.now
-    (with_event c.args.direction c.args.envelope (Some (sent_behind c.args.direction c.args.header (message_at c.from-place.result c.args.desk.now.tray))) c.args.desk.now.tray) c.send_message.new.self
+    (also_sent c.args.direction c.args.envelope (Some (sent_behind c.args.direction c.args.header (message_at c.from-place.result c.args.desk.now.tray))) c.args.desk.now.tray) c.send_message.new.self
     c.requires c.send_message.ensures.sent step.0 step.1 refl
     (sent_grows g.K.Start.begun.refs g.K.Start.begun.list c.args.desk.now.first c.args.desk.now.places c.args.desk.now.tray.sent
     (c.args.direction, pool_event c.args.envelope (Some (sent_behind c.args.direction c.args.header (message_at c.from-place.result c.args.desk.now.tray)))) c.requires.sent)

@@ -1,11 +1,12 @@
 use Rattle.std.proofs.Common.{[], Some, refl, arith, ap, ◌∙◌}
 use Rattle.layer_desk.specs.Need.{Layout}
 use Rattle.pool_message.specs.Seen.{bodiless}
-use Rattle.pool_message.specs.Sent.{sent_behind}
+use Rattle.pool_message.specs.Sent.{sent_behind, pool_event}
+use Rattle.pool_message.specs.Tray.{also_sent}
 use Rattle.file_layer.specs.Ready.{stock_of}
-use Rattle.file_layer.specs.Stock.{laid, pool_event}
+use Rattle.file_layer.specs.Stock.{laid}
 use Rattle.file_layer.proofs.ReadySent.{sent_grows, nothing_fits}
-use Rattle.file_layer.proofs.Tray.{with_event, tray_ready}
+use Rattle.file_layer.proofs.Tray.{tray_ready}
 use Rattle.file_layer.proofs.sends.send_missing.Goals as goal
 
 pub returns-clause-ready : goal.returns-clause-ready
@@ -14,7 +15,7 @@ returns-clause-ready g c =
     let step = nothing_fits g.K.Start.begun c.args.pool.now (stock_of c.args.desk.now) c.requires.ready.pool c.requires.ready.fits c.args.direction c.args.envelope
     c.args.header (omega arith) c.args.slot c.requires.none in
     tray_ready g.K.Start.begun c.args.pool.now c.args.pool.now c.args.desk.now
-    (with_event c.args.direction c.args.envelope (Some (sent_behind c.args.direction c.args.header (bodiless []))) c.args.desk.now.tray) c.send_nothing.new.tray
+    (also_sent c.args.direction c.args.envelope (Some (sent_behind c.args.direction c.args.header (bodiless []))) c.args.desk.now.tray) c.send_nothing.new.tray
     c.requires.ready c.send_nothing.ensures step.0 step.1 refl
     (sent_grows g.K.Start.begun.refs g.K.Start.begun.list c.args.desk.now.first c.args.desk.now.places c.args.desk.now.tray.sent
     (c.args.direction, pool_event c.args.envelope (Some (sent_behind c.args.direction c.args.header (bodiless [])))) c.requires.ready.sent)

@@ -59,7 +59,7 @@ loop-at-smaller-then-is_edge g c =
       falls_out g.S.Stage.place g.S.Stage.layer g.S.Stage.refs g.S.Stage.ready g.S.Stage.state g.met.S.Stage.frame g.met.S.Stage.few
           _ on.well c.loop-at.pool c.pass-here.new.stages on.stand c.pass-here.new.self.items
           c.loop-at.out.items c.loop-at.predicted c.pass-here.new.visits on.going c.pass-here.result c.pass-here.ensures.first
-          (ap (λ n. is_place n c.pass-here.result) (sym c.places.ensures) ∙ edge_at c.places.result c.pass-here.result c.is_edge.result c.is_edge.ensures c.if-is_edge.true),
+          (ap (λ n. is_place n c.pass-here.result) (sym c.places-places.ensures) ∙ edge_at c.places-places.result c.pass-here.result c.is_edge.result c.is_edge.ensures c.if-is_edge.true),
       ap (λ x. pending_weight (stack_tree c.args.stack.now) (tasks_seen c.loop-at.pool x.items)) c.leave.ensures.rest,
       carried_lighter g.S.Stage.place g.S.Stage.layer g.S.Stage.refs g.S.Stage.ready g.S.Stage.state _ c.loop-at.invariant.0 c.requires.visits c.loop-at.pool c.loop-at.out.items c.loop-at.predicted _ _ _
           c.loop-at.invariant.2 c.loop-at.invariant.1 _ _ _ c.pass-here.ensures.goes,
@@ -74,25 +74,25 @@ loop-at-preserved-then-is_edge g c =
           (puts_out g.S.Stage.place g.S.Stage.layer g.S.Stage.refs g.S.Stage.ready g.S.Stage.state g.met.S.Stage.frame g.met.S.Stage.few
           _ on.well c.loop-at.pool c.pass-here.new.stages on.stand c.pass-here.new.self.items
           c.loop-at.out.items c.loop-at.predicted c.pass-here.new.visits on.going c.pass-here.result c.pass-here.ensures.first
-          (ap (λ n. is_place n c.pass-here.result) (sym c.places.ensures) ∙ edge_at c.places.result c.pass-here.result c.is_edge.result c.is_edge.ensures c.if-is_edge.true))
+          (ap (λ n. is_place n c.pass-here.result) (sym c.places-places.ensures) ∙ edge_at c.places-places.result c.pass-here.result c.is_edge.result c.is_edge.ensures c.if-is_edge.true))
           _ _ _ _ (search rules) (search rules) (search rules) (search rules),
       on.stand,
       ap (λ x. x.capacity) c.leave.ensures.rest ∙ c.pass-here.ensures.capacity ∙ c.loop-at.invariant.3,
       ap (λ x. x.capacity) c.leave.ensures.out ∙ c.loop-at.invariant.4,
     )
 
-pub visit-decided-requires-clause-ready : goal.visit-decided-requires-clause-ready
-visit-decided-requires-clause-ready g c =
+pub visit-requires-clause-ready : goal.visit-requires-clause-ready
+visit-requires-clause-ready g c =
     let on = carried g.S.Stage.place g.S.Stage.layer g.S.Stage.refs g.S.Stage.ready g.S.Stage.state _ c.loop-at.invariant.0 c.requires.visits c.loop-at.pool c.loop-at.out.items c.loop-at.predicted _ _ _
     c.loop-at.invariant.2 c.loop-at.invariant.1 _ _ _ c.pass-here.ensures.goes in
     is_ready g.S.Stage.place g.S.Stage.layer g.S.Stage.refs g.S.Stage.ready g.S.Stage.state g.met.S.Stage.frame g.met.S.Stage.few
     _ on.well c.loop-at.pool c.pass-here.new.stages on.stand c.pass-here.new.self.items
     c.loop-at.out.items c.loop-at.predicted c.pass-here.new.visits on.going c.pass-here.result c.pass-here.ensures.first
-    (ap (λ n. is_place n c.pass-here.result) (sym c.places.ensures) ∙ placed_at c.places.result c.pass-here.result c.is_edge.result c.is_edge.ensures c.if-is_edge.false)
+    (ap (λ n. is_place n c.pass-here.result) (sym c.places-places.ensures) ∙ placed_at c.places-places.result c.pass-here.result c.is_edge.result c.is_edge.ensures c.if-is_edge.false)
     (c.from.result - 1) (ap (λ n. n - 1) c.from.ensures) c.index-stages-from.result
 
-pub visit-decided-requires-clause-lie : goal.visit-decided-requires-clause-lie
-visit-decided-requires-clause-lie g c =
+pub visit-requires-clause-lie : goal.visit-requires-clause-lie
+visit-requires-clause-lie g c =
     let on = carried g.S.Stage.place g.S.Stage.layer g.S.Stage.refs g.S.Stage.ready g.S.Stage.state _ c.loop-at.invariant.0 c.requires.visits c.loop-at.pool c.loop-at.out.items c.loop-at.predicted _ _ _
     c.loop-at.invariant.2 c.loop-at.invariant.1 _ _ _ c.pass-here.ensures.goes in
     on.going.tasks_lie
@@ -103,48 +103,48 @@ overflow_add-visits g c =
     c.loop-at.invariant.2 c.loop-at.invariant.1 _ _ _ c.pass-here.ensures.goes in
     omega (arith, on.going.visits, on.going.weight, on.well.weight, on.few)
 
-pub visit-decided-requires-clause-covers : goal.visit-decided-requires-clause-covers
-visit-decided-requires-clause-covers g c =
+pub visit-requires-clause-covers : goal.visit-requires-clause-covers
+visit-requires-clause-covers g c =
     let on = carried g.S.Stage.place g.S.Stage.layer g.S.Stage.refs g.S.Stage.ready g.S.Stage.state _ c.loop-at.invariant.0 c.requires.visits c.loop-at.pool c.loop-at.out.items c.loop-at.predicted _ _ _
     c.loop-at.invariant.2 c.loop-at.invariant.1 _ _ _ c.pass-here.ensures.goes in
     covers_it g.S.Stage.place g.S.Stage.layer g.S.Stage.refs g.S.Stage.ready g.S.Stage.state g.met.S.Stage.frame g.met.S.Stage.few
     _ on.well c.loop-at.pool c.pass-here.new.stages on.stand c.pass-here.new.self.items
     c.loop-at.out.items c.loop-at.predicted c.pass-here.new.visits on.going c.pass-here.result c.pass-here.ensures.first
-    (ap (λ n. is_place n c.pass-here.result) (sym c.places.ensures) ∙ placed_at c.places.result c.pass-here.result c.is_edge.result c.is_edge.ensures c.if-is_edge.false)
+    (ap (λ n. is_place n c.pass-here.result) (sym c.places-places.ensures) ∙ placed_at c.places-places.result c.pass-here.result c.is_edge.result c.is_edge.ensures c.if-is_edge.false)
     (c.from.result - 1) (ap (λ n. n - 1) c.from.ensures) c.index-stages-from.result
 
-pub visit-decided-requires-clause-counts : goal.visit-decided-requires-clause-counts
-visit-decided-requires-clause-counts g c =
+pub visit-requires-clause-counts : goal.visit-requires-clause-counts
+visit-requires-clause-counts g c =
     let on = carried g.S.Stage.place g.S.Stage.layer g.S.Stage.refs g.S.Stage.ready g.S.Stage.state _ c.loop-at.invariant.0 c.requires.visits c.loop-at.pool c.loop-at.out.items c.loop-at.predicted _ _ _
     c.loop-at.invariant.2 c.loop-at.invariant.1 _ _ _ c.pass-here.ensures.goes in
     counts_are g.S.Stage.place g.S.Stage.layer g.S.Stage.refs g.S.Stage.ready g.S.Stage.state g.met.S.Stage.frame g.met.S.Stage.few
     _ on.well c.loop-at.pool c.pass-here.new.stages on.stand c.pass-here.new.self.items
     c.loop-at.out.items c.loop-at.predicted c.pass-here.new.visits on.going c.pass-here.result c.pass-here.ensures.first
-    (ap (λ n. is_place n c.pass-here.result) (sym c.places.ensures) ∙ placed_at c.places.result c.pass-here.result c.is_edge.result c.is_edge.ensures c.if-is_edge.false)
+    (ap (λ n. is_place n c.pass-here.result) (sym c.places-places.ensures) ∙ placed_at c.places-places.result c.pass-here.result c.is_edge.result c.is_edge.ensures c.if-is_edge.false)
     (c.from.result - 1) (ap (λ n. n - 1) c.from.ensures) c.index-stages-from.result
 
-pub visit-decided-requires-clause-headers : goal.visit-decided-requires-clause-headers
-visit-decided-requires-clause-headers g c =
+pub visit-requires-clause-headers : goal.visit-requires-clause-headers
+visit-requires-clause-headers g c =
     let on = carried g.S.Stage.place g.S.Stage.layer g.S.Stage.refs g.S.Stage.ready g.S.Stage.state _ c.loop-at.invariant.0 c.requires.visits c.loop-at.pool c.loop-at.out.items c.loop-at.predicted _ _ _
     c.loop-at.invariant.2 c.loop-at.invariant.1 _ _ _ c.pass-here.ensures.goes in
     headers_are g.S.Stage.place g.S.Stage.layer g.S.Stage.refs g.S.Stage.ready g.S.Stage.state g.met.S.Stage.frame g.met.S.Stage.few
     _ on.well c.loop-at.pool c.pass-here.new.stages on.stand c.pass-here.new.self.items
     c.loop-at.out.items c.loop-at.predicted c.pass-here.new.visits on.going c.pass-here.result c.pass-here.ensures.first
-    (ap (λ n. is_place n c.pass-here.result) (sym c.places.ensures) ∙ placed_at c.places.result c.pass-here.result c.is_edge.result c.is_edge.ensures c.if-is_edge.false)
+    (ap (λ n. is_place n c.pass-here.result) (sym c.places-places.ensures) ∙ placed_at c.places-places.result c.pass-here.result c.is_edge.result c.is_edge.ensures c.if-is_edge.false)
     (c.from.result - 1) (ap (λ n. n - 1) c.from.ensures) c.index-stages-from.result
 
-pub visit-decided-requires-clause-slots : goal.visit-decided-requires-clause-slots
-visit-decided-requires-clause-slots g c =
+pub visit-requires-clause-slots : goal.visit-requires-clause-slots
+visit-requires-clause-slots g c =
     let on = carried g.S.Stage.place g.S.Stage.layer g.S.Stage.refs g.S.Stage.ready g.S.Stage.state _ c.loop-at.invariant.0 c.requires.visits c.loop-at.pool c.loop-at.out.items c.loop-at.predicted _ _ _
     c.loop-at.invariant.2 c.loop-at.invariant.1 _ _ _ c.pass-here.ensures.goes in
     slots_suffice g.S.Stage.place g.S.Stage.layer g.S.Stage.refs g.S.Stage.ready g.S.Stage.state g.met.S.Stage.frame g.met.S.Stage.few
     _ on.well c.loop-at.pool c.pass-here.new.stages on.stand c.pass-here.new.self.items
     c.loop-at.out.items c.loop-at.predicted c.pass-here.new.visits on.going c.pass-here.result c.pass-here.ensures.first
-    (ap (λ n. is_place n c.pass-here.result) (sym c.places.ensures) ∙ placed_at c.places.result c.pass-here.result c.is_edge.result c.is_edge.ensures c.if-is_edge.false)
+    (ap (λ n. is_place n c.pass-here.result) (sym c.places-places.ensures) ∙ placed_at c.places-places.result c.pass-here.result c.is_edge.result c.is_edge.ensures c.if-is_edge.false)
     (c.from.result - 1) (ap (λ n. n - 1) c.from.ensures) c.index-stages-from.result
 
-pub visit-decided-requires-clause-places : goal.visit-decided-requires-clause-places
-visit-decided-requires-clause-places g c =
+pub visit-requires-clause-places : goal.visit-requires-clause-places
+visit-requires-clause-places g c =
     let on = carried g.S.Stage.place g.S.Stage.layer g.S.Stage.refs g.S.Stage.ready g.S.Stage.state _ c.loop-at.invariant.0 c.requires.visits c.loop-at.pool c.loop-at.out.items c.loop-at.predicted _ _ _
     c.loop-at.invariant.2 c.loop-at.invariant.1 _ _ _ c.pass-here.ensures.goes in
     omega (
@@ -152,7 +152,7 @@ visit-decided-requires-clause-places g c =
       places_suffice g.S.Stage.place g.S.Stage.layer g.S.Stage.refs g.S.Stage.ready g.S.Stage.state g.met.S.Stage.frame g.met.S.Stage.few
           _ on.well c.loop-at.pool c.pass-here.new.stages on.stand c.pass-here.new.self.items
           c.loop-at.out.items c.loop-at.predicted c.pass-here.new.visits on.going c.pass-here.result c.pass-here.ensures.first
-          (ap (λ n. is_place n c.pass-here.result) (sym c.places.ensures) ∙ placed_at c.places.result c.pass-here.result c.is_edge.result c.is_edge.ensures c.if-is_edge.false)
+          (ap (λ n. is_place n c.pass-here.result) (sym c.places-places.ensures) ∙ placed_at c.places-places.result c.pass-here.result c.is_edge.result c.is_edge.ensures c.if-is_edge.false)
           (c.from.result - 1) (ap (λ n. n - 1) c.from.ensures) c.index-stages-from.result,
       c.pass-here.ensures.capacity,
       c.loop-at.invariant.3,
@@ -168,11 +168,11 @@ loop-at-smaller g c =
       falls g.S.Stage.place g.S.Stage.layer g.S.Stage.refs g.S.Stage.ready g.S.Stage.state g.met.S.Stage.frame g.met.S.Stage.few
           _ on.well c.loop-at.pool c.pass-here.new.stages on.stand c.pass-here.new.self.items
           c.loop-at.out.items c.loop-at.predicted c.pass-here.new.visits on.going c.pass-here.result c.pass-here.ensures.first
-          (ap (λ n. is_place n c.pass-here.result) (sym c.places.ensures) ∙ placed_at c.places.result c.pass-here.result c.is_edge.result c.is_edge.ensures c.if-is_edge.false)
+          (ap (λ n. is_place n c.pass-here.result) (sym c.places-places.ensures) ∙ placed_at c.places-places.result c.pass-here.result c.is_edge.result c.is_edge.ensures c.if-is_edge.false)
           (c.from.result - 1) (ap (λ n. n - 1) c.from.ensures) c.index-stages-from.result
-          c.visit-decided.new.pool c.visit-decided.new.stage c.visit-decided.new.self.items
-          c.visit-decided.result c.visit-decided.ensures.moved c.visit-decided.ensures.spent c.visit-decided.ensures.lie c.visit-decided.ensures.ready
-          c.visit-decided.ensures.state c.visit-decided.ensures.tasks c.visit-decided.ensures.predicted,
+          c.visit.new.pool c.visit.new.stage c.visit.new.self.items
+          _ c.visit.ensures.moved c.visit.ensures.spent c.visit.ensures.lie c.visit.ensures.ready
+          c.visit.ensures.state c.visit.ensures.tasks refl,
       carried_lighter g.S.Stage.place g.S.Stage.layer g.S.Stage.refs g.S.Stage.ready g.S.Stage.state _ c.loop-at.invariant.0 c.requires.visits c.loop-at.pool c.loop-at.out.items c.loop-at.predicted _ _ _
           c.loop-at.invariant.2 c.loop-at.invariant.1 _ _ _ c.pass-here.ensures.goes,
     )
@@ -182,26 +182,26 @@ loop-at-preserved g c =
     let on = carried g.S.Stage.place g.S.Stage.layer g.S.Stage.refs g.S.Stage.ready g.S.Stage.state _ c.loop-at.invariant.0 c.requires.visits c.loop-at.pool c.loop-at.out.items c.loop-at.predicted _ _ _
     c.loop-at.invariant.2 c.loop-at.invariant.1 _ _ _ c.pass-here.ensures.goes in (
       c.loop-at.invariant.0,
-      goes_with _ c.visit-decided.new.pool _
+      goes_with _ c.visit.new.pool _
           (visit_goes_on g.S.Stage.place g.S.Stage.layer g.S.Stage.refs g.S.Stage.ready g.S.Stage.state g.met.S.Stage.frame g.met.S.Stage.few
           _ on.well c.loop-at.pool c.pass-here.new.stages on.stand c.pass-here.new.self.items
           c.loop-at.out.items c.loop-at.predicted c.pass-here.new.visits on.going c.pass-here.result c.pass-here.ensures.first
-          (ap (λ n. is_place n c.pass-here.result) (sym c.places.ensures) ∙ placed_at c.places.result c.pass-here.result c.is_edge.result c.is_edge.ensures c.if-is_edge.false)
+          (ap (λ n. is_place n c.pass-here.result) (sym c.places-places.ensures) ∙ placed_at c.places-places.result c.pass-here.result c.is_edge.result c.is_edge.ensures c.if-is_edge.false)
           (c.from.result - 1) (ap (λ n. n - 1) c.from.ensures) c.index-stages-from.result
-          c.visit-decided.new.pool c.visit-decided.new.stage c.visit-decided.new.self.items
-          c.visit-decided.result c.visit-decided.ensures.moved c.visit-decided.ensures.spent c.visit-decided.ensures.lie c.visit-decided.ensures.ready
-          c.visit-decided.ensures.state c.visit-decided.ensures.tasks c.visit-decided.ensures.predicted)
+          c.visit.new.pool c.visit.new.stage c.visit.new.self.items
+          _ c.visit.ensures.moved c.visit.ensures.spent c.visit.ensures.lie c.visit.ensures.ready
+          c.visit.ensures.state c.visit.ensures.tasks refl)
           _ _ _ _ (search rules) (search rules) (search rules) (search rules),
       visit_stands g.S.Stage.place g.S.Stage.layer g.S.Stage.refs g.S.Stage.ready g.S.Stage.state g.met.S.Stage.frame g.met.S.Stage.few
           _ on.well c.loop-at.pool c.pass-here.new.stages on.stand c.pass-here.new.self.items
           c.loop-at.out.items c.loop-at.predicted c.pass-here.new.visits on.going c.pass-here.result c.pass-here.ensures.first
-          (ap (λ n. is_place n c.pass-here.result) (sym c.places.ensures) ∙ placed_at c.places.result c.pass-here.result c.is_edge.result c.is_edge.ensures c.if-is_edge.false)
+          (ap (λ n. is_place n c.pass-here.result) (sym c.places-places.ensures) ∙ placed_at c.places-places.result c.pass-here.result c.is_edge.result c.is_edge.ensures c.if-is_edge.false)
           (c.from.result - 1) (ap (λ n. n - 1) c.from.ensures) c.index-stages-from.result
-          c.visit-decided.new.pool c.visit-decided.new.stage c.visit-decided.new.self.items
-          c.visit-decided.result c.visit-decided.ensures.moved c.visit-decided.ensures.spent c.visit-decided.ensures.lie c.visit-decided.ensures.ready
-          c.visit-decided.ensures.state c.visit-decided.ensures.tasks c.visit-decided.ensures.predicted
-          c.visit-decided.ensures.place c.visit-decided.ensures.layer,
-      c.visit-decided.ensures.capacity ∙ c.pass-here.ensures.capacity ∙ c.loop-at.invariant.3,
+          c.visit.new.pool c.visit.new.stage c.visit.new.self.items
+          _ c.visit.ensures.moved c.visit.ensures.spent c.visit.ensures.lie c.visit.ensures.ready
+          c.visit.ensures.state c.visit.ensures.tasks refl
+          c.visit.ensures.place c.visit.ensures.layer,
+      c.visit.ensures.capacity ∙ c.pass-here.ensures.capacity ∙ c.loop-at.invariant.3,
       c.loop-at.invariant.4,
     )
 

@@ -11,4 +11,5 @@ invariant_of-self c = (
   search rules,
   search rules,
   search rules,
+  λ some. c.first_of-self-inside.ensures,
 )

@@ -17,6 +17,7 @@ invariant_of-self c = (
   c.self.invariant.2,
   c.self.invariant.3,
   omega (arith, c.self.invariant.4, length-set c.self.inside.slots.items c.in-Some.k.now c.fill_made.new.sent),
+  c.self.invariant.5,
 )
 
 pub returns : goal.returns
