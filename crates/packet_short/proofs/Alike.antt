@@ -45,11 +45,6 @@ pub no_same : (a b : ℕ) (same : Bool) → (a == b) ≡ same → a ≢ b → sa
 no_same a b true is other = absurd (other (eqb-true a b is))
 no_same a b false is other = refl
 
--- a header behind the last tag
-pub no_tag : (tags : List ℕ) (planned : List (Option ℕ)) (hs : List Header) (k : ℕ) (h : Header) → k < length hs → h ≡ get_or hs k h →
-    tags ≡ [] → alike tags planned (drop k hs) ≡ false
-no_tag tags planned hs k h below is none = rw (none, left_at hs k h below is) refl
-
 -- a header of another tag
 pub other_tag : (tags : List ℕ) (t : ℕ) (ts : List ℕ) (planned : List (Option ℕ)) (hs : List Header) (k : ℕ) (h : Header) → k < length hs →
     h ≡ get_or hs k h → tags ≡ t ∷ ts → t ≢ h.tag → alike tags planned (drop k hs) ≡ false
@@ -76,46 +71,34 @@ agrees_on tags t ts planned rest hs k h below is first same some =
       eq-eqb t h.tag same,
     ) refl)
 
--- all are as planned where nothing more is
-agree_none : (planned : List (Option ℕ)) → planned ≢ [] → agree planned [] ≡ false
-agree_none [] some = absurd (some refl)
-agree_none (Some c ∷ planned) some = refl
-agree_none (None ∷ planned) some = refl
+-- what stands for an element that isn't there plays no part
+get_or_same : (xs : List ℕ) (k : ℕ) → k < length xs → get_or xs k (get_or xs k 0) ≡ get_or xs k 0
+get_or_same [] k below = absurd (omega arith)
+get_or_same (x ∷ xs) zero below = refl
+get_or_same (x ∷ xs) (suc k) below = get_or_same xs k (omega arith)
 
-pub all_agree : (tags : List ℕ) (planned : List (Option ℕ)) (left : List Header) → left ≡ [] → tags ≡ [] → planned ≡ [] →
-    alike tags planned left ≡ true
-all_agree tags planned left none no_tags no_fields = rw (none, no_tags, no_fields) refl
+-- the numbers from a place on
+numbers_at : (xs : List ℕ) (k : ℕ) → k < length xs → drop k xs ≡ get_or xs k 0 ∷ drop (k + 1) xs
+numbers_at xs k below = left_at xs k (get_or xs k 0) below (sym (get_or_same xs k below))
 
-tags_left : (tags : List ℕ) → tags ≢ [] → bytes_eq tags [] ≡ false
-tags_left [] some = absurd (some refl)
-tags_left (t ∷ ts) some = refl
-
-pub tags_over : (tags : List ℕ) (planned : List (Option ℕ)) (left : List Header) → left ≡ [] → tags ≢ [] → alike tags planned left ≡ false
-tags_over tags planned left none some = rw (none, tags_left tags some) refl
-
-pub fields_over : (tags : List ℕ) (planned : List (Option ℕ)) (left : List Header) → left ≡ [] → planned ≢ [] → alike tags planned left ≡ false
-fields_over tags planned left none some = rw (none, agree_none planned some) (never (bytes_eq tags []))
+-- a header as planned, the tags being read by its place
+pub goes_on : (tags : List ℕ) (planned rest : List (Option ℕ)) (hs : List Header) (k : ℕ) (h : Header) → k < length tags → k < length hs →
+    h ≡ get_or hs k h → get_or tags k 0 ≡ h.tag → Some rest ≡ behind planned h.fields →
+    alike (drop (k + 1) tags) rest (drop (k + 1) hs) ≡ alike (drop k tags) planned (drop k hs)
+goes_on tags planned rest hs k h tagged below is same some =
+    agrees_on (drop k tags) (get_or tags k 0) (drop (k + 1) tags) planned rest hs k h below is (numbers_at tags k tagged) same some
 
 -- a field behind the last planned one
 pub none_behind : (planned : List (Option ℕ)) (fields : List ℕ) (k : ℕ) → k < length fields → planned ≡ [] → behind planned (drop k fields) ≡ None
-none_behind planned fields k below none = rw (none, left_at fields k (get_or fields k 0) below (sym (get_or_same fields k below))) refl
-  where
-    get_or_same : (xs : List ℕ) (k : ℕ) → k < length xs → get_or xs k (get_or xs k 0) ≡ get_or xs k 0
-    get_or_same [] k below = absurd (omega arith)
-    get_or_same (x ∷ xs) zero below = refl
-    get_or_same (x ∷ xs) (suc k) below = get_or_same xs k (omega arith)
+none_behind planned fields k below none = rw (none, numbers_at fields k below) refl
 
--- nothing more is planned, or something is
-pub ends_alike : (tags : List ℕ) (planned : List (Option ℕ)) (left : List Header) (empty : Bool) → left ≡ [] → true ≡ (length tags == 0) →
+-- no more tags nor headers: nothing more is planned, or some field is
+pub ends_alike : (tags : List ℕ) (planned : List (Option ℕ)) (left : List Header) (empty : Bool) → left ≡ [] → tags ≡ [] →
     empty ≡ (length planned == 0) → empty ≡ alike tags planned left
-ends_alike tags planned left empty none no_tags is = rw (none, no_bytes tags (sym no_tags)) (is ∙ sym (no_fields planned))
+ends_alike tags planned left empty none no_tags is = rw (none, no_tags) (is ∙ sym (no_fields planned))
   where
     some : (n m : ℕ) → n ≡ suc m → (n == 0) ≡ false
     some n m is = no_same n 0 (n == 0) refl (λ none. absurd (omega arith))
-
-    no_bytes : (tags : List ℕ) → (length tags == 0) ≡ true → bytes_eq tags [] ≡ true
-    no_bytes [] is = refl
-    no_bytes (t ∷ ts) is = let clash = sym is ∙ some (length (t ∷ ts)) (length ts) (omega arith) in absurd (cc clash)
 
     no_fields : (planned : List (Option ℕ)) → agree planned [] ≡ (length planned == 0)
     no_fields [] = refl

@@ -57,20 +57,20 @@ fn behind_at<'a>(
 pub(crate) fn is_alike(plan: &Plan, headers: &Carried<'_>) -> bool
     ensures { result ≡ alike plan.now.tags.items plan.now.fields.items (headers_in headers.now) }
 {
-    let mut tags = plan.tags.as_slice();
+    let tags = plan.tags.as_slice();
     let mut fields = plan.fields.as_slice();
-    for place in 0..headers.len() {
-        let Some((tag, more)) = tags.split_first() else {
-            return false
-        };
-        if *tag != headers.at(place).tag {
+    let count = headers.len();
+    if tags.len() != count {
+        return false;
+    }
+    for place in 0..count {
+        if tags[place] != headers.at(place).tag {
             return false;
         }
         let Some(rest) = behind_at(fields, headers, place) else {
             return false
         };
-        tags = more;
         fields = rest;
     }
-    tags.is_empty() && fields.is_empty()
+    fields.is_empty()
 }

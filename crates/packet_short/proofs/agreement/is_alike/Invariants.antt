@@ -5,4 +5,4 @@ use Rattle.packet_short.proofs.agreement.is_alike.Given as goal
 
 abbrev pub invariant-loop-place : goal.invariant-loop-place
 invariant-loop-place l =
-    alike l.tags l.fields (drop l.place (headers_in l.headers)) ≡ alike l.plan.tags.items l.plan.fields.items (headers_in l.headers)
+    alike (drop l.place l.tags) l.fields (drop l.place (headers_in l.headers)) ≡ alike l.plan.tags.items l.plan.fields.items (headers_in l.headers)
