@@ -2,3 +2,4 @@ pub mod Joined
 pub mod Nones
 pub mod Rows
 pub mod Spelled
+pub mod LaidOut

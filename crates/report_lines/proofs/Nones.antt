@@ -22,7 +22,7 @@ chained_more : (stack : List LayerTree) (hs : List Header) (h : Header) → chai
 chained_more stack hs h =
     flat_map-append (slashed stack) hs (h ∷ []) ∙ ap (λ last. chained stack hs ++ last) (append-nil (slashed stack h))
 
-suc_is : (n : ℕ) → suc n ≡ n + 1
+pub suc_is : (n : ℕ) → suc n ≡ n + 1
 suc_is n = omega arith
 
 pub first_more : (stack : List LayerTree) (n : ℕ) (text new : List ℕ) → text ≡ first_nones stack n →
@@ -103,7 +103,7 @@ pub record Cut (stack : List LayerTree) (texts : List ℕ) (first n from to : �
   pub inside : to ≤ length texts
   pub is : take (to - from) (drop from texts) ≡ chained stack (nones first n)
 
-cut_parts : (a b c : List ℕ) → take (length (a ++ b) - length a) (drop (length a) ((a ++ b) ++ c)) ≡ b
+pub cut_parts : (a b c : List ℕ) → take (length (a ++ b) - length a) (drop (length a) ((a ++ b) ++ c)) ≡ b
 cut_parts a b c =
     let e = length-append a b in
     ap (λ xs. take (length (a ++ b) - length a) (drop (length a) xs)) (append_assoc a b c)
@@ -137,11 +137,13 @@ first_dropped hs k h is =
     drop-cons hs k h (slice_get_within hs k h (sym is)) ∙ ap (λ x. x ∷ drop (suc k) hs) (get_or_from_slice_get hs k h h (sym is)) ∙ ap (λ i. h ∷ drop i hs) (suc_is k)
 
 -- a header with tag 0 and without numbers is that of its place
-pub none_at : (hs : List Header) (k place : ℕ) (h : Header) → Some h ≡ slice_get hs k → h.layer ≡ place → h.tag ≡ 0 → length h.fields ≡ 0 →
+pub none_is : (h : Header) → h.tag ≡ 0 → length h.fields ≡ 0 → h ≡ none_of h.layer
+none_is h tagged empty = λ i. record { layer = h.layer; tag = tagged i; fields = sym (no_fields h.fields empty) i }
+
+pub none_at : (hs : List Header) (k place : ℕ) (h : Header) → Some h ≡ slice_get hs k → h.layer ≡ place → h ≡ none_of h.layer →
     drop k hs ≡ none_of place ∷ drop (k + 1) hs
-none_at hs k place h is placed tagged empty =
-    first_dropped hs k h is
-    ∙ ap (λ x. x ∷ drop (k + 1) hs) (λ i. record { layer = placed i; tag = tagged i; fields = sym (no_fields h.fields empty) i })
+none_at hs k place h is placed none =
+    first_dropped hs k h is ∙ ap (λ x. x ∷ drop (k + 1) hs) (none ∙ ap none_of placed)
 
 -- one more of them
 pub nones_next : (hs : List Header) (k first n : ℕ) → drop k hs ≡ nones first n ++ drop (k + n) hs →
@@ -198,13 +200,11 @@ all_put stack hs k n line now new put all past some last =
     last ∙ ap (λ xs. take (length xs - 1) xs) whole ∙ without_last (line ++ chain_text stack hs) 47
 
 -- a header that was put with its separator
-pub one_put : {E : Type 0} (r : Result (Unit {0}) E) (stack : List LayerTree) (hs : List Header) (k : ℕ) (h : Header) (line new : List ℕ) →
-    Some h ≡ slice_get hs k → OnOk r (new ≡ line ++ slashed stack h) →
-    OnOk r (new ++ chained stack (drop (k + 1) hs) ≡ line ++ chained stack (drop k hs))
-one_put (Ok done) stack hs k h line new is put =
+pub one_put : (stack : List LayerTree) (hs : List Header) (k : ℕ) (h : Header) (line new : List ℕ) →
+    Some h ≡ slice_get hs k → new ≡ line ++ slashed stack h → new ++ chained stack (drop (k + 1) hs) ≡ line ++ chained stack (drop k hs)
+one_put stack hs k h line new is put =
     put_front stack (drop k hs) (h ∷ []) (drop (k + 1) hs) line new (put ∙ ap (λ text. line ++ text) (sym (append-nil (slashed stack h))))
     (first_dropped hs k h is)
-one_put (Err e) stack hs k h line new is put = put
 
 -- a text whose last byte is put together with the separator
 pub closed : {E : Type 0} (r : Result (Unit {0}) E) (line front numbers a b new : List ℕ) → a ≡ line ++ front → b ≡ a ++ numbers →

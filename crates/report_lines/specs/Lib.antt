@@ -3,3 +3,4 @@ pub mod Lead
 pub mod Nones
 pub mod Deliveries
 pub mod Cells
+pub mod Fronts

@@ -5,10 +5,12 @@
 mod cells;
 mod chain;
 mod digits;
+mod fronts;
 mod journal;
 mod line;
 mod lines;
 mod named;
+mod names;
 
 pub use cells::{push_cell, push_index, push_message_row, push_numbers_row};
 pub use chain::{push_chain, push_lead};

@@ -1,12 +1,14 @@
-//! Stacks with the headers `none` of their layers by name.
+//! Stacks with the headers of their layers by name.
 
 ghost use Rattle.std.specs.Prelude.{◌≡◌, ◌+◌, ◌-◌, ◌<◌, ◌≤◌, ◌++◌, IfOk, OnOk, drop, length, slice_index_or, take};
 ghost use Rattle.std.specs.Rc.{rc_value};
 ghost use Rattle.layer_mean.specs.Tree.{no_layer};
 ghost use Rattle.typed_layer.specs.View.{layer_tree};
 ghost use Rattle.event_graph.specs.Answer.{stack_tree};
-ghost use Rattle.report_lines.specs.Nones.{chained, first_nones, none_of, nones, slashed};
+ghost use Rattle.report_lines.specs.Fronts.{IsFront, IsNumber, declared, header_of};
+ghost use Rattle.report_lines.specs.Nones.{chained, first_nones, header_front, none_of, nones, slashed};
 
+use crate::fronts::Fronts;
 use event_graph::Stack;
 use msg_core::Memory;
 use std::alloc::Global;
@@ -15,12 +17,13 @@ use std::rc::Rc;
 use typed_layer::TypedLayer;
 
 /// A stack, which contracts see, and the texts `LAYER.none()/` of its layers one behind the other: where each begins, and where the last one
-/// ends.
+/// ends. Those in front of the numbers of its declared headers are laid out in the same way.
 #[derive(Drop)]
 pub struct NamedStack {
     stack: Rc<Stack>,
     texts: Vec<u8>,
     places: Vec<usize>,
+    fronts: Fronts,
 }
 
 impl Model for NamedStack {
@@ -29,6 +32,8 @@ impl Model for NamedStack {
     ghost use Rattle.event_graph.specs.Answer.{stack_tree};
     ghost use Rattle.event_graph.specs.contracts.stack.Stack as stack_row;
     ghost use Rattle.event_graph.specs.declared.stack.Stack.{Stack};
+    ghost use Rattle.std.specs.Prelude.{length};
+    ghost use Rattle.report_lines.specs.Fronts.{AreAllFronts};
     ghost use Rattle.report_lines.specs.Nones.{AreLaidOut};
 
     ghost Value = { Stack };
@@ -37,7 +42,9 @@ impl Model for NamedStack {
 
     ghost view = { λ n. rc_value n.stack };
 
-    ghost invariant = { λ n. AreLaidOut (stack_tree (rc_value n.stack)) n.texts.items n.places.items };
+    ghost invariant = { λ n. AreLaidOut (stack_tree (rc_value n.stack)) n.texts.items n.places.items
+        × AreAllFronts (stack_tree (rc_value n.stack)) (length (stack_tree (rc_value n.stack))) n.fronts.texts n.fronts.begins.items
+        n.fronts.firsts.items };
 }
 
 /// Appends `LAYER.none()/`.
@@ -65,15 +72,18 @@ impl NamedStack {
     {
         let mut texts = Vec::new(alloc);
         let mut places = Vec::new(alloc);
+        let mut fronts = Fronts::none(alloc)?;
         places.push(0)?;
         for place in 0..stack.places() {
             push_none(&mut texts, &stack, place)?;
             places.push(texts.len())?;
+            fronts.push_place(&stack, place)?;
         }
         Ok(NamedStack {
             stack,
             texts,
             places,
+            fronts,
         })
     }
 
@@ -105,6 +115,46 @@ impl NamedStack {
         ensures { result ≡ length (first_nones (stack_tree self.now) place) }
     {
         self.places[usize::from(place)]
+    }
+
+    /// The number of a place's header with a tag among those that are laid out, if it is one.
+    fn number_of(&self, place: u8, tag: u8) -> Option<usize>
+        ensures { IsNumber (stack_tree self.now) place tag result }
+    {
+        if place >= self.places() {
+            return None;
+        }
+        if tag == 0 {
+            return None;
+        }
+        let first = self.fronts.firsts[usize::from(place)];
+        let next = self.fronts.firsts[usize::from(place) + 1];
+        let behind = usize::from(tag) - 1;
+        if behind < next - first {
+            Some(first + behind)
+        } else {
+            None
+        }
+    }
+
+    /// The text in front of the numbers of the header with this number among those that are laid out.
+    fn front_numbered(&self, number: usize) -> &[u8]
+        requires { number < length (declared (stack_tree self.now) (length (stack_tree self.now))) }
+        ensures { result.now ≡ header_front (stack_tree self.now)
+            (slice_index_or (declared (stack_tree self.now) (length (stack_tree self.now))) number (header_of 0 0)) }
+    {
+        let (from, to) = (self.fronts.begins[number], self.fronts.begins[number + 1]);
+        part(self.fronts.texts.slice(), from, to)
+    }
+
+    /// `LAYER.HEADER(` for the header of a place with a tag, if it is laid out.
+    pub(crate) fn front(&self, place: u8, tag: u8) -> Option<&[u8]>
+        ensures { IsFront (stack_tree self.now) place tag result }
+    {
+        match self.number_of(place, tag) {
+            Some(number) => Some(self.front_numbered(number)),
+            None => None,
+        }
     }
 
     /// The headers `none` of so many places from `first` on, each with `/` behind it.

@@ -1,9 +1,6 @@
-use Rattle.std.proofs.Common.{◌∙◌, sym}
-use Rattle.std.proofs.lemmas.Bool.{eqb-true}
 use Rattle.report_lines.proofs.Nones.{none_at}
 use Rattle.report_lines.proofs.chain.is_none_of.Goals as goal
 
 pub returns : goal.returns
 returns c =
-    λ empty. none_at c.args.headers.now c.args.k c.args.place c.in-Some.header c.in-Some.ensures c.if-header-place.false c.if-header-ne0.false
-    (sym c.len.ensures.count ∙ eqb-true c.len.result 0 empty)
+    λ empty. none_at c.args.headers.now c.args.k c.args.place c.in-Some.header c.in-Some.ensures c.if-header-place.false (c.is_none.ensures empty)
