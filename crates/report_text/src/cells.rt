@@ -28,6 +28,14 @@ pub(crate) struct Spot {
     pub(crate) cell: u8,
 }
 
+/// A cell of queues: the only one, or an array.
+#[derive(Clone, Copy)]
+pub(crate) struct Queues<'a> {
+    pub(crate) layer: &'a TypedLayer,
+    pub(crate) name: &'a Word,
+    pub(crate) is_array: bool,
+}
+
 /// Appends the numbers of a cell, with spaces between.
 fn push_numbers(line: &mut Line, shown: &Shown<'_>, spot: Spot) -> Result<(), Memory>
     ensures { OnOk result (line.new ≡ line.old ++ numbers_text (numbers_in (cell_at (state_shown shown.now spot.place) spot.cell))) }
@@ -125,17 +133,17 @@ fn push_queue(
     line: &mut Line,
     stack: &NamedStack,
     shown: &Shown<'_>,
-    layer: &TypedLayer,
-    name: &Word,
-    is_array: bool,
+    queues: Queues<'_>,
     spot: Spot,
     queue: u32,
 ) -> Result<(), Memory>
-    ensures { OnOk result (line.new ≡ line.old ++ (cell_front spot.id spot.place (layer_tree layer.now).name name.now ++ index_if is_array queue
+    ensures { OnOk result (line.new ≡ line.old
+        ++ (cell_front spot.id spot.place (layer_tree queues.entry.layer.now).name queues.entry.name.now ++ index_if queues.entry.is_array queue
         ++ codes " " ++ rows_text (stack_tree stack.now) (rows_at (state_shown shown.now spot.place) spot.cell queue) ++ codes "\n")) }
 {
-    push_cell(line, spot.id, spot.place, layer.name.bytes(), name.bytes())?;
-    push_queue_index(line, is_array, queue)?;
+    let layer = queues.layer.name.bytes();
+    push_cell(line, spot.id, spot.place, layer, queues.name.bytes())?;
+    push_queue_index(line, queues.is_array, queue)?;
     line.text(b" ")?;
     push_rows(line, stack, shown, spot, queue)?;
     line.text(b"\n")
@@ -146,14 +154,13 @@ pub(crate) fn build_queue(
     line: &mut Line,
     stack: &NamedStack,
     shown: &Shown<'_>,
-    layer: &TypedLayer,
-    name: &Word,
-    is_array: bool,
+    queues: Queues<'_>,
     spot: Spot,
     queue: u32,
 ) -> Result<(), Memory>
-    ensures { OnOk result (line.new ≡ line.old ++ queue_line (stack_tree stack.now) spot.id spot.place (layer_tree layer.now) is_array name.now
+    ensures { OnOk result (line.new ≡ line.old
+        ++ queue_line (stack_tree stack.now) spot.id spot.place (layer_tree queues.entry.layer.now) queues.entry.is_array queues.entry.name.now
         (queue, rows_at (state_shown shown.now spot.place) spot.cell queue)) }
 {
-    push_queue(line, stack, shown, layer, name, is_array, spot, queue)
+    push_queue(line, stack, shown, queues, spot, queue)
 }

@@ -12,17 +12,15 @@ ghost use Rattle.view_core.specs.Refusals.{refusal_meant};
 ghost use Rattle.report_text.specs.Numbered.{full_annex};
 ghost use Rattle.report_text.specs.Told.{AreFull, change_line, change_lines, stepped_lines, taken_lines, told_lines};
 
+use crate::manner::{Issue, Manner, Outcome};
 use crate::output::write_outputs;
 use crate::pen::Pen;
 use crate::state::write_member;
-use member_shown::Shown;
 use msg_core::Memory;
 use outside::{Sink, SinkError};
-use packet_plans::Plans;
-use report_lines::{Line, NamedStack, absent_line, out_line, refused_line, view_line};
+use report_lines::{Line, absent_line, out_line, refused_line, view_line};
 use script_mean::ScriptEvent;
 use sink_lines::put_line;
-use step_outputs::Outputs;
 use view_core::{Change, Did, Refusal, Stepped};
 
 /// The member that an event names.
@@ -81,20 +79,18 @@ pub fn write_change<O: Sink>(
 /// Puts the lines of a step that was taken.
 fn write_taken<O: Sink>(
     pen: &mut Pen,
-    stack: &NamedStack,
-    id: u8,
+    manner: Manner<'_>,
+    issue: Issue<'_>,
     change: Option<Change>,
-    outputs: &Outputs,
-    first: u64,
-    wire: bool,
     out: &mut O,
 ) -> Result<(), SinkError>
-    requires { first + length outputs.now.outputs < 2 ^ 64 }
-    ensures { Wrote (taken_lines (stack_tree stack.now) (full_annex wire) id first outputs.now.outputs change)
+    requires { issue.first + length issue.outputs.now.outputs < 2 ^ 64 }
+    ensures { Wrote (taken_lines (stack_tree manner.entry.stack.now) (full_annex manner.entry.wire) issue.entry.id issue.entry.first
+        issue.entry.outputs.now.outputs change)
         (output_of O.Sink out.old) (output_of O.Sink out.new) result }
 {
-    write_outputs(pen, stack, id, first, outputs, wire, out)?;
-    write_change(pen, id, change, out)
+    write_outputs(pen, manner, issue, out)?;
+    write_change(pen, issue.id, change, out)
 }
 
 /// Puts the line of a refusal.
@@ -117,23 +113,19 @@ pub fn write_refusal<O: Sink>(
 /// Puts the lines of a step.
 fn write_stepped<O: Sink>(
     pen: &mut Pen,
-    stack: &NamedStack,
-    id: u8,
+    manner: Manner<'_>,
+    issue: Issue<'_>,
     stepped: Stepped,
-    outputs: &Outputs,
-    first: u64,
-    wire: bool,
     out: &mut O,
 ) -> Result<(), SinkError>
-    requires { first + length outputs.now.outputs < 2 ^ 64 }
-    ensures { Wrote (stepped_lines (stack_tree stack.now) (full_annex wire) id first outputs.now.outputs stepped)
+    requires { issue.first + length issue.outputs.now.outputs < 2 ^ 64 }
+    ensures { Wrote (stepped_lines (stack_tree manner.entry.stack.now) (full_annex manner.entry.wire) issue.entry.id issue.entry.first
+        issue.entry.outputs.now.outputs stepped)
         (output_of O.Sink out.old) (output_of O.Sink out.new) result }
 {
     match stepped {
-        Stepped::Taken { common: _, change } => {
-            write_taken(pen, stack, id, change, outputs, first, wire, out)
-        }
-        Stepped::Refused(refusal) => write_refusal(pen, id, refusal, out),
+        Stepped::Taken { common: _, change } => { write_taken(pen, manner, issue, change, out) }
+        Stepped::Refused(refusal) => write_refusal(pen, issue.id, refusal, out),
     }
 }
 
@@ -149,33 +141,32 @@ fn write_absent<O: Sink>(pen: &mut Pen, id: u8, number: u32, out: &mut O) -> Res
     }
 }
 
-/// Puts the lines of what an event came to, one by one: those of a step's outputs, of which `first` is the number of the first packet, and of
-/// where the member is then; a refusal; a packet that isn't there; or the member that is shown. Where it is wanted, the bytes of each packet
-/// stand behind its line, in full.
+/// Puts the lines of what an event came to, one by one: those of a step's outputs, and of where the member is then; a refusal; a packet that
+/// isn't there; or the member that is shown. Where it is wanted, the bytes of each packet stand behind its line, in full.
 pub fn write_event<O: Sink>(
     pen: &mut Pen,
-    stack: &NamedStack,
-    _plans: &Plans,
-    event: &ScriptEvent,
-    did: Did,
-    outputs: &Outputs,
-    shown: &Shown<'_>,
-    first: u64,
-    wire: bool,
+    manner: Manner<'_>,
+    outcome: &Outcome<'_>,
     out: &mut O,
 ) -> Result<(), SinkError>
-    requires few { first + length outputs.now.outputs < 2 ^ 64 }
-    requires full { AreFull outputs.now.outputs }
-    ensures { Wrote (told_lines (stack_tree stack.now) (plans_tree _plans.now) wire event.now did outputs.now.outputs shown.now first)
+    requires few { outcome.now.first + length outcome.now.outputs.now.outputs < 2 ^ 64 }
+    requires full { AreFull outcome.now.outputs.now.outputs }
+    ensures { Wrote (told_lines (stack_tree manner.entry.stack.now) (plans_tree manner.entry.plans.now) manner.entry.wire outcome.now.event.now
+        outcome.now.did outcome.now.outputs.now.outputs outcome.now.shown.now outcome.now.first)
         (output_of O.Sink out.old) (output_of O.Sink out.new) result }
 {
-    let id = member_of(event);
-    match did {
+    let id = member_of(outcome.event);
+    match outcome.did {
         Did::Stepped(stepped) => {
-            write_stepped(pen, stack, id, stepped, outputs, first, wire, out)
+            let issue = Issue {
+                id,
+                first: outcome.first,
+                outputs: outcome.outputs,
+            };
+            write_stepped(pen, manner, issue, stepped, out)
         }
-        Did::Absent => write_absent(pen, id, packet_given(event), out),
-        Did::Shown => write_member(pen, stack, id, shown, out),
+        Did::Absent => write_absent(pen, id, packet_given(outcome.event), out),
+        Did::Shown => write_member(pen, manner.stack, id, outcome.shown, out),
     }
 }
 

@@ -11,6 +11,7 @@ ghost use Rattle.sink_lines.specs.Tells.{output_of};
 ghost use Rattle.step_outputs.specs.Views.{output_meant};
 ghost use Rattle.report_text.specs.Numbered.{full_annex, line_if};
 
+use crate::manner::{Issue, Manner};
 use crate::pen::Pen;
 use msg_core::Memory;
 use outside::{Sink, SinkError};
@@ -21,7 +22,7 @@ use report_lines::{
     wire_line,
 };
 use sink_lines::put_line;
-use step_outputs::{OutputView, Outputs, PacketView};
+use step_outputs::{OutputView, PacketView};
 
 /// Builds the line of an output, if it has one: whether it has.
 fn build_output(
@@ -118,20 +119,19 @@ fn put_wire<O: Sink>(
 /// Puts the lines of an output: its own, and where it is wanted that of its bytes.
 fn write_output<O: Sink>(
     pen: &mut Pen,
-    stack: &NamedStack,
+    manner: Manner<'_>,
     here: &Here,
     id: u8,
     number: u64,
     output: &OutputView<'_>,
-    wire: bool,
     out: &mut O,
 ) -> Result<(), SinkError>
-    ensures { Wrote (output_lines (stack_tree stack.now) id number (output_meant here.now output.now).0
-        ++ full_annex wire number (output_meant here.now output.now))
+    ensures { Wrote (output_lines (stack_tree manner.entry.stack.now) id number (output_meant here.now output.now).0
+        ++ full_annex manner.entry.wire number (output_meant here.now output.now))
         (output_of O.Sink out.old) (output_of O.Sink out.new) result }
 {
-    put_output(pen, stack, here, id, number, output, out)?;
-    if wire {
+    put_output(pen, manner.stack, here, id, number, output, out)?;
+    if manner.wire {
         put_wire(pen, here, number, output, out)
     } else {
         Ok(())
@@ -150,25 +150,23 @@ pub fn number_behind(_here: &Here, number: u64, output: &OutputView<'_>) -> u64
     }
 }
 
-/// Puts the lines of a step's outputs, whose packets are sent in full and numbered from `first` on.
+/// Puts the lines of a step's outputs, whose packets are sent in full.
 pub(crate) fn write_outputs<O: Sink>(
     pen: &mut Pen,
-    stack: &NamedStack,
-    id: u8,
-    first: u64,
-    outputs: &Outputs,
-    wire: bool,
+    manner: Manner<'_>,
+    issue: Issue<'_>,
     out: &mut O,
 ) -> Result<(), SinkError>
-    requires { first + length outputs.now.outputs < 2 ^ 64 }
-    ensures { Wrote (lines_of_outputs (stack_tree stack.now) (full_annex wire) id first outputs.now.outputs)
+    requires { issue.first + length issue.outputs.now.outputs < 2 ^ 64 }
+    ensures { Wrote (lines_of_outputs (stack_tree manner.entry.stack.now) (full_annex manner.entry.wire) issue.entry.id issue.entry.first
+        issue.entry.outputs.now.outputs)
         (output_of O.Sink out.old) (output_of O.Sink out.new) result }
 {
-    let here = outputs.here();
-    let mut number = first;
-    for k in 0..outputs.len() {
-        let output = outputs.at(k);
-        write_output(pen, stack, &here, id, number, &output, wire, out)?;
+    let here = issue.outputs.here();
+    let mut number = issue.first;
+    for k in 0..issue.outputs.len() {
+        let output = issue.outputs.at(k);
+        write_output(pen, manner, &here, issue.id, number, &output, out)?;
         number = number_behind(&here, number, &output);
     }
     Ok(())

@@ -11,7 +11,7 @@ ghost use Rattle.sink_lines.specs.Tells.{output_of};
 ghost use Rattle.typed_layer.specs.View.{cell_tree, layer_tree};
 ghost use Rattle.report_text.specs.Cells.{cells_shown, layers_shown, numbers_lines, one_queue, queue_lines};
 
-use crate::cells::{Spot, build_numbers, build_queue};
+use crate::cells::{Queues, Spot, build_numbers, build_queue};
 use crate::pen::Pen;
 use layer_ast::Word;
 use member_shown::Shown;
@@ -48,28 +48,17 @@ fn write_queue<O: Sink>(
     pen: &mut Pen,
     stack: &NamedStack,
     shown: &Shown<'_>,
-    layer: &TypedLayer,
-    name: &Word,
-    is_array: bool,
+    queues: Queues<'_>,
     spot: Spot,
     queue: u32,
     out: &mut O,
 ) -> Result<(), SinkError>
-    ensures { Wrote (one_queue (stack_tree stack.now) spot.id spot.place (layer_tree layer.now) is_array name.now
+    ensures { Wrote (one_queue (stack_tree stack.now) spot.id spot.place (layer_tree queues.entry.layer.now) queues.entry.is_array queues.entry.name.now
         (queue, rows_at (state_shown shown.now spot.place) spot.cell queue))
         (output_of O.Sink out.old) (output_of O.Sink out.new) result }
 {
     pen.line.clear();
-    match build_queue(
-        &mut pen.line,
-        stack,
-        shown,
-        layer,
-        name,
-        is_array,
-        spot,
-        queue,
-    ) {
+    match build_queue(&mut pen.line, stack, shown, queues, spot, queue) {
         Ok(()) => put_line(pen.line.slice(), out),
         Err(Memory) => Err(SinkError::Memory),
     }
@@ -80,18 +69,16 @@ fn write_queues<O: Sink>(
     pen: &mut Pen,
     stack: &NamedStack,
     shown: &Shown<'_>,
-    layer: &TypedLayer,
-    name: &Word,
-    is_array: bool,
+    queues: Queues<'_>,
     spot: Spot,
     out: &mut O,
 ) -> Result<(), SinkError>
-    ensures { Wrote (queue_lines (stack_tree stack.now) spot.id spot.place (layer_tree layer.now) is_array name.now
-        (cell_at (state_shown shown.now spot.place) spot.cell))
+    ensures { Wrote (queue_lines (stack_tree stack.now) spot.id spot.place (layer_tree queues.entry.layer.now) queues.entry.is_array
+        queues.entry.name.now (cell_at (state_shown shown.now spot.place) spot.cell))
         (output_of O.Sink out.old) (output_of O.Sink out.new) result }
 {
     for queue in 0..shown.queues_count(spot.place, spot.cell) {
-        write_queue(pen, stack, shown, layer, name, is_array, spot, queue, out)?;
+        write_queue(pen, stack, shown, queues, spot, queue, out)?;
     }
     Ok(())
 }
@@ -118,11 +105,25 @@ fn write_cell<O: Sink>(
         Form::Queue {
             capacity: _,
             items: _,
-        } => { write_queues(pen, stack, shown, layer, &cell.name, false, spot, out) }
+        } => {
+            let queues = Queues {
+                layer,
+                name: &cell.name,
+                is_array: false,
+            };
+            write_queues(pen, stack, shown, queues, spot, out)
+        }
         Form::Queues {
             capacity: _,
             items: _,
-        } => { write_queues(pen, stack, shown, layer, &cell.name, true, spot, out) }
+        } => {
+            let queues = Queues {
+                layer,
+                name: &cell.name,
+                is_array: true,
+            };
+            write_queues(pen, stack, shown, queues, spot, out)
+        }
     }
 }
 

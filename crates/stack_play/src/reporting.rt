@@ -23,9 +23,7 @@ use crate::run::{Opened, Run};
 use event_graph::Stack;
 use msg_core::Memory;
 use outside::{Sink, SinkError};
-use packet_plans::Plans;
-use report_lines::NamedStack;
-use report_text::{Pen, member_of, write_end, write_event, write_visits};
+use report_text::{Manner, Outcome, Pen, member_of, write_end, write_event, write_visits};
 use script_mean::{Script, ScriptEvent};
 use std::alloc::Global;
 use step_outputs::an_accepted_stack_is_light;
@@ -54,7 +52,12 @@ pub fn play<O: Sink>(
                 plans,
                 mut run,
             } = opened;
-            let wrote = write_report(&stack, &plans, &mut run, script, wire, count, out);
+            let manner = Manner {
+                stack: &stack,
+                plans: &plans,
+                wire,
+            };
+            let wrote = write_report(manner, &mut run, script, count, out);
             run.close();
             with_room(wrote)
         }
@@ -64,21 +67,20 @@ pub fn play<O: Sink>(
 
 /// Writes the report of a run that begins.
 fn write_report<O: Sink>(
-    stack: &NamedStack,
-    plans: &Plans,
+    manner: Manner<'_>,
     run: &mut Run,
     script: &Script,
-    wire: bool,
     count: bool,
     out: &mut O,
 ) -> Result<(), SinkError>
-    requires first { IsAtFirst (stack_tree stack.now) (plans_tree plans.now) script.now.group script.now.stamp script.now.members run.old }
+    requires first { IsAtFirst (stack_tree manner.stack.now) (plans_tree manner.plans.now) script.now.group script.now.stamp
+        script.now.members run.old }
     requires runs { IsRunnable script.now }
     requires few { length script.now.events ≤ most_events }
-    ensures { Wrote (output_in (stack_tree stack.now) (plans_tree plans.now) script.now layered wire count)
+    ensures { Wrote (output_in (stack_tree manner.entry.stack.now) (plans_tree manner.entry.plans.now) script.now layered manner.entry.wire count)
         (output_of O.Sink out.old) (output_of O.Sink out.new) result }
 {
-    write_events(stack, plans, run, script, wire, out)?;
+    write_events(manner, run, script, out)?;
     let events = script.events.slice().len() as u64;
     write_last(&mut run.pen, events, count, run.visits, out)
 }
@@ -105,64 +107,59 @@ fn write_last<O: Sink>(
 
 /// Plays all events of a script, and writes the lines of each.
 fn write_events<O: Sink>(
-    stack: &NamedStack,
-    plans: &Plans,
+    manner: Manner<'_>,
     run: &mut Run,
     script: &Script,
-    wire: bool,
     out: &mut O,
 ) -> Result<(), SinkError>
-    requires first { IsAtFirst (stack_tree stack.now) (plans_tree plans.now) script.now.group script.now.stamp script.now.members run.old }
+    requires first { IsAtFirst (stack_tree manner.stack.now) (plans_tree manner.plans.now) script.now.group script.now.stamp
+        script.now.members run.old }
     requires runs { IsRunnable script.now }
     requires few { length script.now.events ≤ most_events }
-    ensures lines { Wrote (flat_map (moment_lines (stack_tree stack.now) (plans_tree plans.now) (mode_if wire layered))
-        (run_of (stack_tree stack.now) (plans_tree plans.now) script.now))
+    ensures lines { Wrote
+        (flat_map (moment_lines (stack_tree manner.entry.stack.now) (plans_tree manner.entry.plans.now) (mode_if manner.entry.wire layered))
+        (run_of (stack_tree manner.entry.stack.now) (plans_tree manner.entry.plans.now) script.now))
         (output_of O.Sink out.old) (output_of O.Sink out.new) result }
     ensures visits { OnOk result (run.new.visits
-        ≡ sum_by (visits_of layered (stack_tree stack.now) (plans_tree plans.now)) (run_of (stack_tree stack.now) (plans_tree plans.now) script.now)) }
+        ≡ sum_by (visits_of layered (stack_tree manner.entry.stack.now) (plans_tree manner.entry.plans.now))
+        (run_of (stack_tree manner.entry.stack.now) (plans_tree manner.entry.plans.now) script.now)) }
 {
     for event in script.events.slice() {
-        play_event(stack, plans, run, event, wire, out)?;
+        play_event(manner, run, event, out)?;
     }
     Ok(())
 }
 
 /// Plays an event, and writes its lines.
 fn play_event<O: Sink>(
-    stack: &NamedStack,
-    plans: &Plans,
+    manner: Manner<'_>,
     run: &mut Run,
     event: &ScriptEvent,
-    wire: bool,
     out: &mut O,
 ) -> Result<(), SinkError>
-    requires ready { IsReady (stack_tree stack.now) (plans_tree plans.now) run.old }
+    requires ready { IsReady (stack_tree manner.stack.now) (plans_tree manner.plans.now) run.old }
     requires world { SomeWorld run.old }
     requires member { member_of event.now < length run.old.world.members }
     requires visits { run.old.visits ≤ 2 ^ 63 }
-    ensures kept { Keeps (stack_tree stack.now) (plans_tree plans.now) run.old run.new }
+    ensures kept { Keeps (stack_tree manner.entry.stack.now) (plans_tree manner.entry.plans.now) run.old run.new }
     ensures told { (w : mean.World) → Stands run.old.world w →
-        TellsEvent (stack_tree stack.now) (plans_tree plans.now) wire w event.now run.old run.new
+        TellsEvent (stack_tree manner.entry.stack.now) (plans_tree manner.entry.plans.now) manner.entry.wire w event.now run.old run.new
         (output_of O.Sink out.old) (output_of O.Sink out.new) result }
 {
     let first = run.world.next_number();
     match run.world.feed(event, &mut run.outputs, &mut run.visits) {
         Ok(did) => {
-            an_accepted_stack_is_light(stack.stack());
+            an_accepted_stack_is_light(manner.stack.stack());
             run.outputs.has_places_for_all();
             let shown = run.world.shown(member_of(event));
-            write_event(
-                &mut run.pen,
-                stack,
-                plans,
+            let outcome = Outcome {
                 event,
                 did,
-                &run.outputs,
-                &shown,
+                outputs: &run.outputs,
+                shown: &shown,
                 first,
-                wire,
-                out,
-            )
+            };
+            write_event(&mut run.pen, manner, &outcome, out)
         }
         Err(Memory) => Err(SinkError::Memory),
     }

@@ -10,6 +10,6 @@ use Rattle.report_text.proofs.cells.build_queue.Goals as goal
 pub returns : goal.returns
 returns c =
     in_other_words _ _ _ _ _
-    (queue_parts c.args.is_array c.args.spot.id c.args.spot.place (layer_tree c.args.layer.now) c.args.name.now
+    (queue_parts c.args.queues.is_array c.args.spot.id c.args.spot.place (layer_tree c.args.queues.layer.now) c.args.queues.name.now
     (rows_text (stack_tree c.args.stack.now) (rows_at (state_shown c.args.shown.now c.args.spot.place) c.args.spot.cell c.args.queue)) c.args.queue)
     c.push_queue.ensures

@@ -10,11 +10,13 @@ use Rattle.report_text.proofs.event.write_event.Goals as goal
 
 pub returns-in-Stepped : goal.returns-in-Stepped
 returns-in-Stepped g c =
+    let manner = c.args.manner in
+    let outcome = c.args.outcome.now in
     wrote_as _ _ _ _ _
-    (ap (λ id. stepped_lines (stack_tree c.args.stack.now) (full_annex c.args.wire) id c.args.first c.args.outputs.now.outputs c.in-Stepped.stepped)
+    (ap (λ id. stepped_lines (stack_tree manner.stack.now) (full_annex manner.wire) id outcome.first outcome.outputs.now.outputs c.in-Stepped.stepped)
     c.member_of-id.ensures
-    ∙ full_stepped (stack_tree c.args.stack.now) (plans_tree c.args._plans.now) c.args.wire (member_of c.args.event.now) c.args.first
-    c.args.outputs.now.outputs c.in-Stepped.stepped c.requires.full
-    ∙ ap (λ did. told_lines (stack_tree c.args.stack.now) (plans_tree c.args._plans.now) c.args.wire c.args.event.now did
-    c.args.outputs.now.outputs c.args.shown.now c.args.first) (sym c.in-Stepped.is))
+    ∙ full_stepped (stack_tree manner.stack.now) (plans_tree manner.plans.now) manner.wire (member_of outcome.event.now) outcome.first
+    outcome.outputs.now.outputs c.in-Stepped.stepped c.requires.full
+    ∙ ap (λ did. told_lines (stack_tree manner.stack.now) (plans_tree manner.plans.now) manner.wire outcome.event.now did
+    outcome.outputs.now.outputs outcome.shown.now outcome.first) (sym c.in-Stepped.is))
     c.write_stepped.ensures

@@ -7,5 +7,5 @@ returns-in_err-put_output g c =
     let p = err_from_is_err_and c.from_residual.result c.from_residual.ensures.1 in
     rw (p.1, p.2) (wrote_part _ _ _ _ _ c.in_err-put_output.ensures)
 
-pub returns-then-wire : goal.returns-then-wire
-returns-then-wire g c = rw c.if-wire.true (wrote_both _ _ _ _ _ _ c.in_ok-put_output.ensures c.put_wire.ensures)
+pub returns-then-manner : goal.returns-then-manner
+returns-then-manner g c = rw c.if-manner.true (wrote_both _ _ _ _ _ _ c.in_ok-put_output.ensures c.put_wire.ensures)

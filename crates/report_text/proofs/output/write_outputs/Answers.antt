@@ -8,22 +8,26 @@ use Rattle.report_text.proofs.output.write_outputs.Goals as goal
 
 pub loop-k-preserved : goal.loop-k-preserved
 loop-k-preserved g c =
+    let manner = c.args.manner in
+    let issue = c.args.issue in
     let at = c.at-output.ensures ∙ ap (λ here. Some (output_meant here c.at-output.result)) (sym c.here-here.ensures) in
     record {
-      gained = outputs_gain (stack_tree c.args.stack.now) (full_annex c.args.wire) c.args.id c.args.first c.loop-k.k c.loop-k.number
-          c.args.outputs.now.outputs (output_meant c.here-here.result c.at-output.result) _ _ _
+      gained = outputs_gain (stack_tree manner.stack.now) (full_annex manner.wire) issue.id issue.first c.loop-k.k c.loop-k.number
+          issue.outputs.now.outputs (output_meant c.here-here.result c.at-output.result) _ _ _
           c.loop-k.invariant.gained c.in_ok-write_output.ensures c.loop-k.invariant.numbered
           (omega (arith, c.loop-k-test.true, c.len-k-end.ensures)) at;
-      numbered = number_more c.args.outputs.now.outputs c.args.first c.loop-k.k c.loop-k.number _ _
+      numbered = number_more issue.outputs.now.outputs issue.first c.loop-k.k c.loop-k.number _ _
           c.loop-k.invariant.numbered c.number_behind-number.ensures.is (omega (arith, c.loop-k-test.true, c.len-k-end.ensures)) at;
       few = omega (arith, c.number_behind-number.ensures.few, c.loop-k.invariant.few);
     }
 
 pub returns-in_err-write_output : goal.returns-in_err-write_output
 returns-in_err-write_output g c =
+    let manner = c.args.manner in
+    let issue = c.args.issue in
     let at = c.at-output.ensures ∙ ap (λ here. Some (output_meant here c.at-output.result)) (sym c.here-here.ensures) in
     let p = err_from_is_err_and c.from_residual.result c.from_residual.ensures.1 in
-    rw (p.1, p.2) (outputs_cut (stack_tree c.args.stack.now) (full_annex c.args.wire) c.args.id c.args.first c.loop-k.k c.loop-k.number
-    c.args.outputs.now.outputs (output_meant c.here-here.result c.at-output.result) _ _ _ _
+    rw (p.1, p.2) (outputs_cut (stack_tree manner.stack.now) (full_annex manner.wire) issue.id issue.first c.loop-k.k c.loop-k.number
+    issue.outputs.now.outputs (output_meant c.here-here.result c.at-output.result) _ _ _ _
     c.loop-k.invariant.gained c.in_err-write_output.ensures c.loop-k.invariant.numbered
     (omega (arith, c.loop-k-test.true, c.len-k-end.ensures)) at)

@@ -11,7 +11,7 @@ invariant-loop-k g l = record {
   gained : Gains
       (output_of g.O.Sink l.initial.out)
       (output_of g.O.Sink l.out)
-      (lines_of_outputs (stack_tree l.stack) (full_annex l.wire) l.id l.first (take l.k l.outputs.outputs));
-  numbered : l.number ≡ number_after l.first (take l.k l.outputs.outputs);
-  few : l.number ≤ l.first + l.k;
+      (lines_of_outputs (stack_tree l.manner.stack.now) (full_annex l.manner.wire) l.issue.id l.issue.first (take l.k l.issue.outputs.now.outputs));
+  numbered : l.number ≡ number_after l.issue.first (take l.k l.issue.outputs.now.outputs);
+  few : l.number ≤ l.issue.first + l.k;
 }

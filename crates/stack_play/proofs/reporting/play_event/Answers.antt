@@ -12,15 +12,17 @@ pub write_event-requires-clause-full : goal.write_event-requires-clause-full
 write_event-requires-clause-full g c =
     let old = c.args.run.now in
     let w = c.requires.world.world in
-    let h = happened (stack_tree c.args.stack.now) (plans_tree c.args.plans.now) w c.args.event.now old.world c.feed.new.self c.feed.new.out.outputs
-    old.visits c.feed.new.visits c.in-Ok.did c.requires.ready.stack_is c.requires.ready.plans_are (c.in-Ok.ensures.fed w c.requires.world.stands) in
+    let h = happened (stack_tree c.args.manner.stack.now) (plans_tree c.args.manner.plans.now) w c.args.event.now old.world c.feed.new.self
+    c.feed.new.out.outputs old.visits c.feed.new.visits c.in-Ok.did c.requires.ready.stack_is c.requires.ready.plans_are
+    (c.in-Ok.ensures.fed w c.requires.world.stands) in
     told_full _ _ _ _ _ _ _ h.told
 
 pub returns-in-Ok-clause-told : goal.returns-in-Ok-clause-told
 returns-in-Ok-clause-told g c = λ w stands.
     let old = c.args.run.now in
     let new : Run = record { world = c.feed.new.self; outputs = c.feed.new.out; visits = c.feed.new.visits; pen = c.write_event.new.pen } in
-    let h = happened (stack_tree c.args.stack.now) (plans_tree c.args.plans.now) w c.args.event.now old.world c.feed.new.self c.feed.new.out.outputs
-    old.visits c.feed.new.visits c.in-Ok.did c.requires.ready.stack_is c.requires.ready.plans_are (c.in-Ok.ensures.fed w stands) in
-    told_event _ _ c.args.wire w c.args.event.now old new c.in-Ok.did h _ _ _ _ c.write_event.result
+    let h = happened (stack_tree c.args.manner.stack.now) (plans_tree c.args.manner.plans.now) w c.args.event.now old.world c.feed.new.self
+    c.feed.new.out.outputs old.visits c.feed.new.visits c.in-Ok.did c.requires.ready.stack_is c.requires.ready.plans_are
+    (c.in-Ok.ensures.fed w stands) in
+    told_event _ _ c.args.manner.wire w c.args.event.now old new c.in-Ok.did h _ _ _ _ c.write_event.result
     (c.shown-shown.ensures ∙ ap (λ id. slice_index_or c.feed.new.self.members id out) c.member_of.ensures) c.next_number-first.ensures.number stands c.write_event.ensures

@@ -9,7 +9,8 @@ pub loop-event-preserved : goal.loop-event-preserved
 loop-event-preserved g c =
     let script = c.args.script.now in
     let lt : c.loop-event.event-index < length script.events = omega (arith, c.loop-event-test.true, ap length c.slice-event-items.ensures) in
-    held_more (stack_tree c.args.stack.now) (plans_tree c.args.plans.now) script c.args.wire c.loop-event.event-index c.event-item.result lt
+    held_more (stack_tree c.args.manner.stack.now) (plans_tree c.args.manner.plans.now) script c.args.manner.wire c.loop-event.event-index
+    c.event-item.result lt
     (c.event-item.is ∙ ap (λ es. get_or es c.loop-event.event-index c.event-item.result) c.slice-event-items.ensures) _ _ _ _ _ c.loop-event.invariant
     c.in_ok-play_event.ensures.kept (c.in_ok-play_event.ensures.told _ c.loop-event.invariant.stands.world)
 
@@ -18,6 +19,7 @@ returns-in_err-play_event-clause-lines g c =
     let script = c.args.script.now in
     let lt : c.loop-event.event-index < length script.events = omega (arith, c.loop-event-test.true, ap length c.slice-event-items.ensures) in
     let p = err_from_is_err_and c.from_residual.result c.from_residual.ensures.1 in
-    rw (p.1, p.2) (held_cut (stack_tree c.args.stack.now) (plans_tree c.args.plans.now) script c.args.wire c.loop-event.event-index c.event-item.result lt
+    rw (p.1, p.2) (held_cut (stack_tree c.args.manner.stack.now) (plans_tree c.args.manner.plans.now) script c.args.manner.wire
+    c.loop-event.event-index c.event-item.result lt
     (c.event-item.is ∙ ap (λ es. get_or es c.loop-event.event-index c.event-item.result) c.slice-event-items.ensures) _ _ _ _ _ c.loop-event.invariant
     (c.in_err-play_event.ensures.told _ c.loop-event.invariant.stands.world))

@@ -5,6 +5,6 @@ use Rattle.stack_play.proofs.Held.{Held}
 use Rattle.stack_play.proofs.reporting.write_events.Given as goal
 
 abbrev pub invariant-loop-event : goal.invariant-loop-event
-invariant-loop-event g l = Held (stack_tree l.stack) (plans_tree l.plans) l.wire l.script l.event-index l.run
+invariant-loop-event g l = Held (stack_tree l.manner.stack.now) (plans_tree l.manner.plans.now) l.manner.wire l.script l.event-index l.run
     (output_of g.O.Sink l.initial.out)
     (output_of g.O.Sink l.out)

@@ -13,7 +13,8 @@ use Rattle.stack_play.proofs.reporting.write_report.Goals as goal
 pub returns-in_err-write_events : goal.returns-in_err-write_events
 returns-in_err-write_events g c =
     let p = err_from_is_err_and c.from_residual.result c.from_residual.ensures.1 in
-    rw (p.1, p.2) (part_of _ _ _ _ _ _ (output_is (stack_tree c.args.stack.now) (plans_tree c.args.plans.now) c.args.script.now c.args.wire c.args.count)
+    rw (p.1, p.2) (part_of _ _ _ _ _ _
+    (output_is (stack_tree c.args.manner.stack.now) (plans_tree c.args.manner.plans.now) c.args.script.now c.args.manner.wire c.args.count)
     c.in_err-write_events.ensures.lines)
 
 pub returns : goal.returns
@@ -23,7 +24,7 @@ returns g c =
     let events = ap length c.slice.ensures in
     let visits = c.in_ok-write_events.ensures.visits in
     wrote_as _ _ _ _ c.write_last.result
-    (sym (output_is (stack_tree c.args.stack.now) (plans_tree c.args.plans.now) c.args.script.now c.args.wire c.args.count))
+    (sym (output_is (stack_tree c.args.manner.stack.now) (plans_tree c.args.manner.plans.now) c.args.script.now c.args.manner.wire c.args.count))
     (wrote_both _ _ _ _ _ c.write_last.result c.in_ok-write_events.ensures.lines
     (subst {A = ℕ × ℕ} (λ x. Wrote (end_line x.0 ∷ visits_if c.args.count x.1) before after c.write_last.result) (λ k. (events k, visits k))
     c.write_last.ensures))

@@ -1,0 +1,34 @@
+//! How lines are written, and what of.
+
+use member_shown::Shown;
+use packet_plans::Plans;
+use report_lines::NamedStack;
+use script_mean::ScriptEvent;
+use step_outputs::Outputs;
+use view_core::Did;
+
+/// How the lines of a run are written: by the names of its stack, and with the bytes of each packet behind its line where that is wanted.
+#[derive(Clone, Copy)]
+pub struct Manner<'a> {
+    pub stack: &'a NamedStack,
+    pub plans: &'a Plans,
+    pub wire: bool,
+}
+
+/// What an event of a script came to: what was done, what came out, the member that it names, and the number of the first packet.
+#[derive(Clone, Copy)]
+pub struct Outcome<'a> {
+    pub event: &'a ScriptEvent,
+    pub did: Did,
+    pub outputs: &'a Outputs,
+    pub shown: &'a Shown<'a>,
+    pub first: u64,
+}
+
+/// What came out of a member's step, and the number of the first packet.
+#[derive(Clone, Copy)]
+pub(crate) struct Issue<'a> {
+    pub id: u8,
+    pub first: u64,
+    pub outputs: &'a Outputs,
+}
