@@ -1,5 +1,7 @@
 //! What a node is to do, and how far it is.
 
+ghost use Rattle.packet_mean.specs.ChainedState.{IsNumber};
+
 use packet_plans::Plans;
 use report_lines::NamedStack;
 use script_mean::NodePlan;
@@ -14,9 +16,15 @@ pub struct Course<'a> {
     pub turns: u32,
 }
 
-/// How many failed receives may yet be borne, and which line of the plan comes next.
+/// The number of the turn, how many failed receives may yet be borne, and which line of the plan comes next.
 #[derive(Clone, Copy)]
 pub struct Progress {
+    pub turn: u32,
     pub patience: u32,
     pub next: usize,
 }
+
+/// A number of a plan, or of a turn, has 32 bits.
+pub(crate) fn number_fits(number: u32)
+    ensures { IsNumber number }
+{}

@@ -25,6 +25,14 @@ use sink_lines::put_line;
 use step_outputs::PacketView;
 use view_core::MOST_MEMBERS;
 
+/// A datagram on its way out: who sends it, and the number of its packet.
+#[derive(Clone, Copy)]
+struct Sending<'a> {
+    from: u8,
+    number: u64,
+    bytes: &'a [u8],
+}
+
 /// Puts the line of a sending that failed.
 fn write_lost<O: Sink>(line: &mut Line, number: u64, out: &mut O) -> Result<(), SinkError>
     ensures { Wrote (losses.lost_line number ∷ []) (output_of O.Sink out.old) (output_of O.Sink out.new) result }
@@ -39,22 +47,20 @@ fn write_lost<O: Sink>(line: &mut Line, number: u64, out: &mut O) -> Result<(), 
 /// Hands a datagram on to a member; where that fails, a line says so.
 fn send_to<O: Sink, N: Links>(
     line: &mut Line,
-    from: u8,
+    sending: Sending<'_>,
     to: u8,
-    number: u64,
-    bytes: &[u8],
     out: &mut O,
     links: &mut N,
 ) -> Result<(), SinkError>
-    requires peer { IsSomeAnd (N.listening links.old from) (λ peers. to < peers) }
-    requires size { length bytes.now ≤ MOST_BYTES }
-    ensures handed { Handles (sending_acts number (sent_to from bytes.now to ∷ []))
+    requires peer { IsSomeAnd (N.listening links.old sending.from) (λ peers. to < peers) }
+    requires size { length sending.bytes.now ≤ MOST_BYTES }
+    ensures handed { Handles (sending_acts sending.entry.number (sent_to sending.entry.from sending.entry.bytes.now to ∷ []))
         (around O.Sink N.Links out.old links.old) (around O.Sink N.Links out.new links.new) result }
     ensures listening { (m : ℕ) → N.listening links.new m ≡ N.listening links.old m }
 {
-    match links.send(from, to, bytes) {
+    match links.send(sending.from, to, sending.bytes) {
         Ok(()) => Ok(()),
-        Err(LinkError::Failed) => write_lost(line, number, out),
+        Err(LinkError::Failed) => write_lost(line, sending.number, out),
         Err(LinkError::Memory) => Err(SinkError::Memory),
     }
 }
@@ -63,20 +69,18 @@ fn send_to<O: Sink, N: Links>(
 fn send_to_others<O: Sink, N: Links>(
     line: &mut Line,
     view: View,
-    from: u8,
-    number: u64,
-    bytes: &[u8],
+    sending: Sending<'_>,
     out: &mut O,
     links: &mut N,
 ) -> Result<(), SinkError>
-    requires peers { IsSomeAnd (N.listening links.old from) (λ peers. AllByRecursion (MayTake bytes.now peers) (receivers from view All)) }
-    ensures handed { Handles (sending_acts number (map (sent_to from bytes.now) (receivers from view All)))
+    requires peers { IsSomeAnd (N.listening links.old sending.from) (λ peers. AllByRecursion (MayTake sending.bytes.now peers) (receivers sending.from view All)) }
+    ensures handed { Handles (sending_acts sending.entry.number (map (sent_to sending.entry.from sending.entry.bytes.now) (receivers sending.entry.from view All)))
         (around O.Sink N.Links out.old links.old) (around O.Sink N.Links out.new links.new) result }
     ensures listening { (m : ℕ) → N.listening links.new m ≡ N.listening links.old m }
 {
     for to in 0..MOST_MEMBERS {
-        if has(view, to) && to != from {
-            send_to(line, from, to, number, bytes, out, links)?;
+        if has(view, to) && to != sending.from {
+            send_to(line, sending, to, out, links)?;
         }
     }
     Ok(())
@@ -97,21 +101,19 @@ fn send_to_all_of<O: Sink, N: Links>(
     line: &mut Line,
     view: View,
     dest: Dest,
-    from: u8,
-    number: u64,
-    bytes: &[u8],
+    sending: Sending<'_>,
     out: &mut O,
     links: &mut N,
 ) -> Result<(), SinkError>
-    requires peers { IsSomeAnd (N.listening links.old from) (λ peers. AllByRecursion (MayTake bytes.now peers) (receivers from view dest)) }
-    ensures handed { Handles (sending_acts number (map (sent_to from bytes.now) (receivers from view dest)))
+    requires peers { IsSomeAnd (N.listening links.old sending.from) (λ peers. AllByRecursion (MayTake sending.bytes.now peers) (receivers sending.from view dest)) }
+    ensures handed { Handles (sending_acts sending.entry.number (map (sent_to sending.entry.from sending.entry.bytes.now) (receivers sending.entry.from view dest)))
         (around O.Sink N.Links out.old links.old) (around O.Sink N.Links out.new links.new) result }
     ensures listening { (m : ℕ) → N.listening links.new m ≡ N.listening links.old m }
 {
     match dest {
-        Dest::All => send_to_others(line, view, from, number, bytes, out, links),
+        Dest::All => send_to_others(line, view, sending, out, links),
         Dest::Rank(rank) => match member_at(view, rank) {
-            Some(to) => send_to(line, from, to, number, bytes, out, links),
+            Some(to) => send_to(line, sending, to, out, links),
             None => Ok(()),
         },
     }
@@ -137,16 +139,15 @@ pub(crate) fn hand_on<O: Sink, N: Links>(
     ensures listening { (m : ℕ) → N.listening links.new m ≡ N.listening links.old m }
 {
     match spell(&mut tools.bytes, here, packet) {
-        Ok(()) => send_to_all_of(
-            &mut tools.line,
-            here.view,
-            packet.dest,
-            id,
-            number,
-            &tools.bytes,
-            out,
-            links,
-        ),
+        Ok(()) => {
+            let sending = Sending {
+                from: id,
+                number,
+                bytes: &tools.bytes,
+            };
+            let line = &mut tools.line;
+            send_to_all_of(line, here.view, packet.dest, sending, out, links)
+        }
         Err(Memory) => Err(SinkError::Memory),
     }
 }

@@ -6,7 +6,6 @@ ghost use Rattle.stack_mean.specs.Acceptance.{largest_weight};
 ghost use Rattle.stack_mean.specs.Plans.{plans_of};
 ghost use Rattle.chain_laws.specs.Runs.{TypedStack};
 ghost use Rattle.event_graph.specs.Answer.{stack_tree};
-ghost use Rattle.packet_mean.specs.ChainedState.{IsNumber};
 ghost use Rattle.node_laws.specs.Stages.{AreOrdered, from_turn};
 ghost use Rattle.node_loop.specs.Around.{around};
 ghost use Rattle.node_loop.specs.Course.{Begun, Made, SoFar, course_of, now, plans_in, stack_in};
@@ -15,7 +14,7 @@ ghost use Rattle.node_loop.specs.Listening.{ListensAll};
 ghost use Rattle.node_loop.specs.Serve.{Serves, first_of_plan, layered_words, whereabouts};
 ghost use Rattle.world_core.specs.Standing.{Stands};
 
-use crate::course::{Course, Progress};
+use crate::course::{Course, Progress, number_fits};
 use crate::desk::Desk;
 use crate::error::{NodeError, cut};
 use crate::tools::Tools;
@@ -75,11 +74,6 @@ fn listen_all<N: Links>(peers: &[Peer], me: &[u8], links: &mut N) -> Result<(), 
     Ok(())
 }
 
-/// A number of a plan has 32 bits.
-fn number_fits(number: u32)
-    ensures { IsNumber number }
-{}
-
 /// Makes all turns.
 fn make_turns<F: Feed, O: Sink, N: Links, C: Clock>(
     feed: &mut F,
@@ -102,9 +96,14 @@ fn make_turns<F: Feed, O: Sink, N: Links, C: Clock>(
         (now (F.group feed.new) desk.new (around O.Sink N.Links out.new links.new) (C.told clock.new)) result }
     ensures listening { (m : ℕ) → N.listening links.new m ≡ N.listening links.old m }
 {
-    let mut progress = Progress { patience, next: 0 };
+    let mut progress = Progress {
+        turn: 0,
+        patience,
+        next: 0,
+    };
     for t in 0..course.turns {
-        turn(feed, course, desk, t, &mut progress, out, links, clock)?;
+        progress.turn = t;
+        turn(feed, course, desk, &mut progress, out, links, clock)?;
     }
     Ok(())
 }

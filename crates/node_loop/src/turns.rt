@@ -15,7 +15,7 @@ ghost use Rattle.node_loop.specs.Bearing.{Bears};
 ghost use Rattle.node_loop.specs.Course.{Advances, Begun, FedOn, Hears, SoFar, Within, course_of, now, plans_in, stack_in};
 ghost use Rattle.node_loop.specs.Feeding.{IsOwn, IsUp, RestsAgain};
 
-use crate::course::{Course, Progress};
+use crate::course::{Course, Progress, number_fits};
 use crate::desk::Desk;
 use crate::error::{NodeError, cut};
 use crate::feeding::feed_on;
@@ -235,36 +235,37 @@ pub(crate) fn turn<F: Feed, O: Sink, N: Links, C: Clock>(
     feed: &mut F,
     course: Course<'_>,
     desk: &mut Desk,
-    t: u32,
     progress: &mut Progress,
     out: &mut O,
     links: &mut N,
     clock: &mut C,
 ) -> Result<(), NodeError>
     requires up { IsUp (stack_in course) (plans_in course) (F.group feed.old) desk.old (N.listening links.old) course.me.now }
-    requires turns { t < course.turns }
+    requires turns { progress.old.turn < course.turns }
     requires own { AllByRecursion (λ entry. IsOwn entry.1) course.plan.now.turns }
     requires ordered { AreOrdered 0 course.plan.now.turns }
-    requires passed { AllByRecursion (λ entry. entry.0 < t) (take progress.old.next course.plan.now.turns) }
+    requires passed { AllByRecursion (λ entry. entry.0 < progress.old.turn) (take progress.old.next course.plan.now.turns) }
     requires within { progress.old.next ≤ length course.plan.now.turns }
-    requires due { AllByRecursion (λ entry. t ≤ entry.0) (drop progress.old.next course.plan.now.turns) }
+    requires due { AllByRecursion (λ entry. progress.old.turn ≤ entry.0) (drop progress.old.next course.plan.now.turns) }
     requires members { length course.me.now ≤ 32 }
-    requires few { desk.old.events ≤ 64 * t + progress.old.next }
+    requires few { desk.old.events ≤ 64 * progress.old.turn + progress.old.next }
     ensures told { (b : Begun) (borne : ℕ) →
         borne + progress.old.patience ≡ b.patience →
-        SoFar (stack_in course.entry) (plans_in course.entry) (course_of course.entry) b t (t * length course.entry.me.now) (from_turn (course_of course.entry) t progress.old.patience) borne
+        SoFar (stack_in course.entry) (plans_in course.entry) (course_of course.entry) b progress.old.turn (progress.old.turn * length course.entry.me.now) (from_turn (course_of course.entry) progress.old.turn progress.old.patience) borne
         (now (F.group feed.old) desk.old (around O.Sink N.Links out.old links.old) (C.told clock.old)) →
-        Hears (stack_in course.entry) (plans_in course.entry) (course_of course.entry) b (t + 1) (t * length course.entry.me.now) ((t + 1) * length course.entry.me.now)
-        (from_turn (course_of course.entry) (t + 1)) progress.new.patience
+        Hears (stack_in course.entry) (plans_in course.entry) (course_of course.entry) b (progress.old.turn + 1) (progress.old.turn * length course.entry.me.now) ((progress.old.turn + 1) * length course.entry.me.now)
+        (from_turn (course_of course.entry) (progress.old.turn + 1)) progress.new.patience
         (now (F.group feed.new) desk.new (around O.Sink N.Links out.new links.new) (C.told clock.new)) result }
     ensures rests { OnOk result (RestsAgain (stack_in course.entry) (plans_in course.entry) (F.group feed.old) desk.old (F.group feed.new) desk.new) }
-    ensures passed { OnOk result (AllByRecursion (λ entry. entry.0 < t + 1) (take progress.new.next course.entry.plan.now.turns)) }
+    ensures passed { OnOk result (AllByRecursion (λ entry. entry.0 < progress.old.turn + 1) (take progress.new.next course.entry.plan.now.turns)) }
     ensures within { OnOk result (progress.new.next ≤ length course.entry.plan.now.turns) }
-    ensures due { OnOk result (AllByRecursion (λ entry. t + 1 ≤ entry.0) (drop progress.new.next course.entry.plan.now.turns)) }
-    ensures few { OnOk result (desk.new.events ≤ 64 * (t + 1) + progress.new.next) }
+    ensures due { OnOk result (AllByRecursion (λ entry. progress.old.turn + 1 ≤ entry.0) (drop progress.new.next course.entry.plan.now.turns)) }
+    ensures few { OnOk result (desk.new.events ≤ 64 * (progress.old.turn + 1) + progress.new.next) }
     ensures listening { (m : ℕ) → N.listening links.new m ≡ N.listening links.old m }
 {
     let _entries = course.plan.turns.slice();
+    let t = progress.turn;
+    number_fits(t);
     let moment = clock.now();
     cut(tick_all(feed, course, desk, moment, out, links))?;
     ask_all(feed, course, desk, &mut progress.patience, out, links)?;

@@ -12,18 +12,18 @@ tick_all-requires-clause-few g c =
     let turns = c.slice-entries.type_inv in
     let entries = ap length c.slice-entries.ensures in
     let members = c.requires.members in
-    let t = c.ranges.t.fits in
+    let t = c.number_fits.ensures in
     omega (arith, few, next, turns.0, turns.1, entries, members, t)
 
 pub returns-in_err-cut-clause-told : goal.returns-in_err-cut-clause-told
 returns-in_err-cut-clause-told g c =
     let p = err_from_is_err_and c.from_residual.result c.from_residual.ensures.1 in
     rw (p.1, p.2) (λ b borne sum so.
-    ticks_end (stack_in c.args.course) (plans_in c.args.course) (course_of c.args.course) b c.args.t c.requires.turns c.args.progress.now.patience
+    ticks_end (stack_in c.args.course) (plans_in c.args.course) (course_of c.args.course) b c.args.progress.now.turn c.requires.turns c.args.progress.now.patience
     borne c.now-moment.result sum (g.F.Feed.group c.args.feed.now) (g.F.Feed.group c.tick_all.new.feed) c.args.desk.now c.tick_all.new.desk _ _
     (g.C.Clock.told c.args.clock.now) (g.C.Clock.told c.now-moment.new.self) c.now-moment.ensures.moment c.now-moment.ensures.kept so
     c.args.progress.now.patience c.tick_all.result _ (sym c.cut.ensures ∙ c.in_err-cut.was)
-    (λ m k borne clock within so. c.tick_all.ensures.told (course_of c.args.course) b m k c.args.t c.args.progress.now.patience borne clock within so))
+    (λ m k borne clock within so. c.tick_all.ensures.told (course_of c.args.course) b m k c.args.progress.now.turn c.args.progress.now.patience borne clock within so))
 
 pub ask_all-requires-clause-up : goal.ask_all-requires-clause-up
 ask_all-requires-clause-up g c =
@@ -37,7 +37,7 @@ ask_all-requires-clause-few g c =
     let turns = c.slice-entries.type_inv in
     let entries = ap length c.slice-entries.ensures in
     let members = c.requires.members in
-    let t = c.ranges.t.fits in
+    let t = c.number_fits.ensures in
     let ticks = on_well _ c.tick_all.result _ (sym c.cut.ensures ∙ c.in_ok-cut.was) c.tick_all.ensures.counted in
     omega (arith, few, next, turns.0, turns.1, entries, members, t, ticks)
 
@@ -45,13 +45,13 @@ pub returns-in_err-ask_all-clause-told : goal.returns-in_err-ask_all-clause-told
 returns-in_err-ask_all-clause-told g c =
     let p = err_from_is_err_and c.from_residual-in_err-ask_all.result c.from_residual-in_err-ask_all.ensures.1 in
     rw (p.1, p.2) (λ b borne sum so.
-    asks_end (stack_in c.args.course) (plans_in c.args.course) (course_of c.args.course) b c.args.t c.requires.turns c.args.progress.now.patience
+    asks_end (stack_in c.args.course) (plans_in c.args.course) (course_of c.args.course) b c.args.progress.now.turn c.requires.turns c.args.progress.now.patience
     borne c.now-moment.result sum (g.F.Feed.group c.args.feed.now) (g.F.Feed.group c.tick_all.new.feed) c.args.desk.now c.tick_all.new.desk _ _
     (g.C.Clock.told c.args.clock.now) (g.C.Clock.told c.now-moment.new.self) c.now-moment.ensures.moment c.now-moment.ensures.kept so
-    (subst (TickedOn (stack_in c.args.course) (plans_in c.args.course) (course_of c.args.course) b c.args.t c.requires.turns c.now-moment.result
+    (subst (TickedOn (stack_in c.args.course) (plans_in c.args.course) (course_of c.args.course) b c.args.progress.now.turn c.requires.turns c.now-moment.result
     c.args.progress.now.patience (g.F.Feed.group c.args.feed.now) (g.F.Feed.group c.tick_all.new.feed) c.args.desk.now c.tick_all.new.desk _ _)
     (well c.tick_all.result _ (sym c.cut.ensures ∙ c.in_ok-cut.was))
-    (λ m k borne clock within so. c.tick_all.ensures.told (course_of c.args.course) b m k c.args.t c.args.progress.now.patience borne clock within so))
+    (λ m k borne clock within so. c.tick_all.ensures.told (course_of c.args.course) b m k c.args.progress.now.turn c.args.progress.now.patience borne clock within so))
     c.ask_all.new.patience (g.F.Feed.group c.ask_all.new.feed) c.ask_all.new.desk _ _
     (λ c' b m k t borne clock sum within so. c.in_err-ask_all.ensures.told c' b m k t borne clock sum within so))
 
@@ -68,7 +68,7 @@ feed_planned-requires-clause-few g c =
     let turns = c.slice-entries.type_inv in
     let entries = ap length c.slice-entries.ensures in
     let members = c.requires.members in
-    let t = c.ranges.t.fits in
+    let t = c.number_fits.ensures in
     let ticks = on_well _ c.tick_all.result _ (sym c.cut.ensures ∙ c.in_ok-cut.was) c.tick_all.ensures.counted in
     let asks = c.in_ok-ask_all.ensures.counted in
     omega (arith, few, next, turns.0, turns.1, entries, members, t, ticks, asks)
@@ -81,13 +81,13 @@ returns-clause-rests g c = rw c.cut-2.ensures
 
 pub returns-clause-told : goal.returns-clause-told
 returns-clause-told g c = rw c.cut-2.ensures (λ b borne sum so.
-    turn_end (stack_in c.args.course) (plans_in c.args.course) (course_of c.args.course) b c.args.t c.requires.turns c.args.progress.now.patience
+    turn_end (stack_in c.args.course) (plans_in c.args.course) (course_of c.args.course) b c.args.progress.now.turn c.requires.turns c.args.progress.now.patience
     borne c.now-moment.result sum (g.F.Feed.group c.args.feed.now) (g.F.Feed.group c.tick_all.new.feed) c.args.desk.now c.tick_all.new.desk _ _
     (g.C.Clock.told c.args.clock.now) (g.C.Clock.told c.now-moment.new.self) c.now-moment.ensures.moment c.now-moment.ensures.kept so
-    (subst (TickedOn (stack_in c.args.course) (plans_in c.args.course) (course_of c.args.course) b c.args.t c.requires.turns c.now-moment.result
+    (subst (TickedOn (stack_in c.args.course) (plans_in c.args.course) (course_of c.args.course) b c.args.progress.now.turn c.requires.turns c.now-moment.result
     c.args.progress.now.patience (g.F.Feed.group c.args.feed.now) (g.F.Feed.group c.tick_all.new.feed) c.args.desk.now c.tick_all.new.desk _ _)
     (well c.tick_all.result _ (sym c.cut.ensures ∙ c.in_ok-cut.was))
-    (λ m k borne clock within so. c.tick_all.ensures.told (course_of c.args.course) b m k c.args.t c.args.progress.now.patience borne clock within so))
+    (λ m k borne clock within so. c.tick_all.ensures.told (course_of c.args.course) b m k c.args.progress.now.turn c.args.progress.now.patience borne clock within so))
     c.ask_all.new.patience (g.F.Feed.group c.ask_all.new.feed) c.ask_all.new.desk _ c.args.progress.now.next c.requires.passed
     (λ c' b m k t borne clock sum within so. c.in_ok-ask_all.ensures.told c' b m k t borne clock sum within so)
     (g.F.Feed.group c.feed_planned.new.feed) c.feed_planned.new.desk _ c.feed_planned.result
