@@ -3,6 +3,7 @@ use Rattle.std.specs.Prelude.{ℕ, Bool, List, [], ◌∷◌, Option, Some, None
 use Rattle.std.specs.List.{list_any}
 use Rattle.script_mean.specs.Words.{Word, words_of, body_of}
 use Rattle.script_mean.specs.Form.{Form, ◌>>=◌, one, a_word, a_number, a_number_within, ends}
+use Rattle.msg_core.specs.View.{last_member}
 
 -- what a line says: a member delivers a peer's cast with this body, is in a new view or is out; the number of events is told, or of
 -- visits; or it says nothing on which a law looks
@@ -14,9 +15,9 @@ pub data ReportLine : Type 0 where
   visits : ReportLine
   silent : ReportLine
 
--- a member, from 0 to 31
+-- a member
 abbrev pub a_member : Form ℕ
-a_member = a_number_within 0 31
+a_member = a_number_within 0 last_member
 
 -- a number of 64 bits, whatever it is
 abbrev pub a_long_number : Form ℕ

@@ -37,7 +37,7 @@ pub(crate) struct Took {
 pub(crate) fn here_of(group: u32, stamp: u32, view: View, id: u8) -> Here
     ensures here { result ≡ record { group = group; stamp = stamp; view = view; rank = option_map_or (λ r. r) (members.rank view id) 0 } }
     ensures numbers { (group < 2 ^ 32) × (stamp < 2 ^ 32) }
-    ensures few { result.rank < 32 }
+    ensures few { result.rank < members.most_members }
 {
     let _members = member_count(view);
     let rank = match rank(view, id) {

@@ -82,7 +82,7 @@ fn make_layers(
     requires places { places ≡ length (making maker.old).stack }
     requires typed { TypedStack (making maker.old).stack }
     requires made { (making maker.old).made ≤ 2 ^ 62 }
-    requires members { (me < count) × (count ≤ 32) }
+    requires members { (me < count) × (count ≤ members.most_members) }
     ensures all { MakesAll me count ltime (making maker.old) (making maker.new) result }
     ensures pool { IfOk result (λ _. pool.new ≡ pool.old) }
 {

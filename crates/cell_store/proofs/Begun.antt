@@ -23,6 +23,7 @@ use Rattle.cell_store.specs.Fresh.{kept_first, kept_form, tree_form, initial_val
 use Rattle.cell_store.specs.Frames.{numbers_for, queues_for, frame_in, first_numbers}
 use Rattle.cell_store.specs.Rings.{CellQueues}
 use Rattle.cell_store.specs.Slots.{framed, form_framed, slot_kept, slot_form, FitsFrame, AreLaid, AreFirst, AreSlots, frames_of, slot_rows, slot_first, slot_again}
+use Rattle.msg_core.specs.View.{most_members}
 
 -- a cell has no fewer numbers for more members
 pub more_numbers : (n most : ℕ) → n ≤ most → (frame : Frame) → numbers_for n frame ≤ numbers_for most frame
@@ -285,7 +286,7 @@ module _ {R : Type 0} where
   forms_kept block (s ∷ rest) = ap₂ (λ x xs. x ∷ xs) (kept_framed s.frame (take s.count (drop s.at block)) s.rings) (forms_kept block rest)
 
   pub again_slots : (me n ltime most capacity capacity' : ℕ) (cells : List CellTree) (block block' : List ℕ) (slots slots' : List (Slot R)) →
-      n ≤ most → most ≤ 32 → AreFirst me n ltime most cells block' slots' → map slot_form slots ≡ map (λ c. tree_form c.form) cells →
+      n ≤ most → most ≤ most_members → AreFirst me n ltime most cells block' slots' → map slot_form slots ≡ map (λ c. tree_form c.form) cells →
       sum_by (numbers_for most) (frames_of slots) ≤ capacity → capacity ≤ capacity' → AreSlots n most capacity' block' slots'
   again_slots me n ltime most capacity capacity' cells block block' slots slots' few most_few first forms room more = record {
     few = few;

@@ -12,27 +12,28 @@ use Rattle.cell_store.specs.Kept.{KeptCell, nothing_kept, numbers_kept}
 use Rattle.cell_store.specs.Rings.{CellQueues}
 use Rattle.cell_store.specs.Slots.{slot_kept, FitsFrame, AreLaid}
 use Rattle.cell_store.proofs.Laid.{lies, numbers_lie}
+use Rattle.msg_core.specs.View.{most_members}
 
-few_of : (most : ℕ) (shape : Shape) → most ≤ 32 → size_of most shape ≤ 1024
+few_of : (most : ℕ) (shape : Shape) → most ≤ most_members → size_of most shape ≤ 1024
 few_of most One few = omega arith
 few_of most Array few = omega arith
 few_of most Square few = let all = mul-le-mul few few in omega arith
 
 module _ {R : Type 0} where
-  numbers_few : (most count : ℕ) (frame : Frame) (qs : CellQueues R) → most ≤ 32 → FitsFrame most frame count qs → count ≤ 1024
+  numbers_few : (most count : ℕ) (frame : Frame) (qs : CellQueues R) → most ≤ most_members → FitsFrame most frame count qs → count ≤ 1024
   numbers_few most count (Numbers shape) qs few fits = let most = few_of most shape few in let here = fits.0 in omega arith
   numbers_few most count (Queues shape) qs few fits = let none = fits.0 in omega arith
 
-  queues_few : (most count : ℕ) (frame : Frame) (qs : CellQueues R) → most ≤ 32 → FitsFrame most frame count qs → length qs.rows ≤ qs.most →
+  queues_few : (most count : ℕ) (frame : Frame) (qs : CellQueues R) → most ≤ most_members → FitsFrame most frame count qs → length qs.rows ≤ qs.most →
       length qs.rows ≤ 1024
   queues_few most count (Numbers shape) qs few fits within = let none = ap length fits.1 in omega arith
   queues_few most count (Queues shape) qs few fits within = let most = few_of most shape few in let here = fits.1 in omega arith
 
-  pub few_numbers : (most at end c : ℕ) (slots : List (Slot R)) (s : Slot R) → most ≤ 32 → AreLaid most at end slots → slice_get slots c ≡ Some s →
+  pub few_numbers : (most at end c : ℕ) (slots : List (Slot R)) (s : Slot R) → most ≤ most_members → AreLaid most at end slots → slice_get slots c ≡ Some s →
       s.count ≤ 1024
   few_numbers most at end c slots s few laid is = numbers_few most s.count s.frame s.rings few (lies most at end slots c s laid is).fits
 
-  pub few_queues : (most at end c : ℕ) (slots : List (Slot R)) (s : Slot R) → most ≤ 32 → AreLaid most at end slots → slice_get slots c ≡ Some s →
+  pub few_queues : (most at end c : ℕ) (slots : List (Slot R)) (s : Slot R) → most ≤ most_members → AreLaid most at end slots → slice_get slots c ≡ Some s →
       length s.rings.rows ≤ s.rings.most → length s.rings.rows ≤ 1024
   few_queues most at end c slots s few laid is within =
       queues_few most s.count s.frame s.rings few (lies most at end slots c s laid is).fits within

@@ -12,6 +12,7 @@ use Rattle.cell_store.specs.Rings.{CellQueues}
 use Rattle.cell_store.specs.declared.slot.Frame.{Frame}
 use Rattle.cell_store.specs.declared.slot.Frame.TheVariants.{Numbers, Queues}
 use Rattle.cell_store.specs.declared.slot.Slot.{Slot}
+use Rattle.msg_core.specs.View.{most_members}
 
 -- The shape of a cell, and the capacity where it has queues; that or 0.
 abbrev pub form_framed : Frame → ℕ → Shape × Option ℕ
@@ -55,7 +56,7 @@ module _ {R : Type 0} where
   -- The cells lie in a block, whose memory holds the numbers of the most members.
   pub record AreSlots (n most capacity : ℕ) (block : List ℕ) (slots : List (Slot R)) : Type 0 where
     pub few : n ≤ most
-    pub most_few : most ≤ 32
+    pub most_few : most ≤ most_members
     pub laid : AreLaid most 0 (length block) slots
     pub room : sum_by (numbers_for most) (frames_of slots) ≤ capacity
 

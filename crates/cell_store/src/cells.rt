@@ -6,14 +6,12 @@ ghost use Rattle.layer_mean.specs.State.{flat_index};
 ghost use Rattle.typed_layer.specs.View.{layer_tree, form_tree};
 ghost use Rattle.cell_store.specs.Kept.{kept_at, numbers_kept, queues_kept, kept_number, kept_rows, kept_row, kept_capacity, keeps_room, with_kept_number, with_last, with_first, without_first, without_last, first_row, last_row, rows_in, emptied};
 ghost use Rattle.cell_store.specs.Fresh.{kept_first, kept_fresh, IsFor};
+ghost use Rattle.msg_core.specs.View.{most_members};
 
 use crate::slot::{self, Slot, slot_at};
 use std::alloc::{AllocError, Global};
 use std::marker::Model;
 use typed_layer::TypedLayer;
-
-/// The most members of a view.
-pub const MOST_MEMBERS: u32 = 32;
 
 /// The cells of one layer of one member, with the own rank, the number of members and the view's ltime. Rows are only moved in and out,
 /// so they may be of a type that can't be let go.
@@ -57,7 +55,7 @@ impl<R> Cells<R> {
         count: u32,
         ltime: u32,
     ) -> Result<Cells<R>, AllocError>
-        requires { count ≤ 32 }
+        requires { count ≤ most_members }
         ensures { IfOk result (λ c. c ≡ kept_fresh (layer_tree layer.now) me count ltime count) }
     {
         let (block, slots) = slot::begin_all(alloc, &layer.cells, me, count, ltime)?;
@@ -77,7 +75,7 @@ impl<R> Cells<R> {
         requires few { count ≤ self.old.most }
         requires empty { rows_in self.old ≡ [] }
         ensures fresh { self.new ≡ kept_fresh (layer_tree layer.now) me count ltime self.old.most }
-        ensures within { self.old.most ≤ 32 }
+        ensures within { self.old.most ≤ most_members }
     {
         self.me = me;
         self.count = count;
@@ -103,7 +101,7 @@ impl<R> Cells<R> {
     /// The number of members.
     pub fn count(&self) -> u32
         ensures count { result ≡ self.now.count }
-        ensures few { (result ≤ self.now.most) × (self.now.most ≤ 32) }
+        ensures few { (result ≤ self.now.most) × (self.now.most ≤ most_members) }
     {
         self.count
     }

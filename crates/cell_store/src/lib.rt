@@ -8,7 +8,7 @@ mod laws;
 mod rings;
 mod slot;
 
-pub use cells::{Cells, MOST_MEMBERS};
+pub use cells::Cells;
 pub use laws::{changes_are_seen, changes_are_undone, layers_stay, reads_are_seen, rows_weigh};
 #[doc(hidden)]
 pub use rings::Rings;

@@ -8,6 +8,7 @@ ghost use Rattle.cell_store.specs.Kept.{rows_of};
 ghost use Rattle.cell_store.specs.Fresh.{tree_form};
 ghost use Rattle.cell_store.specs.Frames.{frame_in, capacity_in, numbers_for, queues_for, first_numbers};
 ghost use Rattle.cell_store.specs.Slots.{slot_first, slot_again, slot_form, slot_capacity, slot_rows, frames_of, AreLaid, AreFirst, HasFirst};
+ghost use Rattle.msg_core.specs.View.{most_members};
 
 use crate::initial::initial_value;
 use crate::rings::Rings;
@@ -34,7 +35,7 @@ pub struct Slot<R> {
 impl<R> Slot<R> {
     /// A cell of a form at a place of the block, with all its queues.
     fn begin(alloc: Global, form: &Form, at: usize, count: u32) -> Result<Slot<R>, AllocError>
-        requires { count ≤ 32 }
+        requires { count ≤ most_members }
         ensures { IfOk result (λ s. s ≡ slot_first count count at (form_tree form.now)) }
     {
         let frame = frame_of(form);
@@ -49,7 +50,7 @@ impl<R> Slot<R> {
 
     /// Puts the numbers at another place of the block, and shows the empty queues of so many members.
     fn restart(&mut self, at: usize, count: u32)
-        requires few { count ≤ 32 }
+        requires few { count ≤ most_members }
         requires room { queues_for count self.old.frame ≤ self.old.rings.most }
         requires empty { rows_of self.old.rings.rows ≡ [] }
         ensures { self.new ≡ slot_again count at self.old }
@@ -99,7 +100,7 @@ fn capacity_of(form: &Form) -> u8
 
 /// How many numbers or queues a shape has for so many members.
 fn size_of(count: u32, shape: Shape) -> usize
-    requires { count ≤ 32 }
+    requires { count ≤ most_members }
     ensures { result ≡ size_of count shape }
 {
     match shape {
@@ -110,7 +111,7 @@ fn size_of(count: u32, shape: Shape) -> usize
 }
 
 fn numbers_in(frame: Frame, count: u32) -> usize
-    requires { count ≤ 32 }
+    requires { count ≤ most_members }
     ensures { result ≡ numbers_for count frame }
 {
     match frame {
@@ -120,7 +121,7 @@ fn numbers_in(frame: Frame, count: u32) -> usize
 }
 
 fn queues_in(frame: Frame, count: u32) -> usize
-    requires { count ≤ 32 }
+    requires { count ≤ most_members }
     ensures { result ≡ queues_for count frame }
 {
     match frame {
@@ -144,7 +145,7 @@ fn fill(
     count: u32,
     ltime: u32,
 ) -> Result<(), AllocError>
-    requires { count ≤ 32 }
+    requires { count ≤ most_members }
     ensures numbers { OnOk result (block.new.items ≡ block.old.items ++ first_numbers me count ltime (form_tree form.now)) }
     ensures full { OnErr result (vec_capacity block.old < length block.old.items + numbers_for count (frame_in (form_tree form.now))) }
     ensures capacity { vec_capacity block.old ≤ vec_capacity block.new }
@@ -166,7 +167,7 @@ fn fill_and_begin<R>(
     count: u32,
     ltime: u32,
 ) -> Result<Slot<R>, AllocError>
-    requires { count ≤ 32 }
+    requires { count ≤ most_members }
     ensures numbers { OnOk result (block.new.items ≡ block.old.items ++ first_numbers me count ltime (form_tree form.now)) }
     ensures slot { IfOk result (λ s. s ≡ slot_first count count (length block.old.items) (form_tree form.now)) }
 {
@@ -183,7 +184,7 @@ pub fn begin_all<R>(
     count: u32,
     ltime: u32,
 ) -> Result<(Vec<u32>, Vec<Slot<R>>), AllocError>
-    requires { count ≤ 32 }
+    requires { count ≤ most_members }
     ensures { IfOk result (λ made. AreFirst me count ltime count (map cell_tree cells.now) made.0.items made.1.items) }
 {
     let mut block = Vec::new(alloc);
@@ -210,7 +211,7 @@ pub fn restart_all<R>(
     ltime: u32,
     _most: u32,
 )
-    requires few { (count ≤ _most) × (_most ≤ 32) }
+    requires few { (count ≤ _most) × (_most ≤ most_members) }
     requires laid { AreLaid _most 0 (length block.old.items) slots.old.items }
     requires room { sum_by (numbers_for _most) (frames_of slots.old.items) ≤ vec_capacity block.old }
     requires forms { map slot_form slots.old.items ≡ map (λ c. tree_form c.form) (map cell_tree cells.now) }

@@ -3,6 +3,7 @@
 ghost use Rattle.std.specs.Prelude.{◌≡◌, true, is_ok};
 ghost use Rattle.stack_mean.specs.Acceptance.{accepted, largest_weight};
 ghost use Rattle.typed_layer.specs.Places.{typed_tree};
+ghost use Rattle.msg_core.specs.Headers.{most_places, most_fields};
 
 use crate::rows::rows_of;
 use std::rc::Rc;
@@ -32,8 +33,8 @@ impl Stack {
 
     /// That it has at most 24 places, and each header that its layers declare at most four numbers.
     pub fn is_within_limits(&self)
-        ensures places { length (stack_tree self.now) ≤ 24 }
-        ensures fields { All (λ layer. All (λ header. header.fields ≤ 4) layer.headers) (stack_tree self.now) }
+        ensures places { length (stack_tree self.now) ≤ most_places }
+        ensures fields { All (λ layer. All (λ header. header.fields ≤ most_fields) layer.headers) (stack_tree self.now) }
     {}
 
     /// How many tasks follow at most from an entry, itself counted.

@@ -1,4 +1,4 @@
--- The limits of a layer's text.
+-- The limits of a file, and of a layer's text. (Those of places, headers and rows stand beside the headers of messages.)
 use Rattle.std.specs.Prelude.{ℕ, Bool, true, ◌&&◌, nat_le, if◌then◌else◌, List, [], ◌∷◌, ◌++◌, flat_map, filter, drop}
 use Rattle.std.specs.Option.{option_map_or}
 use Rattle.layer_ast.specs.declared.names.At.{At}
@@ -6,10 +6,34 @@ use Rattle.layer_ast.specs.Tree.{DeclarationTree, rows_cell, rows_array, ItemTre
 use Rattle.file_faults.specs.Kinds.{a_number, allows}
 use Rattle.file_faults.specs.Places.{param_value}
 use Rattle.file_faults.specs.Scope.{layer_statements}
+use Rattle.msg_core.specs.Headers.{most_fields}
 
--- The numbers of a row beyond the fourth.
+-- The most layers of a file; the most params and cells of a layer, and the most handlers; the most names that a handler declares.
+abbrev pub most_layers : ℕ
+most_layers = 64
+
+abbrev pub most_params : ℕ
+most_params = 16
+
+abbrev pub most_cells : ℕ
+most_cells = 16
+
+abbrev pub most_handlers : ℕ
+most_handlers = 64
+
+abbrev pub most_names : ℕ
+most_names = 64
+
+-- The largest capacity of a queue, and the largest maximum of a loop.
+abbrev pub most_rows : ℕ
+most_rows = 64
+
+abbrev pub most_turns : ℕ
+most_turns = 32
+
+-- The numbers of a row beyond the most.
 abbrev pub numbers_beyond : List ItemTree → List ItemTree
-numbers_beyond items = drop 4 (filter (λ i. allows a_number i.sort) items)
+numbers_beyond items = drop most_fields (filter (λ i. allows a_number i.sort) items)
 
 -- The messages of a row that aren't its last item.
 abbrev pub messages_inside : List ItemTree → List ItemTree
@@ -26,14 +50,14 @@ pub record LimitedSize : Type 0 where
 abbrev pub is_within : ℕ → ℕ → Bool
 is_within most number = nat_le 1 number && nat_le number most
 
--- The capacity of a queue is at most 64, the maximum of a loop at most 32.
+-- The sizes of a declaration, and of a statement.
 abbrev pub capacity_in : DeclarationTree → List LimitedSize
-capacity_in (rows_cell at name capacity items) = record { size = capacity; most = 64 } ∷ []
-capacity_in (rows_array at name capacity items) = record { size = capacity; most = 64 } ∷ []
+capacity_in (rows_cell at name capacity items) = record { size = capacity; most = most_rows } ∷ []
+capacity_in (rows_array at name capacity items) = record { size = capacity; most = most_rows } ∷ []
 capacity_in _ = []
 
 abbrev pub maximum_in : StatementTree → List LimitedSize
-maximum_in (each at name below most block) = record { size = most; most = 32 } ∷ []
+maximum_in (each at name below most block) = record { size = most; most = most_turns } ∷ []
 maximum_in _ = []
 
 -- All sizes of a layer.

@@ -11,10 +11,11 @@ use Rattle.file_faults.specs.Declared.{declared_name, is_cell, is_header, is_par
 use Rattle.file_faults.specs.Earliest.{earliest, unless}
 use Rattle.file_faults.specs.Faults.{NameFault, unknown, twice, too_many, name_key, name_fault_at}
 use Rattle.file_faults.specs.Forms.{declared_as, items_of, labels_of, row_of}
-use Rattle.file_faults.specs.Limits.{LimitedSize, capacity_in, is_within_at, maximum_in, messages_inside, number_outside, numbers_beyond, sizes_in}
+use Rattle.file_faults.specs.Limits.{LimitedSize, capacity_in, is_within_at, maximum_in, messages_inside, number_outside, numbers_beyond, sizes_in, most_layers, most_params, most_cells, most_handlers, most_names}
 use Rattle.file_faults.specs.Places.{faults_of_layers, layer_at}
 use Rattle.file_faults.specs.Scope.{Scope, Standing, brought, handler_names, handler_statements, head_names, head_scope, is_visible, layer_scope, visible}
 use Rattle.file_faults.specs.Uses.{Use, of_name, of_label, uses, size_uses, statement_uses}
+use Rattle.msg_core.specs.Headers.{most_places, most_declared, most_fields}
 
 -- Those of these things that are the same as one before them in the list, or as one of the earlier things.
 abbrev pub repeated : {A : Type 0} → (A → A → Bool) → List A → List A → List A
@@ -66,19 +67,19 @@ declaration_name_faults layer declaration =
     ++ flat_map size_faults (capacity_in declaration)
     ++ row_faults (items_of declaration)
     ++ twice_among [] (labels_of declaration)
-    ++ too_many_of 4 (labels_of declaration)
+    ++ too_many_of most_fields (labels_of declaration)
 
 -- The names of those declarations of which a test holds.
 abbrev pub names_where : (DeclarationTree → Bool) → LayerTree → List Name
 names_where test layer = map declared_name (filter test layer.declarations)
 
--- The faults of a layer's own names: none is there twice, and there are at most 16 params, 16 cells and 7 headers.
+-- The faults of a layer's own names: none is there twice, and there are few params, cells and headers.
 abbrev pub declared_faults : LayerTree → List NameFault
 declared_faults layer =
     twice_among [] (map declared_name layer.declarations)
-    ++ too_many_of 16 (names_where is_param layer)
-    ++ too_many_of 16 (names_where is_cell layer)
-    ++ too_many_of 7 (names_where is_header layer)
+    ++ too_many_of most_params (names_where is_param layer)
+    ++ too_many_of most_cells (names_where is_cell layer)
+    ++ too_many_of most_declared (names_where is_header layer)
     ++ flat_map (declaration_name_faults layer) layer.declarations
 
 -- Whether two written headers are the same: none is one, and each name another.
@@ -104,22 +105,21 @@ abbrev pub expected_uses : Expected → List Use
 expected_uses (common condition) = uses condition
 expected_uses _ = []
 
--- The faults of a handler. The name of the header that it takes off is one of the layer's own names, and it declares at most 64
--- names.
+-- The faults of a handler. The name of the header that it takes off is one of the layer's own names, and it declares few names.
 abbrev pub handler_name_faults : LayerTree → HandlerTree → List NameFault
 handler_name_faults layer handler =
     uses_faults (layer_scope layer) (option_map_or (λ p. of_name p.name ∷ []) handler.popped [])
     ++ twice_among (visible (layer_scope layer)) (head_names handler)
     ++ uses_faults (head_scope layer handler) (expected_uses handler.expected)
     ++ flat_map statement_name_faults (handler_statements layer handler)
-    ++ too_many_of 64 (handler_names layer handler)
+    ++ too_many_of most_names (handler_names layer handler)
 
--- The faults of the names of a layer; it has at most 64 handlers, and no two of the same direction, kind and header.
+-- The faults of the names of a layer; it has few handlers, and no two of the same direction, kind and header.
 abbrev pub layer_name_faults : LayerTree → List NameFault
 layer_name_faults layer =
     declared_faults layer
     ++ map (λ h. twice h.at) (repeated same_events [] layer.handlers)
-    ++ map (λ h. too_many h.at) (drop 64 layer.handlers)
+    ++ map (λ h. too_many h.at) (drop most_handlers layer.handlers)
     ++ flat_map (handler_name_faults layer) layer.handlers
 
 -- The faults of a place that names this layer: it gives no param twice, what it gives are params of the layer, and each size that
@@ -134,13 +134,13 @@ place_faults_in place layer =
 abbrev pub place_faults : FileTree → PlaceTree → List NameFault
 place_faults file place = option_map_or (place_faults_in place) (layer_at file place) (unknown place.name.at ∷ [])
 
--- All faults of a file's names: a file has at most 64 layers, with no name twice, and at most 24 places.
+-- All faults of a file's names: a file has few layers, with no name twice, and few places.
 abbrev pub name_faults : FileTree → List NameFault
 name_faults file =
     twice_among [] (map (λ layer. layer.name) file.layers)
-    ++ too_many_of 64 (map (λ layer. layer.name) file.layers)
+    ++ too_many_of most_layers (map (λ layer. layer.name) file.layers)
     ++ faults_of_layers name_fault_at layer_name_faults file
-    ++ too_many_of 24 (map (λ place. place.name) file.places)
+    ++ too_many_of most_places (map (λ place. place.name) file.places)
     ++ flat_map (place_faults file) file.places
 
 -- The first fault of a file's names in text order, where there is one: of two at one place an unknown name comes first, then a

@@ -9,6 +9,7 @@ use Rattle.pool_message.specs.declared.part.Part.{Part}
 use Rattle.pool_message.specs.declared.row.PoolRow.{PoolRow}
 use Rattle.file_layer.specs.Stock.{queues_refs, cell_refs}
 use Rattle.file_layer.specs.Fits.{QueueFits, CellFits, rows_most}
+use Rattle.msg_core.specs.View.{most_members}
 
 pub body_few : (body : Option Part) → length (body_refs body) ≤ 1
 body_few None = omega arith
@@ -34,5 +35,5 @@ queues_few n (suc k) (q ∷ qs) many fit =
 pub cells_few : (cells : List (KeptCell PoolRow)) → AllByRecursion CellFits cells → length (flat_map cell_refs cells) ≤ rows_most (map capacity_of cells)
 cells_few [] fit = omega arith
 cells_few (cell ∷ cells) fit =
-    let first = queues_few (capacity_of cell) 32 (queues_kept cell) fit.0.0 fit.0.1 in let rest = cells_few cells fit.1 in
+    let first = queues_few (capacity_of cell) most_members (queues_kept cell) fit.0.0 fit.0.1 in let rest = cells_few cells fit.1 in
     omega (arith, length-append (cell_refs cell) (flat_map cell_refs cells))

@@ -11,13 +11,11 @@ use Rattle.pool_message.specs.Sent.{sent_refs, most_events}
 use Rattle.pool_message.specs.declared.event.PoolEvent.{PoolEvent}
 use Rattle.pool_message.specs.declared.row.PoolRow.{PoolRow}
 use Rattle.file_layer.specs.Stock.{Stock}
+use Rattle.msg_core.specs.View.{most_members}
 
 -- The most references of a desk's rows, and of a whole desk beside what it sends.
 abbrev pub most_rows : ℕ
 most_rows = 32768
-
-abbrev pub most_members : ℕ
-most_members = 32
 
 abbrev pub most_own : ℕ
 most_own = 15728638

@@ -2,6 +2,7 @@
 
 ghost use Rattle.std.specs.Prelude.{◌≡◌};
 ghost use Rattle.layer_stage.specs.Taken.{one_more};
+ghost use Rattle.msg_core.specs.View.{most_members};
 
 use crate::desk::FileDesk;
 use crate::maker::Maker;
@@ -49,7 +50,7 @@ impl FileLayer {
         ltime: u32,
     ) -> Result<FileLayer, Memory>
         requires place { place < length (making maker.old).stack }
-        requires members { (me < count) × (count ≤ 32) }
+        requires members { (me < count) × (count ≤ most_members) }
         requires typed { TypedStack (making maker.old).stack }
         requires made { (making maker.old).made ≤ 2 ^ 63 }
         ensures { Makes place me count ltime (making maker.old) (making maker.new) result }

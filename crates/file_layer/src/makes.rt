@@ -13,10 +13,12 @@ ghost use Rattle.file_layer.specs.Fits.{rows_most};
 ghost use Rattle.file_layer.specs.Fresh.{IsFresh, IsReserved};
 ghost use Rattle.file_layer.specs.Rest.{IsAtRest, IsMadeFor};
 ghost use Rattle.file_layer.specs.Stock.{kept_refs};
+ghost use Rattle.msg_core.specs.View.{most_members};
 
 use crate::desk::{FileDesk, MOST_BOUND, MOST_OWN, MOST_ROWS};
-use cell_store::{Cells, MOST_MEMBERS};
+use cell_store::Cells;
 use layer_room::{Reserve, reserve_for};
+use msg_core::MOST_MEMBERS;
 use pool_message::{Messages, PoolRow, Tray};
 use slot_pool::{Memory, Pool};
 use std::alloc::{AllocError, Global};
@@ -68,7 +70,7 @@ fn rows_at_most(cells: &[Cell]) -> Option<u32>
 {
     let mut rows = 0;
     for cell in cells {
-        rows += MOST_MEMBERS * u32::from(capacity_of(&cell.form));
+        rows += MOST_MEMBERS as u32 * u32::from(capacity_of(&cell.form));
         if rows > MOST_ROWS {
             return None;
         }
@@ -99,7 +101,7 @@ pub(crate) fn make(
     count: u32,
     ltime: u32,
 ) -> Result<FileDesk, Memory>
-    requires members { count ≤ 32 }
+    requires members { count ≤ most_members }
     requires made { IsMadeFor (layer_tree layer.now) (room.layout_of (layer_tree layer.now) 0) }
     ensures fresh { IfOk result (IsFresh (layer_tree layer.now) me count ltime) }
     ensures most { IfOk result (λ d. d.cells.most ≡ count) }

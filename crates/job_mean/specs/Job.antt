@@ -7,6 +7,7 @@ use Rattle.audit_mean.specs.declared.law.Law.{Law}
 use Rattle.audit_mean.specs.declared.law.Law.TheVariants.{Sender, Total, Same}
 use Rattle.script_mean.specs.Words.{◌>>=◌, number_within}
 use Rattle.job_mean.specs.Given.{Given, given_of}
+use Rattle.msg_core.specs.View.{most_members, last_member}
 
 -- how members run a stack: layer by layer, or by its bypasses where they hold
 pub data Mode : Type 0 where
@@ -59,6 +60,16 @@ law_of given = do
   name ← given
   law_named name
 
+-- the most events of a generated script, turns of a node, and failed receives that it bears
+abbrev pub most_events : ℕ
+most_events = 99999
+
+abbrev pub most_turns : ℕ
+most_turns = 1000000
+
+abbrev pub most_patience : ℕ
+most_patience = 1000
+
 -- a number that has to be given, within bounds
 abbrev pub a_number : ℕ → ℕ → Option Text → Option ℕ
 a_number low high given = do
@@ -79,7 +90,7 @@ is_ascending (first ∷ more) = list_all (nat_lt first) more && is_ascending mor
 abbrev pub members_in : List Text → Option (List ℕ)
 members_in [] = Some []
 members_in (word ∷ words) = do
-  member ← number_within 0 31 word
+  member ← number_within 0 last_member word
   members ← members_in words
   Some (member ∷ members)
 
@@ -115,8 +126,8 @@ abbrev pub load_job : Given → Option Job
 load_job given = do
   _ ← with_only (codes "seed" ∷ codes "events" ∷ codes "members" ∷ codes "run" ∷ codes "raw" ∷ []) given
   seed ← a_number 0 4294967295 given.seed
-  events ← a_number 0 99999 given.events
-  members ← a_number 1 32 given.members
+  events ← a_number 0 most_events given.events
+  members ← a_number 1 most_members given.members
   mode ← mode_of given.run
   Some (load given.file seed events members given.raw mode)
 
@@ -125,10 +136,10 @@ abbrev pub node_job : Given → Option Job
 node_job given = do
   _ ← with_only (codes "second" ∷ codes "turns" ∷ codes "me" ∷ codes "run" ∷ codes "patience" ∷ []) given
   plan ← given.second
-  turns ← a_number 0 1000000 given.turns
+  turns ← a_number 0 most_turns given.turns
   members ← some_members given.me
   mode ← mode_of given.run
-  patience ← a_number_or_zero 1000 given.patience
+  patience ← a_number_or_zero most_patience given.patience
   Some (node given.file plan turns members patience mode)
 
 -- `audit FILE --law L`

@@ -3,17 +3,17 @@
 ghost use Rattle.std.specs.Prelude.{◌≡◌, IfOk, option_map, ◌≤◌, IfSome, length};
 ghost use Rattle.job_mean.specs.Job as spec;
 ghost use Rattle.job_text.specs.Shown.{node_of, shown_given, shown_job, shown_mode, text};
+ghost use Rattle.msg_core.specs.View.{most_members};
 
 use crate::given::Given;
 use crate::named::{Audit, Job, Load, Mode, Node, Replay};
 use crate::numbers::{a_number, a_number_or_zero, some_members};
 use audit_mean::Law;
+use msg_core::MOST_MEMBERS;
 use std::alloc::{AllocError, Global};
 
 /// The most events of a generated script, members of a group, turns of a node and failed receives that it bears.
 const MOST_EVENTS: u32 = 99_999;
-
-const MOST_MEMBERS: u32 = 32;
 
 const MOST_TURNS: u32 = 1_000_000;
 
@@ -89,7 +89,7 @@ fn load<'w>(given: &Given<'w>) -> Option<Job<'w>>
     }
     let seed = a_number(0, u32::MAX, given.seed)?;
     let events = a_number(0, MOST_EVENTS, given.events)?;
-    let members = a_number(1, MOST_MEMBERS, given.members)?;
+    let members = a_number(1, u32::from(MOST_MEMBERS), given.members)?;
     let mode = mode_of(given.run)?;
     Some(Job::Load(Load {
         file: given.file,
@@ -114,7 +114,7 @@ fn node<'w>(alloc: Global, given: &Given<'w>) -> Result<Option<Job<'w>>, AllocEr
 
 /// The job of a node whose own members are read.
 fn node_of<'w>(given: &Given<'w>, members: Option<Vec<u32>>) -> Option<Job<'w>>
-    requires few { IfSome members (λ m. length m.items ≤ 32) }
+    requires few { IfSome members (λ m. length m.items ≤ most_members) }
     ensures { option_map shown_job result ≡ node_of (shown_given given.now) (option_map (λ m. m.items) members) }
 {
     let plan = given.second?;

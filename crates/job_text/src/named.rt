@@ -1,6 +1,8 @@
 //! The jobs of the program.
 
 ghost use Rattle.std.specs.Prelude.{◌≤◌, length};
+ghost use Rattle.msg_core.specs.View.{most_members};
+ghost use Rattle.job_mean.specs.Job.{most_events};
 
 use audit_mean::Law;
 
@@ -50,8 +52,8 @@ pub struct Load<'w> {
     /// Whether the script has datagrams.
     pub raw: bool,
     pub mode: Mode,
-    ghost few: { events ≤ 99999 },
-    ghost within: { (1 ≤ members) × (members ≤ 32) },
+    ghost few: { events ≤ most_events },
+    ghost within: { (1 ≤ members) × (members ≤ most_members) },
 }
 
 /// Runs members of a group over a network.
@@ -66,7 +68,7 @@ pub struct Node<'w> {
     /// How many failed receives are borne, at most 1,000.
     pub patience: u32,
     pub mode: Mode,
-    ghost few: { length members.items ≤ 32 },
+    ghost few: { length members.items ≤ most_members },
 }
 
 /// Judges a law of the group on a report.

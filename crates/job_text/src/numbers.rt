@@ -6,7 +6,9 @@ ghost use Rattle.std.specs.List.{list_all, slice_split};
 ghost use Rattle.script_mean.specs.Words as words;
 ghost use Rattle.job_mean.specs.Job as spec;
 ghost use Rattle.job_text.specs.Shown.{text};
+ghost use Rattle.msg_core.specs.View.{most_members};
 
+use msg_core::LAST_MEMBER;
 use script_text::{cut, number_within};
 use std::alloc::{AllocError, Global};
 
@@ -34,7 +36,7 @@ pub(crate) fn some_members(
     given: Option<&str>,
 ) -> Result<Option<Vec<u32>>, AllocError>
     ensures are { IfOk result (λ members. option_map (λ m. m.items) members ≡ spec.some_members (text given.entry)) }
-    ensures few { IfOk result (λ members. IfSome members (λ m. length m.items ≤ 32)) }
+    ensures few { IfOk result (λ members. IfSome members (λ m. length m.items ≤ most_members)) }
 {
     let Some(text) = given else {
         return Ok(None);
@@ -57,7 +59,7 @@ fn members_in(alloc: Global, text: &[u8]) -> Result<Option<Vec<u32>>, AllocError
     let mut rest = Some(text);
     while let Some(text) = rest {
         let (word, behind) = cut(b',', text);
-        let Some(member) = number_within(0, 31, word) else {
+        let Some(member) = number_within(0, u32::from(LAST_MEMBER), word) else {
             return Ok(None);
         };
         members.push(member)?;

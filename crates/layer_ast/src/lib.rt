@@ -7,7 +7,7 @@ pub mod samples;
 mod syntax;
 mod tokens;
 
-pub use names::{At, Name, Word};
+pub use names::{At, LONGEST_WORD, Name, Word};
 pub use syntax::{
     Argument, Arguments, Block, Built, Declaration, Ending, Expected, Expression, File, Function,
     Given, Handler, Item, Items, LONGEST_FILE, Layer, Likely, MessageExpression, Names, Operator,

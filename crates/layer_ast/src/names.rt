@@ -1,5 +1,6 @@
 //! Words of a layer file, and where they stand.
 ghost use Rattle.std.specs.Prelude.{◌≡◌, ◌≤◌, length};
+ghost use Rattle.layer_ast.specs.WordBytes.{longest_word};
 
 use std::marker::Model;
 
@@ -10,23 +11,26 @@ pub struct At {
     pub col: u32,
 }
 
-/// A word of 1 to 32 bytes, kept in place, so that a copy takes no memory.
+/// The most bytes of a word.
+pub const LONGEST_WORD: usize = 32;
+
+/// A word of 1 to `LONGEST_WORD` bytes, kept in place, so that a copy takes no memory.
 #[derive(Clone, Copy, PartialEq, Eq)]
 pub struct Word {
-    bytes: [u8; 32],
+    bytes: [u8; LONGEST_WORD],
     len: u8,
 }
 
 impl Model for Word {
     ghost use Rattle.std.specs.Prelude.{◌≡◌, ◌≤◌, ◌-◌, List, ℕ, length, take, drop, replicate};
     ghost use Rattle.std.proofs.Common.{arith, length-take-le};
-    ghost use Rattle.layer_ast.specs.WordBytes.{padded, padded-take};
+    ghost use Rattle.layer_ast.specs.WordBytes.{longest_word, padded, padded-take};
 
     ghost Value = { List ℕ };
 
     ghost view = { λ w. take w.len w.bytes };
 
-    ghost invariant = { λ w. (1 ≤ w.len) × (w.len ≤ 32) × (length w.bytes ≡ 32) × (drop w.len w.bytes ≡ replicate (32 - w.len) 0) };
+    ghost invariant = { λ w. (1 ≤ w.len) × (w.len ≤ longest_word) × (length w.bytes ≡ longest_word) × (drop w.len w.bytes ≡ replicate (longest_word - w.len) 0) };
 
     ghost inverse = { λ bytes. record { bytes = padded bytes; len = length bytes } };
 
@@ -37,13 +41,11 @@ impl Model for Word {
 }
 
 impl Word {
-    pub const LONGEST: usize = 32;
-
     pub fn of(text: &[u8]) -> Word
-        requires { 1 ≤ length text.now × length text.now ≤ 32 }
+        requires { 1 ≤ length text.now × length text.now ≤ longest_word }
         ensures { result ≡ text.now }
     {
-        let mut bytes = [0u8; 32];
+        let mut bytes = [0u8; LONGEST_WORD];
         let front = &mut bytes[..text.len()];
         front.copy_from_slice(text);
         Word {

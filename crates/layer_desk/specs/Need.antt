@@ -7,6 +7,7 @@ use Rattle.msg_core.specs.Chain.{Content}
 use Rattle.layer_mean.specs.Tree.{Carried, part, whole, MessageTree, held, cut, tail, join, ContentTree, EmissionTree, RowTree, TakenTree, StatementTree, push, take, branch, each, emit, StatementTrees, none, more, HandlerTree}
 use Rattle.layer_mean.specs.Visit.{Met}
 use Rattle.stack_mean.specs.Emissions.{joins_in_message, joins_in_content, joins_in_row, joins, joins_of, handler_joins}
+use Rattle.msg_core.specs.Headers.{most_places}
 
 -- What a desk is made for: how many rows a queue of each cell keeps, how many numbers and messages a block may declare, how many
 -- messages may be in hand, and how many events may be sent.
@@ -31,10 +32,7 @@ pub record Need : Type 0 where
   pub headers : ℕ
   pub misfits : ℕ
 
--- The most places of a stack, and the most headers of a message that a layer keeps: those of the places above it.
-abbrev pub most_places : ℕ
-most_places = 24
-
+-- The most headers of a message that a layer keeps: those of the places above it.
 abbrev pub most_above : ℕ
 most_above = 23
 

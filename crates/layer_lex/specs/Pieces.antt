@@ -14,6 +14,7 @@ use Rattle.layer_lex.specs.declared.Stop.TheVariants as stop
 use Rattle.layer_lex.specs.declared.Tokens.{Tokens}
 use Rattle.layer_lex.specs.declared.pieces.Piece.{Piece}
 use Rattle.layer_lex.specs.declared.pieces.Piece.TheVariants.{Gap, Word, Number, Symbol, Bad}
+use Rattle.layer_ast.specs.WordBytes.{longest_word}
 
 -- the piece that the lexer found at the front of a text
 abbrev pub found : List ℕ → Piece → Found
@@ -23,9 +24,9 @@ found text (Number value behind) = one (token.Number value) behind
 found text (Symbol sign behind) = one (token.Sign sign) behind
 found text Bad = bad
 
--- a word is at most 32 bytes of the text, and no symbol begins a part
+-- a word is at most longest_word bytes of the text, and no symbol begins a part
 abbrev pub IsFront : List ℕ → Piece → Type 0
-IsFront text (Word behind) = (behind < 32) × (behind < length text)
+IsFront text (Word behind) = (behind < longest_word) × (behind < length text)
 IsFront text (Symbol sign _) = begins_part (token.Sign sign) ≡ false
 IsFront text _ = Unit
 

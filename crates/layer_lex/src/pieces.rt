@@ -6,7 +6,7 @@ ghost use Rattle.layer_ast.specs.Cut.{piece as piece_of, word_piece, number_piec
 ghost use Rattle.layer_ast.specs.Spelling.{number_of, is_blank as is_gap, is_word_byte as goes_on_word};
 ghost use Rattle.layer_lex.specs.Pieces.{found, more_of, is_flat, IsFront};
 
-use layer_ast::{Sign, Word};
+use layer_ast::{LONGEST_WORD, Sign};
 
 /// What a text begins with, and how many bytes of it stand behind its first.
 #[derive(Clone, Copy)]
@@ -108,7 +108,7 @@ fn word(first: u8, behind: &[u8], text: &[u8]) -> Piece
     ensures flat { is_flat (take (more_of (found text.now result)) behind.now) ≡ true }
 {
     let more = word_length(behind);
-    if more >= Word::LONGEST {
+    if more >= LONGEST_WORD {
         return Piece::Bad;
     }
     Piece::Word { behind: more }

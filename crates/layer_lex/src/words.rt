@@ -5,6 +5,7 @@ ghost use Rattle.std.specs.Str.{bytes_eq};
 ghost use Rattle.layer_ast.specs.Spelling.{word_token as token_of, beside, reserved, kinds};
 ghost use Rattle.layer_lex.specs.Parts.{begins_part};
 ghost use Rattle.layer_lex.specs.Tables.{shown, shown_groups, beside_in_group, are_in_row};
+ghost use Rattle.layer_ast.specs.WordBytes.{longest_word};
 
 use layer_ast::{At, Kind, Lexed, Sign, Token, Word};
 use std::alloc::AllocError;
@@ -133,7 +134,7 @@ static KINDS: [(u8, &[(&[u8], Kind)]); 22] = [
 /// Adds the token of a word at its place.
 #[tactic(auto, unfolding(layer_ast::specs::Spelling::word_token))]
 pub fn push_word(tokens: &mut Vec<Lexed>, word: &[u8], at: At) -> Result<(), AllocError>
-    requires { 1 ≤ length word.now × length word.now ≤ 32 }
+    requires { 1 ≤ length word.now × length word.now ≤ longest_word }
     ensures { OnOk result (tokens.new.items ≡ tokens.old.items ++ record { token = token_of word.now; at = at } ∷ []) }
 {
     if let Some(sign) = reserved_sign(word) {

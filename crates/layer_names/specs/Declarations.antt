@@ -6,6 +6,7 @@ use Rattle.file_faults.specs.Forms.{items_of, labels_of}
 use Rattle.file_faults.specs.Limits.{capacity_in}
 use Rattle.file_faults.specs.NameFaults.{declaration_uses, row_faults, size_faults, too_many_of, twice_among, uses_faults}
 use Rattle.file_faults.specs.Scope.{Scope}
+use Rattle.msg_core.specs.Headers.{most_fields}
 
 -- The faults of a declaration where these names are visible: in the scope of its layer they are its faults.
 abbrev pub declaration_faults : Scope → DeclarationTree → List NameFault
@@ -14,4 +15,4 @@ declaration_faults scope declaration =
     ++ flat_map size_faults (capacity_in declaration)
     ++ row_faults (items_of declaration)
     ++ twice_among [] (labels_of declaration)
-    ++ too_many_of 4 (labels_of declaration)
+    ++ too_many_of most_fields (labels_of declaration)

@@ -8,6 +8,7 @@ ghost use Rattle.file_faults.specs.NameFaults.{declaration_uses, row_faults, siz
 ghost use Rattle.layer_names.specs.Declarations.{declaration_faults};
 ghost use Rattle.layer_names.specs.Found.{Finds};
 ghost use Rattle.name_scope.specs.Scope.{scope_of};
+ghost use Rattle.msg_core.specs.Headers.{most_fields};
 
 use crate::found::Found;
 use crate::names::{too_many, twice};
@@ -73,7 +74,7 @@ fn fields(alloc: Global, d: &Declaration) -> Result<Vec<Name>, AllocError>
 /// The fields of a header: of these there are few, and none is there twice.
 #[tactic(auto, using(first_fault::proofs::Finds::finds_both))]
 fn few_fields(alloc: Global, found: &mut Found, d: &Declaration) -> Result<(), AllocError>
-    ensures { OnOk result (Finds found.old (twice_among [] (labels_of (declaration_tree d.now)) ++ too_many_of 4 (labels_of (declaration_tree d.now))) found.new) }
+    ensures { OnOk result (Finds found.old (twice_among [] (labels_of (declaration_tree d.now)) ++ too_many_of most_fields (labels_of (declaration_tree d.now))) found.new) }
 {
     let fields = fields(alloc, d)?;
     twice(alloc, found, &fields)?;

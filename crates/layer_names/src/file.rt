@@ -7,6 +7,8 @@ ghost use Rattle.file_faults.specs.NameFaults.{layer_name_faults, name_fault, na
 ghost use Rattle.file_faults.specs.Places.{faults_of_layers};
 ghost use Rattle.layer_names.specs.Found.{Finds, named};
 ghost use Rattle.layer_names.specs.Tables.{IsTables};
+ghost use Rattle.file_faults.specs.Limits.{most_layers};
+ghost use Rattle.msg_core.specs.Headers.{most_places};
 
 use crate::found::Found;
 use crate::judged::judge;
@@ -26,7 +28,7 @@ const MOST_PLACES: usize = 24;
 /// The names of layers, none of which may be there twice; of these there are few.
 #[tactic(auto, using(first_fault::proofs::Finds::finds_both))]
 fn names(alloc: Global, found: &mut Found, layers: &[Layer]) -> Result<(), AllocError>
-    ensures { OnOk result (Finds found.old (twice_among [] (map (λ layer. layer.name) (map layer_tree layers.now)) ++ too_many_of 64 (map (λ layer. layer.name) (map layer_tree layers.now))) found.new) }
+    ensures { OnOk result (Finds found.old (twice_among [] (map (λ layer. layer.name) (map layer_tree layers.now)) ++ too_many_of most_layers (map (λ layer. layer.name) (map layer_tree layers.now))) found.new) }
 {
     let names = layer_names(alloc, layers)?;
     twice(alloc, found, &names)?;
@@ -36,7 +38,7 @@ fn names(alloc: Global, found: &mut Found, layers: &[Layer]) -> Result<(), Alloc
 
 /// Places, of which there are few.
 fn few(alloc: Global, found: &mut Found, places: &[Place]) -> Result<(), AllocError>
-    ensures { OnOk result (Finds found.old (too_many_of 24 (map (λ place. place.name) (map place_tree places.now))) found.new) }
+    ensures { OnOk result (Finds found.old (too_many_of most_places (map (λ place. place.name) (map place_tree places.now))) found.new) }
 {
     let names = place_names(alloc, places)?;
     too_many(found, MOST_PLACES, &names);

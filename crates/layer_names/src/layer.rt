@@ -9,6 +9,7 @@ ghost use Rattle.name_scope.specs.Words.{own_words};
 ghost use Rattle.layer_names.specs.Found.{Finds};
 ghost use Rattle.layer_names.specs.Gathered.{sizes_of};
 ghost use Rattle.layer_names.specs.Layers.{test_of};
+ghost use Rattle.file_faults.specs.Limits.{most_handlers};
 
 use crate::declaration::declarations;
 use crate::events::handlers_twice;
@@ -135,7 +136,7 @@ fn all_too_many(found: &mut Found, handlers: &[Handler])
 /// Handlers, of which there may be so many.
 #[tactic(auto, using(crate::proofs::Layers::none_beyond))]
 fn few_handlers(found: &mut Found, handlers: &[Handler])
-    ensures { Finds found.old (map (λ h. fault.too_many h.at) (drop 64 (map handler_tree handlers.now))) found.new }
+    ensures { Finds found.old (map (λ h. fault.too_many h.at) (drop most_handlers (map handler_tree handlers.now))) found.new }
 {
     if handlers.len() > MOST_HANDLERS {
         all_too_many(found, &handlers[MOST_HANDLERS..]);

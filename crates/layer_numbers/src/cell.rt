@@ -13,6 +13,7 @@ ghost use Rattle.layer_mean.specs.Tree as tree;
 ghost use Rattle.typed_layer.specs.View.{carried_tree, cell_tree, expression_tree, header_tree, items_tree};
 ghost use Rattle.bound_laws.specs.Bounds.{HoldsDeclaration};
 ghost use Rattle.name_numbers.specs.Place.{placed_of};
+ghost use Rattle.msg_core.specs.Headers.{most_fields};
 
 use layer_ast as ast;
 use layer_ast::{Declaration, Ending, Word};
@@ -164,7 +165,7 @@ pub fn cells(
 
 /// The header that a declaration declares, if it does.
 fn header(declaration: &Declaration) -> Option<HeaderForm>
-    requires { length (labels_of (written.declaration_tree declaration.now)) ≤ 4 }
+    requires { length (labels_of (written.declaration_tree declaration.now)) ≤ most_fields }
     ensures { option_map header_tree result ≡ spec.header_in (written.declaration_tree declaration.now) }
 {
     match declaration {

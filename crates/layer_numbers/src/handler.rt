@@ -14,6 +14,8 @@ ghost use Rattle.typed_layer.specs.View.{block_tree, expected_tree, handler_tree
 ghost use Rattle.bound_laws.specs.Bounds.{HoldsBlock, HoldsHandler, IsByte};
 ghost use Rattle.name_numbers.specs.Place.{placed_of};
 ghost use Rattle.name_numbers.specs.Scope.{names_of};
+ghost use Rattle.file_faults.specs.Limits.{most_names};
+ghost use Rattle.msg_core.specs.Headers.{most_declared};
 
 use crate::statement::block;
 use layer_ast as ast;
@@ -26,7 +28,7 @@ use typed_layer::{Block, Expected, Handler};
 /// The header that a handler takes off, by its tag; without one it is 0.
 fn popped_tag(place: &Place, popped: &Option<Popped>) -> u8
     ensures is { result ≡ spec.popped_tag (placed_of place.now) (option_map written.popped_tree popped.now) }
-    ensures few { result ≤ 7 }
+    ensures few { result ≤ most_declared }
 {
     match popped {
         None => 0,
@@ -62,7 +64,7 @@ fn with_fields(
 /// The names that a handler brings, in a layer at its place.
 #[tactic(auto, using(crate::proofs::Rows::numbers_are, crate::proofs::Rows::message_is))]
 fn enter<'a>(alloc: Global, place: &'a Place<'a>, h: &ast::Handler) -> Result<Names<'a>, AllocError>
-    requires { length (scope.head_names (written.handler_tree h.now)) ≤ 64 }
+    requires { length (scope.head_names (written.handler_tree h.now)) ≤ most_names }
     ensures { IfOk result (λ names. names_of names ≡ spec.handler_names (placed_of place.now) (written.handler_tree h.now)) }
 {
     let event = written(alloc, &h.names)?;

@@ -11,6 +11,7 @@ ghost use Rattle.file_mean.specs.Statements as spec;
 ghost use Rattle.typed_layer.specs.View.{carried_tree, content_tree, emission_tree, message_tree, row_tree, taken_tree};
 ghost use Rattle.bound_laws.specs.Bounds.{HoldsContent, HoldsSlot, IsByte};
 ghost use Rattle.name_numbers.specs.Scope.{names_of};
+ghost use Rattle.msg_core.specs.Headers.{most_fields};
 
 use layer_ast as ast;
 use layer_ast::{Arguments, Dir, Kind, Name, Pushed, Queue};
@@ -52,7 +53,7 @@ fn content(
     message: MessageExpression,
     pushed: &Option<Pushed>,
 ) -> Result<Content, AllocError>
-    requires { length (spec.pushed_fields (names_of names.now) (option_map written.pushed_tree pushed.now)) ≤ 4 }
+    requires { length (spec.pushed_fields (names_of names.now) (option_map written.pushed_tree pushed.now)) ≤ most_fields }
     ensures { IfOk result (λ c. content_tree c ≡ record {
       message = message_tree message;
       tag = spec.pushed_tag (names_of names.now) (option_map written.pushed_tree pushed.now);
@@ -79,7 +80,7 @@ pub fn emission(
     arguments: &Arguments,
     pushed: &Option<Pushed>,
 ) -> Result<Emission, AllocError>
-    requires numbers { length (spec.emission_of (names_of names.now) direction kind (arguments_in (Some (written.arguments_tree arguments.now))) (option_map written.pushed_tree pushed.now)).numbers ≤ 4 }
+    requires numbers { length (spec.emission_of (names_of names.now) direction kind (arguments_in (Some (written.arguments_tree arguments.now))) (option_map written.pushed_tree pushed.now)).numbers ≤ most_fields }
     requires content { HoldsContent (spec.emission_of (names_of names.now) direction kind (arguments_in (Some (written.arguments_tree arguments.now))) (option_map written.pushed_tree pushed.now)).content }
     ensures { IfOk result (λ e. emission_tree e ≡ spec.emission_of (names_of names.now) direction kind (arguments_in (Some (written.arguments_tree arguments.now))) (option_map written.pushed_tree pushed.now)) }
 {
@@ -111,7 +112,7 @@ pub fn pushed_row(
     queue: &Queue,
     items: &Arguments,
 ) -> Result<Row, AllocError>
-    requires { length (spec.pushed_row (names_of names.now) (written.queue_tree queue.now) (arguments_in (Some (written.arguments_tree items.now)))).numbers ≤ 4 }
+    requires { length (spec.pushed_row (names_of names.now) (written.queue_tree queue.now) (arguments_in (Some (written.arguments_tree items.now)))).numbers ≤ most_fields }
     ensures { IfOk result (λ r. row_tree r ≡ spec.pushed_row (names_of names.now) (written.queue_tree queue.now) (arguments_in (Some (written.arguments_tree items.now)))) }
 {
     let has_message = has_message(names, queue);

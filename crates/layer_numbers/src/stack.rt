@@ -8,6 +8,7 @@ ghost use Rattle.file_faults.specs.Places as places;
 ghost use Rattle.file_mean.specs.Stack as spec;
 ghost use Rattle.typed_layer.specs.Places.{rc_tree, typed_tree};
 ghost use Rattle.bound_laws.specs.Bounds.{HoldsFile, HoldsPlaced, placed_at};
+ghost use Rattle.msg_core.specs.Headers.{most_places};
 
 use crate::layer::layer;
 use layer_ast::{File, Layer, Place, Word};
@@ -41,7 +42,7 @@ fn placed_layer(
     place: &Place,
 ) -> Result<Rc<TypedLayer>, AllocError>
     requires within { number < length (file_tree file.now).places }
-    requires few { length (file_tree file.now).places ≤ 24 }
+    requires few { length (file_tree file.now).places ≤ most_places }
     requires holds { HoldsPlaced (placed_at (file_tree file.now) number (place_tree place.now)) }
     ensures { IfOk result (λ x. rc_tree x ≡ spec.placed_layer (file_tree file.now) number (place_tree place.now)) }
 {

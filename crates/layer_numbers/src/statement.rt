@@ -14,6 +14,7 @@ ghost use Rattle.typed_layer.specs.View.{block_tree, expression_tree, statement_
 ghost use Rattle.bound_laws.specs.Bounds.{HoldsBlock, HoldsContent, HoldsSlot, HoldsStatement, IsByte};
 ghost use Rattle.layer_numbers.specs.Behind.{past};
 ghost use Rattle.name_numbers.specs.Scope.{names_of};
+ghost use Rattle.msg_core.specs.Headers.{most_fields};
 
 use crate::row::{emission, pushed_row, take_row};
 use layer_ast as ast;
@@ -95,7 +96,7 @@ fn emit(
     arguments: &Arguments,
     pushed: &Option<Pushed>,
 ) -> Result<Statement, AllocError>
-    requires numbers { length (spec.emission_of (names_of names.now) direction kind (arguments_in (Some (written.arguments_tree arguments.now))) (option_map written.pushed_tree pushed.now)).numbers ≤ 4 }
+    requires numbers { length (spec.emission_of (names_of names.now) direction kind (arguments_in (Some (written.arguments_tree arguments.now))) (option_map written.pushed_tree pushed.now)).numbers ≤ most_fields }
     requires content { HoldsContent (spec.emission_of (names_of names.now) direction kind (arguments_in (Some (written.arguments_tree arguments.now))) (option_map written.pushed_tree pushed.now)).content }
     ensures { IfOk result (λ s. statement_tree s ≡ tree.emit (spec.emission_of (names_of names.now) direction kind (arguments_in (Some (written.arguments_tree arguments.now))) (option_map written.pushed_tree pushed.now))) }
 {
@@ -220,7 +221,7 @@ fn push(
     queue: &Queue,
     items: &Arguments,
 ) -> Result<Statement, AllocError>
-    requires { (length (spec.pushed_row (names_of names.old) (written.queue_tree queue.now) (arguments_in (Some (written.arguments_tree items.now)))).numbers ≤ 4) × HoldsBlock (spec.statements_of (names_of names.old) (written.block_tree otherwise.now)) }
+    requires { (length (spec.pushed_row (names_of names.old) (written.queue_tree queue.now) (arguments_in (Some (written.arguments_tree items.now)))).numbers ≤ most_fields) × HoldsBlock (spec.statements_of (names_of names.old) (written.block_tree otherwise.now)) }
     ensures is { IfOk result (λ s. statement_tree s ≡ tree.push (values.queue_cell (names_of names.old) (written.queue_tree queue.now)) (values.queue_index (names_of names.old) (written.queue_tree queue.now)) (named.capacity_of (names_of names.old).place (queue_name (written.queue_tree queue.now))) (spec.pushed_row (names_of names.old) (written.queue_tree queue.now) (arguments_in (Some (written.arguments_tree items.now)))) (spec.statements_of (names_of names.old) (written.block_tree otherwise.now))) }
     ensures names { OnOk result (names_of names.new ≡ past (names_of names.old) (names_of names.old) (written.block_tree otherwise.now)) }
 {

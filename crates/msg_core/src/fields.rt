@@ -1,29 +1,31 @@
 //! The numbers of a header.
 
 ghost use Rattle.std.specs.Prelude.{◌≡◌, ℕ, ◌≤◌, ◌<◌, List, [], ◌∷◌, ◌++◌, length, slice_index, take};
+ghost use Rattle.msg_core.specs.Headers.{most_fields};
 
 use std::marker::Model;
 
 /// The most numbers that a header carries.
 pub const MOST_FIELDS: usize = 4;
 
-/// Up to four numbers, kept in place, with zeros behind them, so that a copy takes no memory; contracts see their list.
+/// Up to `MOST_FIELDS` numbers, kept in place, with zeros behind them, so that a copy takes no memory; contracts see their list.
 #[derive(Clone, Copy)]
 pub struct Fields {
-    numbers: [u32; 4],
+    numbers: [u32; MOST_FIELDS],
     len: u8,
 }
 
 impl Model for Fields {
     ghost use Rattle.std.specs.Prelude.{◌≡◌, ℕ, ◌-◌, ◌≤◌, List, length, take, drop, replicate};
     ghost use Rattle.std.proofs.Common.{arith, length-take-le};
+    ghost use Rattle.msg_core.specs.Headers.{most_fields};
     ghost use Rattle.msg_core.specs.Kept.{kept, kept-take};
 
     ghost Value = { List ℕ };
 
     ghost view = { λ f. take f.len f.numbers };
 
-    ghost invariant = { λ f. (f.len ≤ 4) × (length f.numbers ≡ 4) × (drop f.len f.numbers ≡ replicate (4 - f.len) 0) };
+    ghost invariant = { λ f. (f.len ≤ most_fields) × (length f.numbers ≡ most_fields) × (drop f.len f.numbers ≡ replicate (most_fields - f.len) 0) };
 
     ghost inverse = { λ fields. record { numbers = kept fields; len = length fields } };
 
@@ -38,13 +40,13 @@ impl Fields {
         ensures { result ≡ [] }
     {
         Fields {
-            numbers: [0; 4],
+            numbers: [0; MOST_FIELDS],
             len: 0,
         }
     }
 
     pub fn of(numbers: &[u32]) -> Fields
-        requires { length numbers.now ≤ 4 }
+        requires { length numbers.now ≤ most_fields }
         ensures { result ≡ numbers.now }
     {
         let mut fields = Fields::none();
@@ -55,7 +57,7 @@ impl Fields {
     }
 
     pub fn push(&mut self, number: u32)
-        requires { length self.old < 4 }
+        requires { length self.old < most_fields }
         ensures { self.new ≡ self.old ++ number ∷ [] }
     {
         self.numbers[self.len as usize] = number;
@@ -64,7 +66,7 @@ impl Fields {
 
     pub fn len(&self) -> u32
         ensures count { result ≡ length self.now }
-        ensures few { result ≤ 4 }
+        ensures few { result ≤ most_fields }
     {
         u32::from(self.len)
     }

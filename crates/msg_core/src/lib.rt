@@ -13,4 +13,4 @@ mod packet;
 pub use fields::Fields;
 pub use headers::{Headers, MOST_HEADERS};
 pub use message::{Header, LONGEST_BODY, Memory, Message};
-pub use packet::{Dest, Packet, Stray, View};
+pub use packet::{Dest, LAST_MEMBER, MOST_MEMBERS, Packet, Stray, View};

@@ -2,6 +2,12 @@
 
 use crate::message::Message;
 
+/// The most members of a group; ids are below it.
+pub const MOST_MEMBERS: u8 = 32;
+
+/// The highest id of a group, and the highest rank.
+pub const LAST_MEMBER: u8 = 31;
+
 /// The agreed list of members: how many views came before, and a bit for each id in it.
 #[derive(Clone, Copy, Debug, PartialEq, Eq)]
 pub struct View {

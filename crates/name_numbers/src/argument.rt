@@ -9,6 +9,7 @@ ghost use Rattle.file_mean.specs.Names.{numbers_among};
 ghost use Rattle.file_mean.specs.Values as spec;
 ghost use Rattle.typed_layer.specs.View.{expression_tree};
 ghost use Rattle.name_numbers.specs.Scope.{names_of};
+ghost use Rattle.msg_core.specs.Headers.{most_fields};
 
 use crate::scope::Names;
 use crate::value::argument_number;
@@ -108,7 +109,7 @@ pub fn numbers(
 
 /// Expressions of which there are few.
 pub fn few(expressions: Vec<Expression>) -> Numbers
-    requires { length (map expression_tree expressions.items) ≤ 4 }
+    requires { length (map expression_tree expressions.items) ≤ most_fields }
     ensures { map expression_tree result ≡ map expression_tree expressions.items }
 {
     Numbers::of(expressions)

@@ -13,6 +13,8 @@ ghost use Rattle.name_scope.specs.Scope.{scope_of};
 ghost use Rattle.typed_layer.specs.View.{blank_headers, carried_tree};
 ghost use Rattle.bound_laws.specs.Bounds.{HoldsDeclaration};
 ghost use Rattle.name_numbers.specs.Placed.{HoldDeclarations, HoldDeclarations-prop, placed, words_of};
+ghost use Rattle.file_faults.specs.Limits.{most_cells};
+ghost use Rattle.msg_core.specs.Headers.{most_declared};
 
 use crate::declared::{
     cell_words, declared_value, given_among, header_words, item_number, last_sort, rows,
@@ -32,8 +34,8 @@ pub struct Place<'a> {
     headers: Words,
     ghost cells_are: { cells ≡ words_of (cells_of (scope_of scope).layer) },
     ghost headers_are: { headers ≡ words_of (headers_of (scope_of scope).layer) },
-    ghost few_cells: { length (cells_of (scope_of scope).layer) ≤ 16 },
-    ghost few_headers: { length (headers_of (scope_of scope).layer) ≤ 7 },
+    ghost few_cells: { length (cells_of (scope_of scope).layer) ≤ most_cells },
+    ghost few_headers: { length (headers_of (scope_of scope).layer) ≤ most_declared },
     ghost declarations_hold: { HoldDeclarations (placed (scope_of scope).layer given.now blank) } by { HoldDeclarations-prop (placed (scope_of scope).layer given.now blank) },
 }
 
@@ -49,8 +51,8 @@ impl<'a> Place<'a> {
         blank: Blank,
     ) -> Result<Place<'a>, AllocError>
         requires own { own.now ≡ words_of (layer_tree layer.now).declarations }
-        requires cells { length (cells_of (layer_tree layer.now)) ≤ 16 }
-        requires headers { length (headers_of (layer_tree layer.now)) ≤ 7 }
+        requires cells { length (cells_of (layer_tree layer.now)) ≤ most_cells }
+        requires headers { length (headers_of (layer_tree layer.now)) ≤ most_declared }
         requires declarations { HoldDeclarations (placed (layer_tree layer.now) given.now blank) }
         ensures { IfOk result (λ place. placed_of place ≡ placed (layer_tree layer.now) given.now blank) }
     {
@@ -109,7 +111,7 @@ impl<'a> Place<'a> {
     /// The tag of the header of a name.
     pub fn tag(&self, name: &Name) -> u8
         ensures is { result ≡ spec.tag_of (placed_of self.now) name.now }
-        ensures few { result ≤ 7 }
+        ensures few { result ≤ most_declared }
     {
         match self.headers.position(&name.word) {
             None => 0,

@@ -4,12 +4,11 @@ ghost use Rattle.std.specs.Prelude.{◌≡◌, ◌==◌, ◌<◌, slice_get};
 ghost use Rattle.std.specs.Int.{bit_at};
 ghost use Rattle.msg_core.specs.View.{ids};
 
-use msg_core::View;
-use view_core::MOST_MEMBERS;
+use msg_core::{MOST_MEMBERS, View};
 
 /// Whether a view has a member.
 pub(crate) fn has(view: View, id: u8) -> bool
-    requires { id < 32 }
+    requires { id < MOST_MEMBERS }
     ensures { result ≡ (bit_at view.mask id == 1) }
 {
     view.mask >> id & 1 == 1

@@ -16,14 +16,13 @@ ghost use Rattle.node_loop.specs.Sending.{MayTake, sent_to};
 
 use crate::receivers::{has, member_at};
 use crate::tools::Tools;
-use msg_core::{Dest, Memory, View};
+use msg_core::{Dest, MOST_MEMBERS, Memory, View};
 use outside::{LinkError, Links, MOST_BYTES, Sink, SinkError};
 use packet_full::{put_full_of, room_of};
 use packet_mean::Here;
 use report_lines::{Line, lost_line};
 use sink_lines::put_line;
 use step_outputs::PacketView;
-use view_core::MOST_MEMBERS;
 
 /// A datagram on its way out: who sends it, and the number of its packet.
 #[derive(Clone, Copy)]

@@ -13,6 +13,7 @@ ghost use Rattle.node_loop.specs.Feeding.{IsOwn, IsUp};
 ghost use Rattle.node_loop.specs.Listening.{ListensAll};
 ghost use Rattle.node_loop.specs.Serve.{Serves, first_of_plan, layered_words, whereabouts};
 ghost use Rattle.world_core.specs.Standing.{Stands};
+ghost use Rattle.msg_core.specs.View.{most_members};
 
 use crate::course::{Course, Progress, number_fits};
 use crate::desk::Desk;
@@ -59,7 +60,7 @@ fn desk(alloc: Global, stack: &Stack) -> Result<Desk, Memory>
 /// Lets each own member listen.
 fn listen_all<N: Links>(peers: &[Peer], me: &[u8], links: &mut N) -> Result<(), NodeError>
     requires members { AllByRecursion (λ id. id < length peers.now) me.now }
-    requires few { length peers.now ≤ 32 }
+    requires few { length peers.now ≤ most_members }
     ensures told { ListensAll (length me.now) (N.faults links.old) (N.faults links.new) (N.told links.old) (N.told links.new) result }
     ensures sends { N.send_faults links.new ≡ N.send_faults links.old }
     ensures listening { OnOk result (AllByRecursion (λ id. N.listening links.new id ≡ Some (length peers.now)) me.now) }
@@ -87,7 +88,7 @@ fn make_turns<F: Feed, O: Sink, N: Links, C: Clock>(
     requires up { IsUp (stack_in course) (plans_in course) (F.group feed.old) desk.old (N.listening links.old) course.me.now }
     requires own { AllByRecursion (λ entry. IsOwn entry.1) course.plan.now.turns }
     requires ordered { AreOrdered 0 course.plan.now.turns }
-    requires members { length course.me.now ≤ 32 }
+    requires members { length course.me.now ≤ most_members }
     requires none { desk.old.events ≡ 0 }
     ensures told { (b : Begun) → b.patience ≡ patience →
         SoFar (stack_in course.entry) (plans_in course.entry) (course_of course.entry) b 0 0 (from_turn (course_of course.entry) 0 patience) 0
@@ -130,8 +131,8 @@ pub fn serve<F: Feed, O: Sink, N: Links, C: Clock>(
     requires group_plans { (F.group feed.old).plans ≡ plans_in course }
     requires group { Stands (F.group feed.old) (first_of_plan (stack_in course) course.plan.now) }
     requires members { AllByRecursion (λ id. id < length course.plan.now.peers) course.me.now }
-    requires few_members { length course.me.now ≤ 32 }
-    requires few_peers { length course.plan.now.peers ≤ 32 }
+    requires few_members { length course.me.now ≤ most_members }
+    requires few_peers { length course.plan.now.peers ≤ most_members }
     requires ordered { AreOrdered 0 course.plan.now.turns }
     requires own { AllByRecursion (λ entry. IsOwn entry.1) course.plan.now.turns }
     ensures { Serves (record {

@@ -14,6 +14,7 @@ ghost use Rattle.node_loop.specs.Around.{around};
 ghost use Rattle.node_loop.specs.Bearing.{Bears};
 ghost use Rattle.node_loop.specs.Course.{Advances, Begun, FedOn, Hears, SoFar, Within, course_of, now, plans_in, stack_in};
 ghost use Rattle.node_loop.specs.Feeding.{IsOwn, IsUp, RestsAgain};
+ghost use Rattle.msg_core.specs.View.{most_members};
 
 use crate::course::{Course, Progress, number_fits};
 use crate::desk::Desk;
@@ -247,7 +248,7 @@ pub(crate) fn turn<F: Feed, O: Sink, N: Links, C: Clock>(
     requires passed { AllByRecursion (λ entry. entry.0 < progress.old.turn) (take progress.old.next course.plan.now.turns) }
     requires within { progress.old.next ≤ length course.plan.now.turns }
     requires due { AllByRecursion (λ entry. progress.old.turn ≤ entry.0) (drop progress.old.next course.plan.now.turns) }
-    requires members { length course.me.now ≤ 32 }
+    requires members { length course.me.now ≤ most_members }
     requires few { desk.old.events ≤ 64 * progress.old.turn + progress.old.next }
     ensures told { (b : Begun) (borne : ℕ) →
         borne + progress.old.patience ≡ b.patience →

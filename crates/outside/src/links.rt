@@ -8,6 +8,9 @@ use std::alloc::{AllocError, AllocFailed};
 /// The most bytes that a datagram carries: a UDP datagram over IPv4 has at most so many of data.
 pub const MOST_BYTES: usize = 65507;
 
+/// The most peers that links reach.
+pub const MOST_PEERS: usize = 32;
+
 /// Where a member is reached.
 #[derive(Clone, Copy, Debug, PartialEq, Eq)]
 pub struct Peer {
@@ -73,7 +76,7 @@ pub trait Links {
     /// before.
     fn listen(&mut self, member: u8, peers: &[Peer]) -> Result<(), LinkError>
         requires member { member < length peers.now }
-        requires few { length peers.now ≤ 32 }
+        requires few { length peers.now ≤ MOST_PEERS }
         ensures counted { faults self.new ≡ faults_after_call (faults self.old) result }
         ensures sends { send_faults self.new ≡ send_faults self.old }
         ensures listening { OnOk result (listening self.new member ≡ Some (length peers.now)) }

@@ -5,7 +5,7 @@ ghost use Rattle.outside.specs.Links.{waiting_after, first_for, without_first};
 ghost use Rattle.outside.specs.MemLinks.{listening_in, sent_of, met_of};
 
 use crate::count::count_after;
-use crate::{Datagram, Fate, LinkError, Links, MOST_BYTES, Peer};
+use crate::{Datagram, Fate, LinkError, Links, MOST_BYTES, MOST_PEERS, Peer};
 use std::alloc::{AllocError, Global};
 use std::collections::VecDeque;
 
@@ -22,7 +22,7 @@ enum Entry {
 pub struct MemLinks {
     alloc: Global,
     // With how many peers each member listens.
-    members: [Option<u8>; 32],
+    members: [Option<u8>; MOST_PEERS],
     handed: Vec<Datagram>,
     waiting: Vec<Datagram>,
     met: Vec<Entry>,
@@ -45,7 +45,7 @@ impl MemLinks {
     {
         MemLinks {
             alloc,
-            members: [None; 32],
+            members: [None; MOST_PEERS],
             handed: Vec::new(alloc),
             waiting: Vec::new(alloc),
             met: Vec::new(alloc),

@@ -3,7 +3,7 @@
 ghost use Rattle.std.specs.Prelude.{◌≡◌, ◌≢◌, ◌+◌, ◌-◌, ◌<◌, ◌≤◌, ◌++◌, [], IfSome, Some, drop, length, option_map, slice_get, slice_index_or};
 ghost use Rattle.event_graph.specs.Answer.{stack_tree};
 ghost use Rattle.layer_mean.specs.Tree.{no_layer};
-ghost use Rattle.msg_core.specs.Headers.{most_headers};
+ghost use Rattle.msg_core.specs.Headers.{most_headers, most_fields};
 ghost use Rattle.packet_mean.specs.Reading as reading;
 ghost use Rattle.packet_full.specs.Chain.{header_read, nones};
 ghost use Rattle.packet_full.specs.Taking.{Takes, left, preamble_tree, with_front};
@@ -52,7 +52,7 @@ impl<'a> Cursor<'a> {
 
     /// So many numbers.
     pub fn numbers(&mut self, count: u8) -> Option<Fields>
-        requires { count ≤ 4 }
+        requires { count ≤ most_fields }
         ensures { Takes (reading.numbers count (left self.old)) result (left self.new) }
     {
         let mut fields = Fields::none();

@@ -6,6 +6,7 @@ ghost use Rattle.layer_mean.specs.Headers.{declared};
 ghost use Rattle.layer_mean.specs.Tree.{no_layer};
 ghost use Rattle.typed_layer.specs.View.{layer_tree};
 ghost use Rattle.packet_full.specs.Form.{form_of};
+ghost use Rattle.msg_core.specs.Headers.{most_fields};
 
 use event_graph::Stack;
 use typed_layer::TypedLayer;
@@ -20,7 +21,7 @@ pub struct Form {
 /// The header of a layer that a tag stands for; the header `none` has the tag 0.
 fn declared_form(layer: &TypedLayer, tag: u8) -> Option<Form>
     ensures is { result ≡ option_map form_of (declared (layer_tree layer.now) tag) }
-    ensures few { IfSome result (λ form. form.fields ≤ 4) }
+    ensures few { IfSome result (λ form. form.fields ≤ most_fields) }
 {
     if tag == 0 {
         return Some(Form {
@@ -39,7 +40,7 @@ fn declared_form(layer: &TypedLayer, tag: u8) -> Option<Form>
 pub fn form_at(stack: &Stack, place: u8, tag: u8) -> Option<Form>
     requires { place < length (stack_tree stack.now) }
     ensures is { result ≡ option_map form_of (declared (slice_index_or (stack_tree stack.now) place no_layer) tag) }
-    ensures few { IfSome result (λ form. form.fields ≤ 4) }
+    ensures few { IfSome result (λ form. form.fields ≤ most_fields) }
 {
     declared_form(stack.layer(place), tag)
 }

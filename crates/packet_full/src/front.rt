@@ -1,7 +1,7 @@
 //! What stands in front of a datagram, and whether it is meant for a member.
 
 ghost use Rattle.std.specs.Prelude.{◌≡◌, ◌==◌, ◌&&◌, ◌||◌, ◌≤◌, not, nat_lt, IfOk};
-ghost use Rattle.msg_core.specs.View.{member_count as members_of};
+ghost use Rattle.msg_core.specs.View.{member_count as members_of, most_members};
 ghost use Rattle.packet_mean.specs.Reading as reading;
 ghost use Rattle.packet_mean.specs.Received as received;
 ghost use Rattle.packet_mean.specs.Spelling.{full_form, short_form};
@@ -51,7 +51,7 @@ pub(crate) fn is_form(byte: u8) -> bool
 /// How many members a view has.
 pub fn member_count(view: View) -> u32
     ensures count { result ≡ members_of view }
-    ensures few { result ≤ 32 }
+    ensures few { result ≤ most_members }
 {
     view.mask.count_ones()
 }

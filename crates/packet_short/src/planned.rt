@@ -5,6 +5,7 @@ ghost use Rattle.event_graph.specs.Answer.{stack_tree};
 ghost use Rattle.layer_mean.specs.Tree.{no_layer};
 ghost use Rattle.packet_full.specs.Taking.{Takes, left};
 ghost use Rattle.packet_short.specs.Dealing as dealing;
+ghost use Rattle.msg_core.specs.Headers.{most_fields};
 
 use event_graph::Stack;
 use msg_core::{Fields, Header, Headers};
@@ -57,7 +58,7 @@ impl<'a> Planned<'a> {
 
     /// The first so many planned fields.
     fn fields(&mut self, cursor: &mut Cursor<'_>, count: u8) -> Option<Fields>
-        requires { count ≤ 4 }
+        requires { count ≤ most_fields }
         ensures read { Takes (dealing.fields count self.old.fields.now (left cursor.old)) (option_map (λ own. (own, self.new.fields.now)) result) (left cursor.new) }
         ensures tags { self.new.tags ≡ self.old.tags }
     {

@@ -6,9 +6,7 @@ ghost use Rattle.audit_mean.specs.Line as spec;
 ghost use Rattle.run_audit.specs.Reading.{Says, parts_left};
 
 use crate::parts::Parts;
-
-/// The highest number of a member.
-const LAST_MEMBER: u64 = 31;
+use msg_core::LAST_MEMBER;
 
 /// The highest number of 32 bits, such as a peer and a logical time are.
 const HIGHEST: u64 = 4_294_967_295;
@@ -78,7 +76,7 @@ fn behind_first<'a>(verb: &[u8], words: Parts<'a>) -> Option<Line<'a>>
 fn deliver(mut words: Parts<'_>) -> Option<Line<'_>>
     ensures { Says (spec.deliver_line (parts_left words.entry)) result }
 {
-    let member = words.number(LAST_MEMBER)? as u8;
+    let member = words.number(u64::from(LAST_MEMBER))? as u8;
     let kind = words.next()?;
     if kind == b"cast".as_slice() {
         delivered_cast(member, words)
@@ -110,7 +108,7 @@ fn delivered_send(mut words: Parts<'_>) -> Option<Line<'_>>
 fn view(mut words: Parts<'_>) -> Option<Line<'_>>
     ensures { Says (spec.view_line (parts_left words.entry)) result }
 {
-    let member = words.number(LAST_MEMBER)? as u8;
+    let member = words.number(u64::from(LAST_MEMBER))? as u8;
     let ltime = words.number(HIGHEST)? as u32;
     let mask = words.number(HIGHEST)? as u32;
     words.end()?;
@@ -120,7 +118,7 @@ fn view(mut words: Parts<'_>) -> Option<Line<'_>>
 fn out(mut words: Parts<'_>) -> Option<Line<'_>>
     ensures { Says (spec.out_line (parts_left words.entry)) result }
 {
-    let member = words.number(LAST_MEMBER)? as u8;
+    let member = words.number(u64::from(LAST_MEMBER))? as u8;
     words.end()?;
     Some(Line::Out(member))
 }

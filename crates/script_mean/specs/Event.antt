@@ -5,6 +5,7 @@ use Rattle.script_mean.specs.Form.{Form, ◌>>=◌, a_word, the_word, a_number, 
 use Rattle.script_mean.specs.declared.script.GroupLine.{GroupLine}
 use Rattle.script_mean.specs.declared.event.ScriptEvent.{ScriptEvent}
 use Rattle.script_mean.specs.declared.event.ScriptEvent.TheVariants.{Cast, Send, Leave, Tick, Give, Raw, Show}
+use Rattle.msg_core.specs.View.{most_members, last_member}
 
 -- `group G stamp S members N`, N from 1 to 32
 abbrev pub group_line : Form GroupLine
@@ -14,7 +15,7 @@ group_line = do
   _ ← the_word (codes "stamp")
   stamp ← a_number
   _ ← the_word (codes "members")
-  members ← a_number_within 1 32
+  members ← a_number_within 1 most_members
   ends (record { group = group; stamp = stamp; members = members })
 
 -- `cast M HEX`
@@ -28,7 +29,7 @@ cast_line = do
 abbrev pub send_line : Form ScriptEvent
 send_line = do
   member ← a_number
-  rank ← a_number_within 0 31
+  rank ← a_number_within 0 last_member
   body ← a_body
   ends (Send member rank body)
 

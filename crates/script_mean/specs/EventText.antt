@@ -7,6 +7,8 @@ use Rattle.script_mean.specs.Words.{Word}
 use Rattle.script_mean.specs.Event.{event_line, said_by}
 use Rattle.script_mean.specs.declared.event.ScriptEvent.{ScriptEvent}
 use Rattle.script_mean.specs.declared.event.ScriptEvent.TheVariants.{Cast, Send, Leave, Tick, Give, Raw, Show}
+use Rattle.msg_core.specs.View.{last_member}
+use Rattle.outside.specs.declared.links.TheConstants.{MOST_BYTES}
 
 -- bytes in lower case hexadecimal, or `-` for none
 abbrev pub hex_text : List ℕ → Word
@@ -34,13 +36,13 @@ IsSayable number = number ≤ 4294967295
 -- a body that a line can say
 pub record IsBody (body : List ℕ) : Type 0 where
   pub bytes : All (λ byte. byte < 256) body
-  pub most : length body ≤ 65507
+  pub most : length body ≤ MOST_BYTES
 
--- an event that a line can say: its numbers have at most 32 bits, its rank is at most 31, and its body has
--- at most 65,507 bytes
+-- an event that a line can say: its numbers have at most 32 bits, its rank is at most 31, and its body no
+-- more bytes than a datagram
 abbrev pub IsEvent : ScriptEvent → Type 0
 IsEvent (Cast member body) = IsSayable member × IsBody body
-IsEvent (Send member rank body) = IsSayable member × (rank ≤ 31) × IsBody body
+IsEvent (Send member rank body) = IsSayable member × (rank ≤ last_member) × IsBody body
 IsEvent (Leave member) = IsSayable member
 IsEvent (Tick member time) = IsSayable member × IsSayable time
 IsEvent (Give packet member) = IsSayable packet × IsSayable member

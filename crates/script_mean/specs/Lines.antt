@@ -14,9 +14,16 @@ lines_of text = slice_split is_line_feed text
 abbrev pub line_count : List ℕ → ℕ
 line_count text = count_by is_line_feed text + (if length (after_last is_line_feed text) == 0 then 0 else 1)
 
--- more than 4,194,304 bytes or 100,000 lines are too long, whatever they say
+-- how many bytes and lines a script has at most
+abbrev pub longest_script : ℕ
+longest_script = 4194304
+
+abbrev pub most_lines : ℕ
+most_lines = 100000
+
+-- more bytes or lines are too long, whatever they say
 abbrev pub is_too_long : List ℕ → Bool
-is_too_long text = nat_lt 4194304 (length text) || nat_lt 100000 (line_count text)
+is_too_long text = nat_lt longest_script (length text) || nat_lt most_lines (line_count text)
 
 -- an empty line, or one that begins with `#` (35), says nothing
 abbrev pub says_nothing : List ℕ → Bool

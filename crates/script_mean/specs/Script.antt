@@ -4,6 +4,7 @@ use Rattle.script_mean.specs.Lines.{is_too_long, said_lines}
 use Rattle.script_mean.specs.Event.{group_line, event_line, said_by, member_of}
 use Rattle.script_mean.specs.declared.script.Script.{Script}
 use Rattle.script_mean.specs.declared.event.ScriptEvent.{ScriptEvent}
+use Rattle.msg_core.specs.View.{most_members}
 
 -- why a text spells no script or plan; lines are counted from 1
 pub data ScriptFault : Type 0 where
@@ -55,5 +56,5 @@ script_of text = if is_too_long text then Err too_long else script_of_lines (sai
 -- a script whose events can be run: it has 1 to 32 members, and each event is of one of them
 pub record IsRunnable (script : Script) : Type 0 where
   pub some_member : 1 ≤ script.members
-  pub most_members : script.members ≤ 32
+  pub most_members : script.members ≤ most_members
   pub of_members : All (λ event. member_of event < script.members) script.events

@@ -52,9 +52,13 @@ hex_bytes (high ∷ low ∷ more) = do
   bytes ← hex_bytes more
   Some ((h * 16 + l) ∷ bytes)
 
--- a body: `-` for no bytes, or the digits of 1 to 65,507 bytes
+-- the most digits of a body: two for each byte that a datagram has at most
+abbrev pub most_digits : ℕ
+most_digits = 131014
+
+-- a body: `-` for no bytes, or the digits of some
 abbrev pub body_of : Word → Option (List ℕ)
 body_of word =
     if bytes_eq word (codes "-") then Some []
-    else if length word == 0 || nat_lt 131014 (length word) then None
+    else if length word == 0 || nat_lt most_digits (length word) then None
     else hex_bytes word

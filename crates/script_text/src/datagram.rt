@@ -4,6 +4,7 @@ ghost use Rattle.std.specs.List.{range_with_len};
 ghost use Rattle.script_mean.specs.Event.{member_of};
 ghost use Rattle.script_mean.specs.Generate as spec;
 ghost use Rattle.script_text.specs.Making.{Makes};
+ghost use Rattle.msg_core.specs.View.{most_members};
 
 use crate::seed::Seed;
 use script_mean::{Bytes, ScriptEvent};
@@ -34,7 +35,7 @@ pub(crate) fn datagram(
     members: u8,
     member: u8,
 ) -> Result<ScriptEvent, AllocError>
-    requires { (1 ≤ members) × (members ≤ 32) }
+    requires { (1 ≤ members) × (members ≤ most_members) }
     ensures made { Makes (spec.a_datagram members member seed.old.value) result seed.new.value }
     ensures of_member { IfOk result (λ event. member_of event ≡ member) }
 {
@@ -50,7 +51,7 @@ pub(crate) fn datagram(
 
 /// The bytes in front of a datagram's headers.
 fn preamble(alloc: Global, form: u32, members: u8, sender: u8) -> Result<Vec<u8>, AllocError>
-    requires { members ≤ 32 }
+    requires { members ≤ most_members }
     ensures { IfOk result (λ bytes. bytes.items ≡ spec.a_preamble form members sender) }
 {
     let mut bytes = Vec::new(alloc);
@@ -66,7 +67,7 @@ fn preamble(alloc: Global, form: u32, members: u8, sender: u8) -> Result<Vec<u8>
 
 /// The mask of a view of all members.
 fn all_of(members: u8) -> u32
-    requires { members ≤ 32 }
+    requires { members ≤ most_members }
     ensures { result ≡ 2 ^ members - 1 }
 {
     (2_u64.pow(u32::from(members)) - 1) as u32

@@ -4,17 +4,19 @@ ghost use Rattle.script_mean.specs.Event as spec;
 ghost use Rattle.script_mean.specs.Script.{event_of, in_form};
 ghost use Rattle.script_text.specs.Answer.{Answers};
 ghost use Rattle.script_text.specs.Reading.{IsBelow, IsEvent, Says, numbered, words_left};
+ghost use Rattle.msg_core.specs.View.{most_members};
 
 use crate::error::{LineError, ScriptError};
 use crate::lines::Line;
 use crate::words::Words;
+use msg_core::{LAST_MEMBER, MOST_MEMBERS};
 use script_mean::{GroupLine, ScriptEvent};
 use std::alloc::Global;
 
 /// What the first line of a script says.
 pub(crate) fn group_line(line: Line<'_>) -> Result<GroupLine, ScriptError>
     ensures said { Answers (in_form line.entry.number (spec.said_by spec.group_line line.entry.text.now)) result }
-    ensures bounds { IfOk result (λ said. (1 ≤ said.members) × (said.members ≤ 32)) }
+    ensures bounds { IfOk result (λ said. (1 ≤ said.members) × (said.members ≤ most_members)) }
 {
     match group(Words::on(line.text)) {
         Ok(group_line) => Ok(group_line),
@@ -24,14 +26,14 @@ pub(crate) fn group_line(line: Line<'_>) -> Result<GroupLine, ScriptError>
 
 fn group(mut words: Words<'_>) -> Result<GroupLine, LineError>
     ensures said { Says (spec.group_line (words_left words.entry)) result }
-    ensures bounds { IfOk result (λ said. (1 ≤ said.members) × (said.members ≤ 32)) }
+    ensures bounds { IfOk result (λ said. (1 ≤ said.members) × (said.members ≤ most_members)) }
 {
     words.the_word(b"group")?;
     let group = words.number()?;
     words.the_word(b"stamp")?;
     let stamp = words.number()?;
     words.the_word(b"members")?;
-    let members = words.number_within(1, 32)? as u8;
+    let members = words.number_within(1, u32::from(MOST_MEMBERS))? as u8;
     words.end()?;
     Ok(GroupLine {
         group,
@@ -99,7 +101,7 @@ pub(crate) fn send(
     ensures { IsEvent members (spec.send_line (words_left words.entry)) result }
 {
     let member = words.number()?;
-    let rank = words.number_within(0, 31)?;
+    let rank = words.number_within(0, u32::from(LAST_MEMBER))?;
     let body = words.body(alloc)?;
     words.end()?;
     Ok(ScriptEvent::Send(member_below(members, member)?, rank, body))

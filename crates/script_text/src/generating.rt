@@ -2,6 +2,7 @@
 ghost use Rattle.std.specs.Prelude.{◌≡◌, ◌≤◌, IfOk};
 ghost use Rattle.script_mean.specs.Generate as spec;
 ghost use Rattle.script_mean.specs.Script.{IsRunnable};
+ghost use Rattle.msg_core.specs.View.{most_members};
 
 use crate::maker::Maker;
 use crate::seed::Seed;
@@ -17,7 +18,7 @@ pub fn generate(
     members: u8,
     raw: bool,
 ) -> Result<Script, AllocError>
-    requires members { (1 ≤ members) × (members ≤ 32) }
+    requires members { (1 ≤ members) × (members ≤ most_members) }
     requires few { events ≤ 2147483647 }
     ensures made { IfOk result (λ script. script ≡ spec.generate seed events members raw) }
     ensures runnable { IfOk result IsRunnable }

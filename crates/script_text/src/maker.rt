@@ -3,6 +3,7 @@ ghost use Rattle.std.specs.Prelude.{◌≡◌, ◌+◌, ◌<◌, ◌≤◌, leng
 ghost use Rattle.script_mean.specs.Event.{member_of};
 ghost use Rattle.script_mean.specs.Generate as spec;
 ghost use Rattle.script_text.specs.Making.{IsWithin, Makes, MakesEvent};
+ghost use Rattle.msg_core.specs.View.{most_members};
 
 use crate::datagram::{body, datagram};
 use crate::seed::Seed;
@@ -22,7 +23,7 @@ pub(crate) struct Maker {
 impl Maker {
     /// The event of this number, counted from 0.
     pub(crate) fn event(&mut self, alloc: Global, number: u32) -> Result<ScriptEvent, AllocError>
-        requires members { (1 ≤ self.old.members) × (self.old.members ≤ 32) }
+        requires members { (1 ≤ self.old.members) × (self.old.members ≤ most_members) }
         requires cursors { length self.old.cursors.items ≡ self.old.members }
         requires within { IsWithin number self.old.cursors.items }
         requires few { number < 2147483647 }

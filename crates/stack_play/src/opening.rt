@@ -4,6 +4,7 @@ ghost use Rattle.std.specs.Prelude.{◌≤◌, IfOk};
 ghost use Rattle.chain_laws.specs.Runs.{TypedStack};
 ghost use Rattle.event_graph.specs.Answer.{stack_tree};
 ghost use Rattle.stack_play.specs.Opening.{IsPrepared, Opens};
+ghost use Rattle.msg_core.specs.View.{most_members};
 
 use crate::error::PlayError;
 use crate::run::{Opened, Parts, Run};
@@ -47,7 +48,7 @@ pub fn open(
     members: u8,
 ) -> Result<Opened, PlayError>
     requires typed { TypedStack (stack_tree stack) }
-    requires members { (1 ≤ members) × (members ≤ 32) }
+    requires members { (1 ≤ members) × (members ≤ most_members) }
     ensures { Opens (stack_tree stack) group stamp members result }
 {
     let Parts {

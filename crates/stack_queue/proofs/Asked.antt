@@ -27,7 +27,7 @@ use Rattle.packet_mean.specs.ChainedState.{IsFrom, Brings}
 use Rattle.chain_laws.specs.Runs.{IsChainedTask, task_place}
 use Rattle.chain_laws.proofs.Runs.{chains_are_short}
 use Rattle.orderly_laws.proofs.Orderly.{chained_is_known, typed_is_orderly}
-use Rattle.layer_desk.specs.Need.{Layout, headers_of, most_above, most_places}
+use Rattle.layer_desk.specs.Need.{Layout, headers_of, most_above}
 use Rattle.layer_room.specs.Laws.{FitsNode, task_need}
 use Rattle.layer_room.proofs.Nodes.{nodes_cover_needs}
 use Rattle.pool_message.specs.Seen.{body_refs, refs_if, event_refs, event_seen}
@@ -42,6 +42,7 @@ use Rattle.stack_queue.specs.Pending.{task_seen, tasks_seen, tasks_refs}
 use Rattle.stack_queue.specs.Going.{Begun, Now, BeginsWell, Going, weight_of}
 use Rattle.stack_queue.proofs.Refs.{all_as, each_both}
 use Rattle.stack_queue.proofs.Lines.{is_visit}
+use Rattle.msg_core.specs.Headers.{most_places}
 
 -- an event has one reference at most
 body_few : (o : Option Part) → length (body_refs o) ≤ 1

@@ -12,7 +12,7 @@ use Rattle.layer_mean.specs.declared.run.Event.{Event}
 use Rattle.layer_mean.specs.State.{State}
 use Rattle.layer_mean.specs.Tree.{LayerTree, no_layer}
 use Rattle.layer_mean.specs.Visit.{step, no_state}
-use Rattle.layer_desk.specs.Need.{most_places}
+use Rattle.msg_core.specs.Headers.{most_places}
 use Rattle.layer_stage.specs.Room.{most_kept}
 use Rattle.stack_queue.specs.Stages.{Stand}
 use Rattle.stack_queue.proofs.Refs.{all_at, map_set_same, each_at, each_set, each_few, others_stay}

@@ -12,7 +12,7 @@ use Rattle.stack_mean.specs.Graph.{first_on_cycle}
 use Rattle.weight_laws.specs.Visits.{task_weight, task_joins}
 use Rattle.weight_laws.specs.Runs.{pending_weight, pending_joins}
 use Rattle.chain_laws.specs.Runs.{TypedStack, IsChainedLine}
-use Rattle.layer_desk.specs.Need.{most_places}
+use Rattle.msg_core.specs.Headers.{most_places}
 use Rattle.layer_stage.specs.Room.{CountsWithin}
 use Rattle.layer_eval.specs.declared.predicted.Predicted.{Predicted}
 use Rattle.layer_eval.specs.Did.{as_predicted}

@@ -4,7 +4,7 @@ ghost use Rattle.std.specs.Prelude.{◌≡◌, [], ◌∷◌, ◌==◌, ◌&&◌
 ghost use Rattle.circular_buffer.specs.Buffer.{buffer};
 ghost use Rattle.slot_pool.specs.Held.{Held};
 ghost use Rattle.msg_core.specs.Parts.{longest_body};
-ghost use Rattle.msg_core.specs.View.{member_count as members_of};
+ghost use Rattle.msg_core.specs.View.{member_count as members_of, most_members};
 ghost use Rattle.layer_ast.specs.declared.tokens.Dir.TheVariants.{Up, Down};
 ghost use Rattle.layer_ast.specs.declared.tokens.Kind.TheVariants as kind;
 ghost use Rattle.layer_mean.specs.Event.{carries};
@@ -114,7 +114,7 @@ fn above(here: &Here, event: &PoolEvent) -> What
 /// Whether a rank is that of another member.
 fn is_other(here: &Here, peer: u32) -> bool
     ensures is { result ≡ nat_lt peer (members_of here.now.view) && not (peer == here.now.rank) }
-    ensures few { result ≡ true → peer < 32 }
+    ensures few { result ≡ true → peer < most_members }
 {
     peer < member_count(here.view) && peer != u32::from(here.rank)
 }

@@ -41,6 +41,7 @@ impl Model for Handlers {
     ghost use Rattle.typed_layer.specs.declared.tree.Handler.{Handler};
     ghost use Rattle.typed_layer.specs.contracts.tree.Handler as handler;
     ghost use Rattle.typed_layer.specs.Table.{IsTagged, table_from};
+    ghost use Rattle.typed_layer.specs.declared.handlers.TheConstants.{MOST_HANDLERS};
 
     ghost Value = { List Handler };
 
@@ -49,13 +50,13 @@ impl Model for Handlers {
     ghost view = { λ h. h.items.items };
 
     ghost invariant = { λ h.
-        (length h.items.items ≤ 64) × All IsTagged h.items.items × (h.table.items ≡ table_from 0 h.items.items) };
+        (length h.items.items ≤ MOST_HANDLERS) × All IsTagged h.items.items × (h.table.items ≡ table_from 0 h.items.items) };
 }
 
 impl Handlers {
     /// These handlers, at most 64, of tags below 8. Err only where memory runs out.
     pub fn of(alloc: Global, items: Vec<Handler>) -> Result<Handlers, AllocError>
-        requires few { vec_len items ≤ 64 }
+        requires few { vec_len items ≤ MOST_HANDLERS }
         requires tagged { All IsTagged items.items }
         ensures { IfOk result (λ handlers. handlers ≡ items.items) }
     {
@@ -103,7 +104,7 @@ fn handler_number(handler: &Handler) -> usize
 
 /// The table of handlers: a handler in front of others of its number stands in it.
 fn table_of(alloc: Global, handlers: &[Handler]) -> Result<Vec<u8>, AllocError>
-    requires { length handlers.now ≤ 64 }
+    requires { length handlers.now ≤ MOST_HANDLERS }
     ensures { IfOk result (λ table. table.items ≡ table_from 0 handlers.now) }
 {
     let mut table = vec![in alloc; NO_HANDLER; CODES]?;

@@ -12,7 +12,7 @@ mod typed;
 pub use handlers::{Handlers, MOST_HANDLERS};
 pub use tree::{
     Blank, Block, Carried, Cell, Content, Emission, Expected, Expression, Form, Handler,
-    HeaderForm, ItemMessage, Items, MOST_NUMBERS, MessageExpression, Numbers, Row, Statement,
-    Taken, TakenMessage, TypedLayer,
+    HeaderForm, ItemMessage, Items, MessageExpression, Numbers, Row, Statement, Taken,
+    TakenMessage, TypedLayer,
 };
-pub use typed::{MOST_PLACES, Typed};
+pub use typed::Typed;

@@ -1,13 +1,11 @@
 //! The trees that members run.
 
 ghost use Rattle.std.specs.Prelude.{◌≤◌};
+ghost use Rattle.msg_core.specs.Headers.{most_fields};
 
 use crate::handlers::Handlers;
 use layer_ast::{Dir, Function, Kind, Likely, Operator, Shape, Word};
 use std::marker::Model;
-
-/// The most numbers of a header or of a row.
-pub const MOST_NUMBERS: usize = 4;
 
 /// A layer at its place. Names are kept for reports alone.
 #[derive(Drop)]
@@ -75,7 +73,7 @@ pub struct HeaderForm {
     pub fields: u8,
     /// Whether it closes the chain; else the headers of the layers above follow.
     pub ends: bool,
-    ghost few: { fields ≤ 4 },
+    ghost few: { fields ≤ most_fields },
 }
 
 /// What a layer does on an event of one direction, kind and popped header. Its scope has the event's numbers, the header's
@@ -218,6 +216,7 @@ impl Model for Numbers {
     ghost use Rattle.std.specs.Coded.{codes};
     ghost use Rattle.typed_layer.specs.declared.tree.Expression.{Expression};
     ghost use Rattle.typed_layer.specs.contracts.tree.Expression as expression;
+    ghost use Rattle.msg_core.specs.Headers.{most_fields};
 
     ghost Value = { List Expression };
 
@@ -225,7 +224,7 @@ impl Model for Numbers {
 
     ghost view = { λ n. n.expressions.items };
 
-    ghost invariant = { λ n. length n.expressions.items ≤ 4 };
+    ghost invariant = { λ n. length n.expressions.items ≤ most_fields };
 }
 
 impl Numbers {
@@ -233,7 +232,7 @@ impl Numbers {
 
     /// These expressions, of which there are at most four.
     pub fn of(expressions: Vec<Expression>) -> Numbers
-        requires { vec_len expressions ≤ 4 }
+        requires { vec_len expressions ≤ most_fields }
         ensures { result ≡ expressions.items }
     {
         Numbers { expressions }
@@ -241,7 +240,7 @@ impl Numbers {
 
     pub fn slice(&self) -> &[Expression]
         ensures value { result.now ≡ self.now }
-        ensures few { length result.now ≤ 4 }
+        ensures few { length result.now ≤ most_fields }
     {
         self.expressions.as_slice()
     }

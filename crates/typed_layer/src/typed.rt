@@ -3,19 +3,17 @@
 ghost use Rattle.std.specs.Prelude.{◌≡◌, ◌≤◌, ◌+◌, All, vec_len, length, option_map};
 ghost use Rattle.std.specs.Rc.{rc_value};
 ghost use Rattle.typed_layer.specs.Headers.{HasFewHeaders};
+ghost use Rattle.msg_core.specs.Headers.{most_places, most_tags};
 
 use crate::tree::TypedLayer;
 use std::rc::Rc;
-
-/// The most layers of a stack.
-pub const MOST_PLACES: usize = 24;
 
 /// The layers at the places of a stack, lowest first: 1 to 24, each with at most seven headers of its own.
 #[derive(Drop)]
 pub struct Typed {
     layers: Vec<Rc<TypedLayer>>,
     ghost some: { 1 ≤ vec_len layers },
-    ghost few: { vec_len layers ≤ 24 },
+    ghost few: { vec_len layers ≤ most_places },
     ghost few_headers: { All HasFewHeaders layers.items },
 }
 
@@ -29,7 +27,7 @@ impl Typed {
     /// These layers, lowest first.
     pub fn of(layers: Vec<Rc<TypedLayer>>) -> Typed
         requires some { 1 ≤ vec_len layers }
-        requires few { vec_len layers ≤ 24 }
+        requires few { vec_len layers ≤ most_places }
         requires few_headers { All HasFewHeaders layers.items }
         ensures { result.layers ≡ layers }
     {
@@ -40,7 +38,7 @@ impl Typed {
     pub fn places(&self) -> u8
         ensures is { result ≡ length (typed_tree self.now) }
         ensures some { 1 ≤ result }
-        ensures few { result ≤ 24 }
+        ensures few { result ≤ most_places }
     {
         self.layers.len() as u8
     }
@@ -48,7 +46,7 @@ impl Typed {
     /// How many tags the headers of the layer at a place of the queue can have, `none` counted.
     pub fn tags_at(&self, at: u16) -> u8
         ensures is { result ≡ length (layer_at (typed_tree self.now) at).headers + 1 }
-        ensures few { result ≤ 8 }
+        ensures few { result ≤ most_tags }
     {
         let place = usize::from(at).saturating_sub(1);
         if place < self.layers.len() {

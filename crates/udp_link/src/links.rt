@@ -1,12 +1,12 @@
 // Links over the system's sockets.
 ghost use Rattle.std.specs.Prelude.{◌≡◌, ◌≢◌, ◌<◌, ◌≤◌, ℕ, None, Some, Err, IsSome, IsSomeAnd, IfOk, IfSome, OnOk, OnErr, length, replicate, slice_get, vec_capacity};
 ghost use Rattle.outside.specs.declared.links.LinkError.TheVariants.{Memory};
-ghost use Rattle.outside.specs.declared.links.TheConstants.{MOST_BYTES};
+ghost use Rattle.outside.specs.declared.links.TheConstants.{MOST_BYTES, MOST_PEERS};
 ghost use Rattle.outside.specs.Links.{Listens, Sends, Receives, WritesFront, faults_after_call};
 ghost use Rattle.udp_link.specs.Listening.{listening_in, peers_in, peers_of};
 
 use crate::member::{Member, address};
-use outside::{LinkError, Links, MOST_BYTES, Peer};
+use outside::{LinkError, Links, MOST_BYTES, MOST_PEERS, Peer};
 use std::alloc::{AllocError, Global};
 use std::net::Net;
 
@@ -21,7 +21,7 @@ pub struct UdpLinks<R: Net + Drop> {
     room: Vec<u8>,
     faults: u64,
     send_faults: u64,
-    ghost places: { length members.items ≡ 32 },
+    ghost places: { length members.items ≡ MOST_PEERS },
     ghost room_size: { MOST_BYTES ≤ vec_capacity room },
 }
 
@@ -59,10 +59,10 @@ impl<R: Net + Drop> UdpLinks<R> {
 }
 
 fn nobody(alloc: Global) -> Result<Vec<Option<Member>>, AllocError>
-    ensures { IfOk result (λ members. members.items ≡ replicate 32 None) }
+    ensures { IfOk result (λ members. members.items ≡ replicate MOST_PEERS None) }
 {
-    let mut members = Vec::with_capacity(alloc, 32)?;
-    while members.len() < 32 {
+    let mut members = Vec::with_capacity(alloc, MOST_PEERS)?;
+    while members.len() < MOST_PEERS {
         members.push(None)?;
     }
     Ok(members)

@@ -1,8 +1,9 @@
 // A member that listens at a socket.
 ghost use Rattle.std.specs.Prelude.{◌≡◌, ◌<◌, ◌≤◌, Some, length, take, slice_get, IfOk, IfSome};
 ghost use Rattle.udp_link.specs.Address.{IsAddressOf};
+ghost use Rattle.outside.specs.declared.links.TheConstants.{MOST_PEERS};
 
-use outside::Peer;
+use outside::{MOST_PEERS, Peer};
 use std::io;
 use std::io::ErrorKind;
 use std::net::{Ipv4Addr, Net, SocketAddr, SocketAddrV4, UdpSocket};
@@ -22,9 +23,9 @@ const NOBODY: Peer = Peer {
 pub(crate) struct Member {
     socket: UdpSocket,
     // The first `count` of them.
-    peers: [Peer; 32],
+    peers: [Peer; MOST_PEERS],
     count: u8,
-    ghost few: { count ≤ 32 },
+    ghost few: { count ≤ MOST_PEERS },
 }
 
 impl Member {
@@ -32,7 +33,7 @@ impl Member {
 
     /// Listens at `place`.
     pub(crate) fn open(net: &impl Net, place: Peer, peers: &[Peer]) -> io::Result<Self>
-        requires { length peers.now ≤ 32 }
+        requires { length peers.now ≤ MOST_PEERS }
         ensures { IfOk result (λ member. peers_of member ≡ peers.now) }
     {
         let socket = net.bind_udp(address(place))?;
@@ -72,11 +73,11 @@ impl Member {
 }
 
 // The peers, with nobody behind them.
-fn table(peers: &[Peer]) -> [Peer; 32]
-    requires { length peers.now ≤ 32 }
+fn table(peers: &[Peer]) -> [Peer; MOST_PEERS]
+    requires { length peers.now ≤ MOST_PEERS }
     ensures { take (length peers.now) result ≡ peers.now }
 {
-    let mut all = [NOBODY; 32];
+    let mut all = [NOBODY; MOST_PEERS];
     all[..peers.len()].copy_from_slice(peers);
     all
 }

@@ -7,4 +7,4 @@ mod views;
 
 pub use refusal::Refusal;
 pub use step::{Change, Did, Input, Stepped};
-pub use views::{MOST_MEMBERS, next_view, rank};
+pub use views::{next_view, rank};

@@ -5,14 +5,11 @@ ghost use Rattle.std.specs.Int.{bit_at};
 ghost use Rattle.msg_core.specs.View as members;
 ghost use Rattle.run_mean.specs.View as views;
 
-use msg_core::View;
-
-/// The most members of a group; ids are below it.
-pub const MOST_MEMBERS: u8 = 32;
+use msg_core::{MOST_MEMBERS, View};
 
 /// Whether a number has a bit.
 fn has(number: u32, place: u8) -> bool
-    requires { place < 32 }
+    requires { place < MOST_MEMBERS }
     ensures { result ≡ (bit_at number place == 1) }
 {
     number >> place & 1 == 1

@@ -8,6 +8,7 @@ use Rattle.layer_mean.specs.Tree.{LayerTree}
 use Rattle.stack_mean.specs.Graph.{Node, Arrow, arrows, nodes}
 use Rattle.stack_mean.specs.Acceptance.{own_joins, held_at_most}
 use Rattle.weight_laws.specs.Nodes.{IsNode}
+use Rattle.msg_core.specs.Headers.{most_declared}
 
 -- The number of a node: by place, direction, kind and tag. A layer has at most seven headers, so tags are below 8.
 abbrev pub node_number : Node → ℕ
@@ -15,7 +16,7 @@ node_number n = ((n.at * 2 + tag_of dir_row.the_type n.dir) * 12 + tag_of kind_r
 
 -- Each layer of a stack has at most seven headers.
 abbrev pub HasFewHeaders : List LayerTree → Type 0
-HasFewHeaders stack = AllByRecursion (λ layer. length layer.headers ≤ 7) stack
+HasFewHeaders stack = AllByRecursion (λ layer. length layer.headers ≤ most_declared) stack
 
 -- How many numbers the nodes of a stack with so many places can have.
 abbrev pub numbers_for : ℕ → ℕ

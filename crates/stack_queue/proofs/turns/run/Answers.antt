@@ -5,7 +5,7 @@ use Rattle.typed_layer.specs.Places.{rc_tree}
 use Rattle.weight_laws.specs.Runs.{pending_weight}
 use Rattle.event_graph.specs.Answer.{stack_tree}
 use Rattle.event_graph.proofs.Judged.{accepted_is}
-use Rattle.layer_desk.specs.Need.{most_places}
+use Rattle.msg_core.specs.Headers.{most_places}
 use Rattle.layer_eval.specs.Did.{as_predicted}
 use Rattle.pool_message.specs.Sent.{sent_seen}
 use Rattle.stack_queue.specs.Pending.{first_task, tasks_seen}
