@@ -1,9 +1,10 @@
 -- Emissions that are yet to go.
 use Rattle.std.specs.Prelude.{◌≡◌, ℕ, ◌+◌, Bool, true, false, List, [], ◌∷◌, ◌++◌, slice_index_or, Option, Some, None, Result, Ok, Err}
+use Rattle.std.specs.Option.{option_map_or}
 use Rattle.msg_core.specs.Chain.{plain}
 use Rattle.layer_ast.specs.declared.tokens.Dir.{Dir}
 use Rattle.layer_mean.specs.declared.run.Event.{Event}
-use Rattle.layer_mean.specs.Tree.{StatementTree, bind, assign, assign_square}
+use Rattle.layer_mean.specs.Tree.{StatementTree, bind, assign, assign_square, EmissionTree, MessageTree, message}
 use Rattle.layer_mean.specs.Effect.{sent_as}
 use Rattle.layer_desk.specs.Laid.{Laid, event_in}
 use Rattle.layer_desk.specs.Need.{Room, Need}
@@ -17,6 +18,14 @@ sets_number (bind k e) = true
 sets_number (assign c i e) = true
 sets_number (assign_square c row column e) = true
 sets_number _ = false
+
+-- An emission that may wait for the end of the visit: it sends a message of the scope as it lies there.
+abbrev pub is_of_scope : MessageTree → Bool
+is_of_scope (message k) = true
+is_of_scope _ = false
+
+abbrev pub may_wait : EmissionTree → Bool
+may_wait e = option_map_or (λ c. is_of_scope c.message) e.content false
 
 -- The event of an emission that is yet to go.
 abbrev pub owed_event : Pending → Laid → Dir × Event

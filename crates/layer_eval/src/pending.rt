@@ -46,7 +46,7 @@ impl Owed {
     ghost use Rattle.layer_desk.specs.Laid.{left};
     ghost use Rattle.layer_desk.specs.Need.{nothing_needed};
     ghost use Rattle.layer_desk.specs.Spent.{Spent};
-    ghost use Rattle.layer_eval.specs.Owed.{settled, owing, IsPutOff};
+    ghost use Rattle.layer_eval.specs.Owed.{settled, owing, IsPutOff, may_wait};
 
     /// Nothing is owed.
     pub fn nothing() -> Owed
@@ -68,7 +68,7 @@ impl Owed {
         }
     }
 
-    /// Evaluates an emission that is put off, as those of messages of the scope are, where nothing was owed; says whether it is.
+    /// Evaluates an emission that is put off, as those of messages of the scope are and no others, where nothing was owed; says whether it is.
     #[inline(never)]
     pub fn put_off<K: Start, D: Desk>(
         &mut self,
@@ -79,7 +79,8 @@ impl Owed {
     ) -> bool
         requires ready { D.ready K.begun pool.now desk.now }
         requires none { self.old ≡ None }
-        ensures { IsPutOff result self.new (
+        ensures waits { result ≡ may_wait (emission_tree emission.now) }
+        ensures put_off { IsPutOff result self.new (
           emission.now.direction,
           emitted place (emission_tree emission.now) (D.shown pool.now desk.now).state (D.shown pool.now desk.now).scope,
         ) (D.shown pool.now desk.now) }

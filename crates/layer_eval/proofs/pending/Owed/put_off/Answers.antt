@@ -2,8 +2,8 @@ use Rattle.std.proofs.Common.{[], ◌∷◌, ◌++◌, refl, ap}
 use Rattle.layer_eval.proofs.Owed.{put_off_event}
 use Rattle.layer_eval.proofs.pending.Owed.put_off.Goals as goal
 
-pub returns : goal.returns
-returns g c =
+pub returns-clause-put_off : goal.returns-clause-put_off
+returns-clause-put_off g c =
     let p = g.D.Desk.shown c.args.pool.now c.args.desk.now in
     record {
       sent = ap (λ event. p.sent ++ event ∷ [])
