@@ -103,7 +103,7 @@ impl<R: Net + Drop> Links for UdpLinks<R> {
     #[tactic(auto, unfolding(crate::specs::Listening::peers_in))]
     fn listen(&mut self, member: u8, peers: &[Peer]) -> Result<(), LinkError>
         requires member { member < length peers.now }
-        requires few { length peers.now ≤ 32 }
+        requires few { length peers.now ≤ MOST_PEERS }
         ensures counted { self.new.faults ≡ faults_after_call self.old.faults result }
         ensures sends { self.new.send_faults ≡ self.old.send_faults }
         ensures listening { OnOk result (listening_in self.new.members.items member ≡ Some (length peers.now)) }

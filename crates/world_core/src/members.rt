@@ -5,6 +5,7 @@ ghost use Rattle.file_layer.specs.Making.{making};
 ghost use Rattle.run_mean.specs.View as views;
 ghost use Rattle.bypass_member.specs.Opening.{CanOpen};
 ghost use Rattle.world_core.specs.Opening.{OpensAll};
+ghost use Rattle.msg_core.specs.View.{most_members};
 
 use bypass_member::{Member, OpenError, Opening};
 use file_layer::Maker;
@@ -13,7 +14,7 @@ use std::alloc::Global;
 
 /// The first view of a group of so many members: all of them.
 fn first_view(n: u8) -> View
-    requires { n ≤ 32 }
+    requires { n ≤ most_members }
     ensures { result ≡ views.first_view n }
 {
     View {
@@ -30,7 +31,7 @@ pub fn open_all(
     n: u8,
 ) -> Result<Vec<Member>, OpenError>
     requires opening { CanOpen (2 ^ 61) (making maker.old) opening }
-    requires members { (1 ≤ n) × (n ≤ 32) }
+    requires members { (1 ≤ n) × (n ≤ most_members) }
     ensures { OpensAll opening.entry n (making maker.old) (making maker.new) result }
 {
     let view = first_view(n);

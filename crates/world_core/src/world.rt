@@ -11,6 +11,7 @@ ghost use Rattle.bypass_member.specs.Opening.{CanOpen};
 ghost use Rattle.world_core.specs.Feeding.{Fed};
 ghost use Rattle.world_core.specs.Opening.{Begins};
 ghost use Rattle.world_core.specs.Standing.{Stands, Stays};
+ghost use Rattle.msg_core.specs.View.{most_members};
 
 use crate::feed::Feed;
 use crate::members::{close_all, open_all};
@@ -81,7 +82,7 @@ impl World {
         n: u8,
     ) -> Result<World, OpenError>
         requires opening { CanOpen (2 ^ 61) (making maker.old) opening }
-        requires members { (1 ≤ n) × (n ≤ 32) }
+        requires members { (1 ≤ n) × (n ≤ most_members) }
         ensures { Begins opening.entry n (making maker.old) (making maker.new) result }
     {
         let (stack, plans) = match share(opening.stack, opening.plans) {
