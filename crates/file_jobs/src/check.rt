@@ -6,7 +6,7 @@ ghost use Rattle.event_graph.specs.Answer.{stack_tree};
 ghost use Rattle.std.specs.Fmt.{decimal};
 ghost use Rattle.job_mean.specs.Job as job;
 ghost use Rattle.job_mean.specs.Status.{done};
-ghost use Rattle.sink_lines.specs.Tells.{output_of};
+ghost use Rattle.sink_lines.specs.Tells.{tells_of};
 ghost use Rattle.job_ends.specs.Comes.{Comes, Writes, around};
 ghost use Rattle.job_ends.specs.Shown.{shown};
 
@@ -47,7 +47,7 @@ fn places_of(stack: Stack) -> u8
 /// Writes that a stack of so many places is accepted.
 fn accept<O: Sink>(alloc: Global, places: u8, out: &mut O) -> Ending
     ensures { Writes ((codes "accepted " ++ decimal places ++ codes "\n") ∷ []) done
-        (output_of O.Sink out.old) (output_of O.Sink out.new) (shown result) }
+        (tells_of O.Sink out.old) (tells_of O.Sink out.new) (shown result) }
 {
     match accepted_line(alloc, places) {
         Ok(line) => {

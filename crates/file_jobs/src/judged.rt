@@ -5,7 +5,7 @@ ghost use Rattle.std.specs.String.{string_bytes};
 ghost use Rattle.job_mean.specs.Status.{breached, done};
 ghost use Rattle.job_ends.specs.Comes.{Writes};
 ghost use Rattle.job_ends.specs.Shown.{shown};
-ghost use Rattle.sink_lines.specs.Tells.{output_of};
+ghost use Rattle.sink_lines.specs.Tells.{tells_of};
 
 use job_ends::Ending;
 use outside::{Sink, SinkError};
@@ -21,7 +21,7 @@ pub(crate) struct Output {
 /// Writes an output, and answers how the job ended.
 pub(crate) fn write<O: Sink>(output: &Output, out: &mut O) -> Ending
     ensures { Writes (string_bytes output.now.line ∷ []) (if output.now.breach then breached else done)
-        (output_of O.Sink out.old) (output_of O.Sink out.new) (shown result) }
+        (tells_of O.Sink out.old) (tells_of O.Sink out.new) (shown result) }
 {
     match put_line(output.line.as_bytes(), out) {
         Ok(()) if output.breach => Ending::Breached,

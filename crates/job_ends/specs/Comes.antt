@@ -23,7 +23,7 @@ use Rattle.program_mean.specs.Judged.{Means, Refuses}
 use Rattle.program_mean.specs.Output.{HasRoom, finding_line}
 use Rattle.program_mean.specs.Second.{second_fault}
 use Rattle.program_mean.specs.Headline.{ReadsStack, IsNoReport, whole_end}
-use Rattle.sink_lines.specs.Tells.{Tells, output_of}
+use Rattle.sink_lines.specs.Tells.{Tells, tells_of}
 use Rattle.sink_lines.specs.Lines.{Begins, Gains, Fails}
 
 -- What a job began with and what it left: what the shelf told, its count of faults before and after, and
@@ -47,7 +47,7 @@ surrounding told reads reads_after output output_after = record {
 -- The same, by what a shelf and an output were before and after.
 abbrev pub around : {S O : Type 0} → shelves.Ghosts S → outputs.Ghosts O → S → S → O → O → Around
 around s o shelf shelf_after out out_after = surrounding (s.told shelf) (s.faults shelf) (s.faults shelf_after)
-    (output_of o out) (output_of o out_after)
+    (tells_of o out) (tells_of o out_after)
 
 -- Nothing was read and nothing was written.
 pub record Nothing (a : Around) : Type 0 where

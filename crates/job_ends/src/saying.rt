@@ -5,7 +5,7 @@ ghost use Rattle.script_mean.specs.Script.{bad_line, no_member};
 ghost use Rattle.audit_mean.specs.Finding as report;
 ghost use Rattle.job_mean.specs.Status.{misspelled, report_refused, second_refused, status_number};
 ghost use Rattle.sink_lines.specs.Said.{errors};
-ghost use Rattle.sink_lines.specs.Tells.{output_of};
+ghost use Rattle.sink_lines.specs.Tells.{tells_of};
 ghost use Rattle.job_ends.specs.Shown.{Said, file_end, shown};
 
 use crate::ending::Ending;
@@ -27,7 +27,7 @@ pub const NO_MEMORY: u8 = 7;
 /// Says how a job ended, and answers the program's status.
 pub fn say<E: Sink>(alloc: Global, ending: Ending, err: &mut E) -> u8
     ensures { Said (shown ending)
-        (errors (output_of E.Sink err.old) (output_of E.Sink err.new) result) }
+        (errors (tells_of E.Sink err.old) (tells_of E.Sink err.new) result) }
 {
     match ending {
         Ending::Done => 0,
@@ -50,7 +50,7 @@ pub fn say<E: Sink>(alloc: Global, ending: Ending, err: &mut E) -> u8
 /// Says why a stack file is refused.
 fn say_file<E: Sink>(alloc: Global, error: FileError, err: &mut E) -> u8
     ensures { Said (file_end error)
-        (errors (output_of E.Sink err.old) (output_of E.Sink err.new) result) }
+        (errors (tells_of E.Sink err.old) (tells_of E.Sink err.new) result) }
 {
     match file_line(alloc, error) {
         Ok(line) => say_line(line.as_bytes(), file_status(error), err),
@@ -71,7 +71,7 @@ fn file_status(error: FileError) -> u8
 /// Says which line of a report is out of form.
 fn say_report<E: Sink>(alloc: Global, line: u32, err: &mut E) -> u8
     ensures { Said (report_refused (report.bad_line line))
-        (errors (output_of E.Sink err.old) (output_of E.Sink err.new) result) }
+        (errors (tells_of E.Sink err.old) (tells_of E.Sink err.new) result) }
 {
     match report_line(alloc, line) {
         Ok(line) => say_line(line.as_bytes(), FILE_REFUSED, err),
@@ -82,7 +82,7 @@ fn say_report<E: Sink>(alloc: Global, line: u32, err: &mut E) -> u8
 /// Says which line of the second file is out of form.
 fn say_second_line<E: Sink>(alloc: Global, line: u32, err: &mut E) -> u8
     ensures { Said (second_refused (misspelled (bad_line line)))
-        (errors (output_of E.Sink err.old) (output_of E.Sink err.new) result) }
+        (errors (tells_of E.Sink err.old) (tells_of E.Sink err.new) result) }
 {
     match second_line(alloc, line) {
         Ok(line) => say_line(line.as_bytes(), SECOND_REFUSED, err),
@@ -93,7 +93,7 @@ fn say_second_line<E: Sink>(alloc: Global, line: u32, err: &mut E) -> u8
 /// Says which line of the second file names a member that the group doesn't have.
 fn say_second_member<E: Sink>(alloc: Global, line: u32, err: &mut E) -> u8
     ensures { Said (second_refused (misspelled (no_member line)))
-        (errors (output_of E.Sink err.old) (output_of E.Sink err.new) result) }
+        (errors (tells_of E.Sink err.old) (tells_of E.Sink err.new) result) }
 {
     match second_member(alloc, line) {
         Ok(line) => say_line(line.as_bytes(), SECOND_REFUSED, err),

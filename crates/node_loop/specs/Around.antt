@@ -7,7 +7,7 @@ use Rattle.outside.specs.Links.{Network}
 use Rattle.outside.specs.declared.links.Links as links
 use Rattle.outside.specs.declared.sink.Sink as outputs
 use Rattle.sink_lines.specs.Tells as sink
-use Rattle.sink_lines.specs.Tells.{output_of}
+use Rattle.sink_lines.specs.Tells.{tells_of}
 
 -- What the output tells; how many listens and receives failed, and how many sends; and what the network tells.
 pub record Around : Type 0 where
@@ -21,7 +21,7 @@ surrounding output faults sends told = record { output = output; faults = faults
 
 -- What an output and links tell together.
 abbrev pub around : {O N : Type 0} → outputs.Ghosts O → links.Ghosts N → O → N → Around
-around o n out links = surrounding (output_of o out) (n.faults links) (n.send_faults links) (n.told links)
+around o n out links = surrounding (tells_of o out) (n.faults links) (n.send_faults links) (n.told links)
 
 -- A count behind so many more failed calls.
 abbrev pub count_on : ℕ → ℕ → ℕ

@@ -7,7 +7,7 @@ ghost use Rattle.member_laws.specs.Members.{IsGivenEvent};
 ghost use Rattle.script_mean.specs.Event.{member_of};
 ghost use Rattle.run_mean.specs.World.{World};
 ghost use Rattle.sink_lines.specs.Lines.{Wrote};
-ghost use Rattle.sink_lines.specs.Tells.{output_of};
+ghost use Rattle.sink_lines.specs.Tells.{tells_of};
 ghost use Rattle.node_laws.specs.Losses as losses;
 ghost use Rattle.node_loop.specs.Around.{around};
 ghost use Rattle.node_loop.specs.Course.{FedOn, plans_in, stack_in};
@@ -33,7 +33,7 @@ fn write_journal<O: Sink>(
     event: &ScriptEvent,
     out: &mut O,
 ) -> Result<(), SinkError>
-    ensures { Wrote (losses.journal_line event.now ∷ []) (output_of O.Sink out.old) (output_of O.Sink out.new) result }
+    ensures { Wrote (losses.journal_line event.now ∷ []) (tells_of O.Sink out.old) (tells_of O.Sink out.new) result }
 {
     line.clear();
     match journal_line(line, event) {

@@ -7,7 +7,7 @@ ghost use Rattle.packet_full.specs.Sent.{sent_packet};
 ghost use Rattle.packet_mean.specs.Spelling.{full_bytes};
 ghost use Rattle.run_mean.specs.Journal.{receivers};
 ghost use Rattle.sink_lines.specs.Lines.{Wrote};
-ghost use Rattle.sink_lines.specs.Tells.{output_of};
+ghost use Rattle.sink_lines.specs.Tells.{tells_of};
 ghost use Rattle.node_laws.specs.Losses as losses;
 ghost use Rattle.node_loop.specs.Around.{around};
 ghost use Rattle.node_loop.specs.Passing.{Handles};
@@ -34,7 +34,7 @@ struct Sending<'a> {
 
 /// Puts the line of a sending that failed.
 fn write_lost<O: Sink>(line: &mut Line, number: u64, out: &mut O) -> Result<(), SinkError>
-    ensures { Wrote (losses.lost_line number ∷ []) (output_of O.Sink out.old) (output_of O.Sink out.new) result }
+    ensures { Wrote (losses.lost_line number ∷ []) (tells_of O.Sink out.old) (tells_of O.Sink out.new) result }
 {
     line.clear();
     match lost_line(line, number) {

@@ -6,7 +6,7 @@ ghost use Rattle.script_mean.specs.declared.event.ScriptEvent.TheVariants.{Raw};
 ghost use Rattle.run_mean.specs.Journal.{Heard};
 ghost use Rattle.node_laws.specs.Doings.{Doing};
 ghost use Rattle.sink_lines.specs.Lines.{Wrote};
-ghost use Rattle.sink_lines.specs.Tells.{output_of};
+ghost use Rattle.sink_lines.specs.Tells.{tells_of};
 ghost use Rattle.node_laws.specs.Losses as losses;
 ghost use Rattle.node_laws.specs.Stages as stages;
 ghost use Rattle.node_laws.specs.Stages.{AreOrdered, own_doing, from_asking, from_planned, from_ticks, from_turn, planned_in};
@@ -58,7 +58,7 @@ fn tick_all<F: Feed, O: Sink, N: Links>(
 
 /// Puts the line of a member that couldn't hear.
 fn write_deaf<O: Sink>(line: &mut Line, id: u8, out: &mut O) -> Result<(), SinkError>
-    ensures { Wrote (losses.deaf_line id ∷ []) (output_of O.Sink out.old) (output_of O.Sink out.new) result }
+    ensures { Wrote (losses.deaf_line id ∷ []) (tells_of O.Sink out.old) (tells_of O.Sink out.new) result }
 {
     line.clear();
     match deaf_line(line, id) {
@@ -69,7 +69,7 @@ fn write_deaf<O: Sink>(line: &mut Line, id: u8, out: &mut O) -> Result<(), SinkE
 
 /// Bears a failed receive, and puts a line that says so; where no more may be borne, that is the end.
 fn bear<O: Sink>(line: &mut Line, id: u8, patience: &mut u32, out: &mut O) -> Result<(), NodeError>
-    ensures { Bears (losses.deaf_line id) patience.old patience.new (output_of O.Sink out.old) (output_of O.Sink out.new) result }
+    ensures { Bears (losses.deaf_line id) patience.old patience.new (tells_of O.Sink out.old) (tells_of O.Sink out.new) result }
 {
     if *patience == 0 {
         return Err(NodeError::Link);

@@ -7,7 +7,7 @@ ghost use Rattle.run_mean.specs.Lines as report;
 ghost use Rattle.run_mean.specs.Report.{end_line, packet_given, visits_line};
 ghost use Rattle.script_mean.specs.Event.{member_of};
 ghost use Rattle.sink_lines.specs.Lines.{Wrote};
-ghost use Rattle.sink_lines.specs.Tells.{output_of};
+ghost use Rattle.sink_lines.specs.Tells.{tells_of};
 ghost use Rattle.view_core.specs.Refusals.{refusal_meant};
 ghost use Rattle.report_text.specs.Numbered.{full_annex};
 ghost use Rattle.report_text.specs.Told.{AreFull, change_line, change_lines, stepped_lines, taken_lines, told_lines};
@@ -66,7 +66,7 @@ pub fn write_change<O: Sink>(
     out: &mut O,
 ) -> Result<(), SinkError>
     ensures { Wrote (change_lines id change)
-        (output_of O.Sink out.old) (output_of O.Sink out.new) result }
+        (tells_of O.Sink out.old) (tells_of O.Sink out.new) result }
 {
     let Some(change) = change else { return Ok(()) };
     pen.line.clear();
@@ -87,7 +87,7 @@ fn write_taken<O: Sink>(
     requires { issue.first + length issue.outputs.now.outputs < 2 ^ 64 }
     ensures { Wrote (taken_lines (stack_tree manner.entry.stack.now) (full_annex manner.entry.wire) issue.entry.id issue.entry.first
         issue.entry.outputs.now.outputs change)
-        (output_of O.Sink out.old) (output_of O.Sink out.new) result }
+        (tells_of O.Sink out.old) (tells_of O.Sink out.new) result }
 {
     write_outputs(pen, manner, issue, out)?;
     write_change(pen, issue.id, change, out)
@@ -101,7 +101,7 @@ pub fn write_refusal<O: Sink>(
     out: &mut O,
 ) -> Result<(), SinkError>
     ensures { Wrote (report.refused_line id (refusal_meant refusal) ∷ [])
-        (output_of O.Sink out.old) (output_of O.Sink out.new) result }
+        (tells_of O.Sink out.old) (tells_of O.Sink out.new) result }
 {
     pen.line.clear();
     match refused_line(&mut pen.line, id, refusal) {
@@ -121,7 +121,7 @@ fn write_stepped<O: Sink>(
     requires { issue.first + length issue.outputs.now.outputs < 2 ^ 64 }
     ensures { Wrote (stepped_lines (stack_tree manner.entry.stack.now) (full_annex manner.entry.wire) issue.entry.id issue.entry.first
         issue.entry.outputs.now.outputs stepped)
-        (output_of O.Sink out.old) (output_of O.Sink out.new) result }
+        (tells_of O.Sink out.old) (tells_of O.Sink out.new) result }
 {
     match stepped {
         Stepped::Taken { common: _, change } => { write_taken(pen, manner, issue, change, out) }
@@ -132,7 +132,7 @@ fn write_stepped<O: Sink>(
 /// Puts the line of a packet that isn't there.
 fn write_absent<O: Sink>(pen: &mut Pen, id: u8, number: u32, out: &mut O) -> Result<(), SinkError>
     ensures { Wrote (report.absent_line id number ∷ [])
-        (output_of O.Sink out.old) (output_of O.Sink out.new) result }
+        (tells_of O.Sink out.old) (tells_of O.Sink out.new) result }
 {
     pen.line.clear();
     match absent_line(&mut pen.line, id, number) {
@@ -153,7 +153,7 @@ pub fn write_event<O: Sink>(
     requires full { AreFull outcome.now.outputs.now.outputs }
     ensures { Wrote (told_lines (stack_tree manner.entry.stack.now) (plans_tree manner.entry.plans.now) manner.entry.wire outcome.now.event.now
         outcome.now.did outcome.now.outputs.now.outputs outcome.now.shown.now outcome.now.first)
-        (output_of O.Sink out.old) (output_of O.Sink out.new) result }
+        (tells_of O.Sink out.old) (tells_of O.Sink out.new) result }
 {
     let id = member_of(outcome.event);
     match outcome.did {
@@ -173,7 +173,7 @@ pub fn write_event<O: Sink>(
 /// Puts the last line of a report.
 pub fn write_end<O: Sink>(pen: &mut Pen, events: u64, out: &mut O) -> Result<(), SinkError>
     ensures { Wrote (end_line events ∷ [])
-        (output_of O.Sink out.old) (output_of O.Sink out.new) result }
+        (tells_of O.Sink out.old) (tells_of O.Sink out.new) result }
 {
     pen.line.clear();
     match report_lines::end_line(&mut pen.line, events) {
@@ -185,7 +185,7 @@ pub fn write_end<O: Sink>(pen: &mut Pen, events: u64, out: &mut O) -> Result<(),
 /// Puts the line of how many visits were counted.
 pub fn write_visits<O: Sink>(pen: &mut Pen, visits: u64, out: &mut O) -> Result<(), SinkError>
     ensures { Wrote (visits_line visits ∷ [])
-        (output_of O.Sink out.old) (output_of O.Sink out.new) result }
+        (tells_of O.Sink out.old) (tells_of O.Sink out.new) result }
 {
     pen.line.clear();
     match report_lines::visits_line(&mut pen.line, visits) {

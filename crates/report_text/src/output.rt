@@ -7,7 +7,7 @@ ghost use Rattle.packet_mean.specs.Spelling.{full_bytes};
 ghost use Rattle.run_mean.specs.Lines as report;
 ghost use Rattle.run_mean.specs.Report.{lines_of_outputs, number_behind, output_lines};
 ghost use Rattle.sink_lines.specs.Lines.{Wrote};
-ghost use Rattle.sink_lines.specs.Tells.{output_of};
+ghost use Rattle.sink_lines.specs.Tells.{tells_of};
 ghost use Rattle.step_outputs.specs.Views.{output_meant};
 ghost use Rattle.report_text.specs.Numbered.{full_annex, line_if};
 
@@ -68,7 +68,7 @@ pub fn put_output<O: Sink>(
     out: &mut O,
 ) -> Result<(), SinkError>
     ensures { Wrote (output_lines (stack_tree stack.now) id number (output_meant here.now output.now).0)
-        (output_of O.Sink out.old) (output_of O.Sink out.new) result }
+        (tells_of O.Sink out.old) (tells_of O.Sink out.new) result }
 {
     pen.line.clear();
     match build_output(&mut pen.line, stack, here, id, number, output) {
@@ -104,7 +104,7 @@ fn put_wire<O: Sink>(
     out: &mut O,
 ) -> Result<(), SinkError>
     ensures { Wrote (full_annex true number (output_meant here.now output.now))
-        (output_of O.Sink out.old) (output_of O.Sink out.new) result }
+        (tells_of O.Sink out.old) (tells_of O.Sink out.new) result }
 {
     let OutputView::Packet(packet) = output else {
         return Ok(())
@@ -128,7 +128,7 @@ fn write_output<O: Sink>(
 ) -> Result<(), SinkError>
     ensures { Wrote (output_lines (stack_tree manner.entry.stack.now) id number (output_meant here.now output.now).0
         ++ full_annex manner.entry.wire number (output_meant here.now output.now))
-        (output_of O.Sink out.old) (output_of O.Sink out.new) result }
+        (tells_of O.Sink out.old) (tells_of O.Sink out.new) result }
 {
     put_output(pen, manner.stack, here, id, number, output, out)?;
     if manner.wire {
@@ -160,7 +160,7 @@ pub(crate) fn write_outputs<O: Sink>(
     requires { issue.first + length issue.outputs.now.outputs < 2 ^ 64 }
     ensures { Wrote (lines_of_outputs (stack_tree manner.entry.stack.now) (full_annex manner.entry.wire) issue.entry.id issue.entry.first
         issue.entry.outputs.now.outputs)
-        (output_of O.Sink out.old) (output_of O.Sink out.new) result }
+        (tells_of O.Sink out.old) (tells_of O.Sink out.new) result }
 {
     let here = issue.outputs.here();
     let mut number = issue.first;

@@ -7,7 +7,7 @@ ghost use Rattle.member_shown.specs.Shown.{state_shown};
 ghost use Rattle.run_mean.specs.Lines as report;
 ghost use Rattle.run_mean.specs.Report as whole;
 ghost use Rattle.sink_lines.specs.Lines.{Wrote};
-ghost use Rattle.sink_lines.specs.Tells.{output_of};
+ghost use Rattle.sink_lines.specs.Tells.{tells_of};
 ghost use Rattle.typed_layer.specs.View.{cell_tree, layer_tree};
 ghost use Rattle.report_text.specs.Cells.{cells_shown, layers_shown, numbers_lines, one_queue, queue_lines};
 
@@ -34,7 +34,7 @@ fn write_numbers<O: Sink>(
     out: &mut O,
 ) -> Result<(), SinkError>
     ensures { Wrote (numbers_lines spot.id spot.place (layer_tree layer.now) name.now (cell_at (state_shown shown.now spot.place) spot.cell))
-        (output_of O.Sink out.old) (output_of O.Sink out.new) result }
+        (tells_of O.Sink out.old) (tells_of O.Sink out.new) result }
 {
     pen.line.clear();
     match build_numbers(&mut pen.line, shown, layer, name, spot) {
@@ -55,7 +55,7 @@ fn write_queue<O: Sink>(
 ) -> Result<(), SinkError>
     ensures { Wrote (one_queue (stack_tree stack.now) spot.id spot.place (layer_tree queues.entry.layer.now) queues.entry.is_array queues.entry.name.now
         (queue, rows_at (state_shown shown.now spot.place) spot.cell queue))
-        (output_of O.Sink out.old) (output_of O.Sink out.new) result }
+        (tells_of O.Sink out.old) (tells_of O.Sink out.new) result }
 {
     pen.line.clear();
     match build_queue(&mut pen.line, stack, shown, queues, spot, queue) {
@@ -75,7 +75,7 @@ fn write_queues<O: Sink>(
 ) -> Result<(), SinkError>
     ensures { Wrote (queue_lines (stack_tree stack.now) spot.id spot.place (layer_tree queues.entry.layer.now) queues.entry.is_array
         queues.entry.name.now (cell_at (state_shown shown.now spot.place) spot.cell))
-        (output_of O.Sink out.old) (output_of O.Sink out.new) result }
+        (tells_of O.Sink out.old) (tells_of O.Sink out.new) result }
 {
     for queue in 0..shown.queues_count(spot.place, spot.cell) {
         write_queue(pen, stack, shown, queues, spot, queue, out)?;
@@ -95,7 +95,7 @@ fn write_cell<O: Sink>(
 ) -> Result<(), SinkError>
     ensures { Wrote (whole.cell_lines (stack_tree stack.now) spot.id spot.place (layer_tree layer.now)
         (state_shown shown.now spot.place) (spot.cell, cell_tree cell.now))
-        (output_of O.Sink out.old) (output_of O.Sink out.new) result }
+        (tells_of O.Sink out.old) (tells_of O.Sink out.new) result }
 {
     match &cell.form {
         Form::Numbers {
@@ -139,7 +139,7 @@ fn write_layer<O: Sink>(
     out: &mut O,
 ) -> Result<(), SinkError>
     ensures { Wrote (cells_shown (stack_tree stack.now) id place (layer_tree layer.now) (state_shown shown.now place))
-        (output_of O.Sink out.old) (output_of O.Sink out.new) result }
+        (tells_of O.Sink out.old) (tells_of O.Sink out.new) result }
 {
     let count = layer.cells.len();
     if count > MOST_CELLS {
@@ -163,7 +163,7 @@ fn write_layers<O: Sink>(
     out: &mut O,
 ) -> Result<(), SinkError>
     ensures { Wrote (layers_shown (stack_tree stack.now) id shown.now)
-        (output_of O.Sink out.old) (output_of O.Sink out.new) result }
+        (tells_of O.Sink out.old) (tells_of O.Sink out.new) result }
 {
     for place in 0..stack.places() {
         write_layer(pen, stack, shown, stack.layer(place), id, place, out)?;
@@ -174,7 +174,7 @@ fn write_layers<O: Sink>(
 /// Puts the line of the view that a member is in.
 fn write_view<O: Sink>(pen: &mut Pen, id: u8, view: View, out: &mut O) -> Result<(), SinkError>
     ensures { Wrote (report.view_line (codes "state") id view ∷ [])
-        (output_of O.Sink out.old) (output_of O.Sink out.new) result }
+        (tells_of O.Sink out.old) (tells_of O.Sink out.new) result }
 {
     pen.line.clear();
     match state_line(&mut pen.line, id, view) {
@@ -186,7 +186,7 @@ fn write_view<O: Sink>(pen: &mut Pen, id: u8, view: View, out: &mut O) -> Result
 /// Puts the line of a member that is in no view.
 fn write_out<O: Sink>(pen: &mut Pen, id: u8, out: &mut O) -> Result<(), SinkError>
     ensures { Wrote (report.state_out_line id ∷ [])
-        (output_of O.Sink out.old) (output_of O.Sink out.new) result }
+        (tells_of O.Sink out.old) (tells_of O.Sink out.new) result }
 {
     pen.line.clear();
     match state_out_line(&mut pen.line, id) {
@@ -204,7 +204,7 @@ pub(crate) fn write_member<O: Sink>(
     out: &mut O,
 ) -> Result<(), SinkError>
     ensures { Wrote (whole.member_lines (stack_tree stack.now) id shown.now)
-        (output_of O.Sink out.old) (output_of O.Sink out.new) result }
+        (tells_of O.Sink out.old) (tells_of O.Sink out.new) result }
 {
     match shown.view() {
         Some(view) => {

@@ -5,7 +5,7 @@ ghost use Rattle.std.specs.Fmt.{decimal};
 ghost use Rattle.std.specs.List.{fold};
 ghost use Rattle.run_mean.specs.Report.{end_line};
 ghost use Rattle.sink_lines.specs.Lines.{Wrote};
-ghost use Rattle.sink_lines.specs.Tells.{output_of};
+ghost use Rattle.sink_lines.specs.Tells.{tells_of};
 ghost use Rattle.step_outputs.specs.Views.{output_meant};
 ghost use Rattle.report_text.specs.Counts.{change_counted, counted, kinds_line, lines_counted, no_counts, output_counted, short_line, step_counted, tally_lines, total, count_text};
 
@@ -200,7 +200,7 @@ fn build_kinds(line: &mut Line, tally: &Tally) -> Result<(), Memory>
 /// Puts the line of the kinds.
 fn write_kinds<O: Sink>(pen: &mut Pen, tally: &Tally, out: &mut O) -> Result<(), SinkError>
     ensures { Wrote (kinds_line tally.now ∷ [])
-        (output_of O.Sink out.old) (output_of O.Sink out.new) result }
+        (tells_of O.Sink out.old) (tells_of O.Sink out.new) result }
 {
     pen.line.clear();
     match build_kinds(&mut pen.line, tally) {
@@ -222,7 +222,7 @@ fn build_short(line: &mut Line, tally: &Tally) -> Result<(), Memory>
 /// Puts the line of the packets that are sent short.
 fn write_short<O: Sink>(pen: &mut Pen, tally: &Tally, out: &mut O) -> Result<(), SinkError>
     ensures { Wrote (short_line tally.now ∷ [])
-        (output_of O.Sink out.old) (output_of O.Sink out.new) result }
+        (tells_of O.Sink out.old) (tells_of O.Sink out.new) result }
 {
     pen.line.clear();
     match build_short(&mut pen.line, tally) {
@@ -234,7 +234,7 @@ fn write_short<O: Sink>(pen: &mut Pen, tally: &Tally, out: &mut O) -> Result<(),
 /// Puts the two lines of a tally: the lines of each kind with the events, and the packets that are sent short.
 pub fn write_tally<O: Sink>(pen: &mut Pen, tally: &Tally, out: &mut O) -> Result<(), SinkError>
     ensures { Wrote (tally_lines tally.now)
-        (output_of O.Sink out.old) (output_of O.Sink out.new) result }
+        (tells_of O.Sink out.old) (tells_of O.Sink out.new) result }
 {
     write_kinds(pen, tally, out)?;
     write_short(pen, tally, out)

@@ -12,5 +12,5 @@ abbrev pub tells : Option (List ℕ) → Option (List (Option ℕ)) → ℕ → 
 tells contents failures faults = record { contents = contents; failures = failures; faults = faults }
 
 -- What a sink of this kind tells.
-abbrev pub output_of : {O : Type 0} → outputs.Ghosts O → O → Tells
-output_of o out = tells (o.contents out) (o.failures out) (o.faults out)
+abbrev pub tells_of : {O : Type 0} → outputs.Ghosts O → O → Tells
+tells_of o out = tells (o.contents out) (o.failures out) (o.faults out)

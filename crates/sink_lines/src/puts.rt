@@ -2,7 +2,7 @@
 #![tactic(auto, using(crate::proofs::Gaining::begins_none))]
 
 ghost use Rattle.std.specs.Prelude.{◌∷◌, [], map};
-ghost use Rattle.sink_lines.specs.Tells.{output_of};
+ghost use Rattle.sink_lines.specs.Tells.{tells_of};
 ghost use Rattle.sink_lines.specs.Lines.{Wrote};
 ghost use Rattle.sink_lines.specs.Said.{SaysLine, errors};
 
@@ -13,7 +13,7 @@ const NO_MEMORY: u8 = 7;
 
 /// Puts one line on a sink.
 pub fn put_line<O: Sink>(line: &[u8], out: &mut O) -> Result<(), SinkError>
-    ensures { Wrote (line.now ∷ []) (output_of O.Sink out.old) (output_of O.Sink out.new) result }
+    ensures { Wrote (line.now ∷ []) (tells_of O.Sink out.old) (tells_of O.Sink out.new) result }
 {
     out.put(line)
 }
@@ -21,7 +21,7 @@ pub fn put_line<O: Sink>(line: &[u8], out: &mut O) -> Result<(), SinkError>
 /// Says a line, and answers the status that goes with it, or that memory ran out.
 pub fn say_line<E: Sink>(line: &[u8], status: u8, err: &mut E) -> u8
     ensures { SaysLine line.now status
-        (errors (output_of E.Sink err.old) (output_of E.Sink err.new) result) }
+        (errors (tells_of E.Sink err.old) (tells_of E.Sink err.new) result) }
 {
     match put_line(line, err) {
         Ok(()) => status,

@@ -12,7 +12,7 @@ ghost use Rattle.run_mean.specs.Report.{run_of};
 ghost use Rattle.run_mean.specs.Tally.{tally};
 ghost use Rattle.run_mean.specs.World as mean;
 ghost use Rattle.sink_lines.specs.Lines.{Wrote};
-ghost use Rattle.sink_lines.specs.Tells.{output_of};
+ghost use Rattle.sink_lines.specs.Tells.{tells_of};
 ghost use Rattle.report_text.specs.Counts.{counts_of, no_counts};
 ghost use Rattle.world_core.specs.Standing.{Stands};
 ghost use Rattle.stack_play.specs.Play.{Plays, most_events};
@@ -42,7 +42,7 @@ pub fn play_load<O: Sink>(
     requires runs { IsRunnable script.now }
     requires few { length script.now.events ≤ most_events }
     ensures { Plays (stack_tree stack) script.now.members (tally (stack_tree stack) (plans_of (stack_tree stack)) layered script.now)
-        (output_of O.Sink out.old) (output_of O.Sink out.new) result }
+        (tells_of O.Sink out.old) (tells_of O.Sink out.new) result }
 {
     match open(alloc, stack, script.group, script.stamp, script.members) {
         Ok(opened) => {
@@ -71,7 +71,7 @@ fn write_counts<O: Sink>(
     requires runs { IsRunnable script.now }
     requires few { length script.now.events ≤ most_events }
     ensures { Wrote (tally (stack_tree stack.now) (plans_tree plans.now) layered script.now)
-        (output_of O.Sink out.old) (output_of O.Sink out.new) result }
+        (tells_of O.Sink out.old) (tells_of O.Sink out.new) result }
 {
     let mut counts = Tally::new();
     match count_events(stack, plans, run, script, &mut counts) {

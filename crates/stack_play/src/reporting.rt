@@ -12,7 +12,7 @@ ghost use Rattle.job_mean.specs.Job.{layered};
 ghost use Rattle.run_mean.specs.Report.{end_line, mode_if, moment_lines, output_in, run_of, visits_of};
 ghost use Rattle.run_mean.specs.World as mean;
 ghost use Rattle.sink_lines.specs.Lines.{Wrote};
-ghost use Rattle.sink_lines.specs.Tells.{output_of};
+ghost use Rattle.sink_lines.specs.Tells.{tells_of};
 ghost use Rattle.world_core.specs.Standing.{Stands};
 ghost use Rattle.stack_play.specs.Play.{Plays, most_events};
 ghost use Rattle.stack_play.specs.Turns.{IsAtFirst, IsReady, Keeps, SomeWorld, TellsEvent, visits_if};
@@ -43,7 +43,7 @@ pub fn play<O: Sink>(
     requires runs { IsRunnable script.now }
     requires few { length script.now.events ≤ most_events }
     ensures { Plays (stack_tree stack) script.now.members (output_in (stack_tree stack) (plans_of (stack_tree stack)) script.now layered wire count)
-        (output_of O.Sink out.old) (output_of O.Sink out.new) result }
+        (tells_of O.Sink out.old) (tells_of O.Sink out.new) result }
 {
     match open(alloc, stack, script.group, script.stamp, script.members) {
         Ok(opened) => {
@@ -78,7 +78,7 @@ fn write_report<O: Sink>(
     requires runs { IsRunnable script.now }
     requires few { length script.now.events ≤ most_events }
     ensures { Wrote (output_in (stack_tree manner.entry.stack.now) (plans_tree manner.entry.plans.now) script.now layered manner.entry.wire count)
-        (output_of O.Sink out.old) (output_of O.Sink out.new) result }
+        (tells_of O.Sink out.old) (tells_of O.Sink out.new) result }
 {
     write_events(manner, run, script, out)?;
     let events = script.events.slice().len() as u64;
@@ -95,7 +95,7 @@ fn write_last<O: Sink>(
     out: &mut O,
 ) -> Result<(), SinkError>
     ensures { Wrote (end_line events ∷ visits_if count visits)
-        (output_of O.Sink out.old) (output_of O.Sink out.new) result }
+        (tells_of O.Sink out.old) (tells_of O.Sink out.new) result }
 {
     write_end(pen, events, out)?;
     if count {
@@ -119,7 +119,7 @@ fn write_events<O: Sink>(
     ensures lines { Wrote
         (flat_map (moment_lines (stack_tree manner.entry.stack.now) (plans_tree manner.entry.plans.now) (mode_if manner.entry.wire layered))
         (run_of (stack_tree manner.entry.stack.now) (plans_tree manner.entry.plans.now) script.now))
-        (output_of O.Sink out.old) (output_of O.Sink out.new) result }
+        (tells_of O.Sink out.old) (tells_of O.Sink out.new) result }
     ensures visits { OnOk result (run.new.visits
         ≡ sum_by (visits_of layered (stack_tree manner.entry.stack.now) (plans_tree manner.entry.plans.now))
         (run_of (stack_tree manner.entry.stack.now) (plans_tree manner.entry.plans.now) script.now)) }
@@ -144,7 +144,7 @@ fn play_event<O: Sink>(
     ensures kept { Keeps (stack_tree manner.entry.stack.now) (plans_tree manner.entry.plans.now) run.old run.new }
     ensures told { (w : mean.World) → Stands run.old.world w →
         TellsEvent (stack_tree manner.entry.stack.now) (plans_tree manner.entry.plans.now) manner.entry.wire w event.now run.old run.new
-        (output_of O.Sink out.old) (output_of O.Sink out.new) result }
+        (tells_of O.Sink out.old) (tells_of O.Sink out.new) result }
 {
     let first = run.world.next_number();
     match run.world.feed(event, &mut run.outputs, &mut run.visits) {

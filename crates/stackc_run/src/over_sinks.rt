@@ -3,7 +3,7 @@
 ghost use Rattle.std.specs.Prelude.{map};
 ghost use Rattle.std.specs.String.{string_bytes};
 ghost use Rattle.sink_lines.specs.Said.{errors};
-ghost use Rattle.sink_lines.specs.Tells.{output_of};
+ghost use Rattle.sink_lines.specs.Tells.{tells_of};
 ghost use Rattle.job_ends.specs.Comes.{around};
 ghost use Rattle.node_jobs.specs.Comes.{beyond};
 ghost use Rattle.stackc_run.specs.Performed.{Does};
@@ -32,7 +32,7 @@ pub fn run<S: Shelf, O: Sink, E: Sink, N: Links, C: Clock>(
 ) -> u8
     ensures { Does (map string_bytes words.now)
         (around S.Shelf O.Sink shelf.old shelf.new out.old out.new) (beyond N.Links C.Clock links.old links.new clock.old clock.new)
-        (errors (output_of E.Sink err.old) (output_of E.Sink err.new) result) }
+        (errors (tells_of E.Sink err.old) (tells_of E.Sink err.new) result) }
 {
     let ending = perform(alloc, words, shelf, out, links, clock);
     say(alloc, ending, err)

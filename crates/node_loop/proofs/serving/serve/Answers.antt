@@ -4,7 +4,7 @@ use Rattle.std.specs.Prelude.{Ok, Err}
 use Rattle.std.proofs.lemmas.Result.{err_from_is_err_and}
 use Rattle.packet_laws.specs.Strays.{AreNumbered}
 use Rattle.step_laws.proofs.Numbered.{plans_are_numbered}
-use Rattle.sink_lines.specs.Tells.{output_of}
+use Rattle.sink_lines.specs.Tells.{tells_of}
 use Rattle.node_loop.specs.Around.{around, surrounding}
 use Rattle.node_loop.specs.Course.{now, plans_in, stack_in}
 use Rattle.node_loop.specs.Serve.{Serves, layered_words, whereabouts}
@@ -26,7 +26,7 @@ returns-in_err-listen_all g c =
     let links = c.args.links.now in
     let listening = c.listen_all.new.links in
     rw (p.1, p.2) (not_all_listen (stack_in c.args.course) c.args.course.plan.now c.args.course.me.now c.args.course.turns c.args.patience
-    c.stopped_goes_on.ensures (output_of g.O.Sink c.args.out.now)
+    c.stopped_goes_on.ensures (tells_of g.O.Sink c.args.out.now)
     (g.C.Clock.told c.args.clock.now) (g.N.Links.faults links) (g.N.Links.faults listening) (g.N.Links.send_faults links) (g.N.Links.send_faults listening)
     (g.N.Links.told links) (g.N.Links.told listening) c.in_err-listen_all.field-0.0 c.in_err-listen_all.ensures.told c.in_err-listen_all.ensures.sends)
 
@@ -95,7 +95,7 @@ returns g c =
     let on = c.make_turns.new in
     let at = now (g.F.Feed.group on.feed) on.desk
     (around g.O.Sink g.N.Links on.out on.links) (g.C.Clock.told on.clock) in
-    let last = output_of g.O.Sink c.write_end.new.out in
+    let last = tells_of g.O.Sink c.write_end.new.out in
     subst (Serves (record { stack = stack; plan = plan; words = layered_words turns me patience }) (whereabouts before clock)
     (whereabouts (surrounding last at.around.faults at.around.sends at.around.told) at.clock)) (sym c.cut.ensures)
     (all_served stack plan me turns patience c.stopped_goes_on.ensures (whereabouts before clock) from

@@ -2,15 +2,15 @@ use Rattle.std.proofs.Common.{◌≡◌, ◌+◌, ◌≤◌, take}
 use Rattle.event_graph.specs.Answer.{stack_tree}
 use Rattle.run_mean.specs.Report.{lines_of_outputs}
 use Rattle.sink_lines.specs.Lines.{Gains}
-use Rattle.sink_lines.specs.Tells.{output_of}
+use Rattle.sink_lines.specs.Tells.{tells_of}
 use Rattle.report_text.specs.Numbered.{full_annex, number_after}
 use Rattle.report_text.proofs.output.write_outputs.Given as goal
 
 abbrev pub invariant-loop-k : goal.invariant-loop-k
 invariant-loop-k g l = record {
   gained : Gains
-      (output_of g.O.Sink l.initial.out)
-      (output_of g.O.Sink l.out)
+      (tells_of g.O.Sink l.initial.out)
+      (tells_of g.O.Sink l.out)
       (lines_of_outputs (stack_tree l.manner.stack.now) (full_annex l.manner.wire) l.issue.id l.issue.first (take l.k l.issue.outputs.now.outputs));
   numbered : l.number ≡ number_after l.issue.first (take l.k l.issue.outputs.now.outputs);
   few : l.number ≤ l.issue.first + l.k;

@@ -4,13 +4,13 @@ use Rattle.event_graph.specs.Answer.{stack_tree}
 use Rattle.member_shown.specs.Shown.{state_shown}
 use Rattle.run_mean.specs.Report.{cell_lines}
 use Rattle.sink_lines.specs.Lines.{Gains}
-use Rattle.sink_lines.specs.Tells.{output_of}
+use Rattle.sink_lines.specs.Tells.{tells_of}
 use Rattle.typed_layer.specs.View.{layer_tree}
 use Rattle.report_text.proofs.state.write_layer.Given as goal
 
 abbrev pub invariant-loop-number : goal.invariant-loop-number
 invariant-loop-number g l = Gains
-    (output_of g.O.Sink l.initial.out)
-    (output_of g.O.Sink l.out)
+    (tells_of g.O.Sink l.initial.out)
+    (tells_of g.O.Sink l.out)
     (flat_map (cell_lines (stack_tree l.stack) l.id l.place (layer_tree l.layer) (state_shown l.shown l.place))
     (take l.number (enumerate_from 0 (layer_tree l.layer).cells)))

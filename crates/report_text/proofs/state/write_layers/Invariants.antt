@@ -2,12 +2,12 @@ use Rattle.std.proofs.Common.{take}
 use Rattle.std.specs.List.{enumerate_from, flat_map}
 use Rattle.event_graph.specs.Answer.{stack_tree}
 use Rattle.sink_lines.specs.Lines.{Gains}
-use Rattle.sink_lines.specs.Tells.{output_of}
+use Rattle.sink_lines.specs.Tells.{tells_of}
 use Rattle.report_text.specs.Cells.{layer_shown}
 use Rattle.report_text.proofs.state.write_layers.Given as goal
 
 abbrev pub invariant-loop-place : goal.invariant-loop-place
 invariant-loop-place g l = Gains
-    (output_of g.O.Sink l.initial.out)
-    (output_of g.O.Sink l.out)
+    (tells_of g.O.Sink l.initial.out)
+    (tells_of g.O.Sink l.out)
     (flat_map (layer_shown (stack_tree l.stack) l.id l.shown) (take l.place (enumerate_from 0 (stack_tree l.stack))))

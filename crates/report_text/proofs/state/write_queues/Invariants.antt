@@ -4,14 +4,14 @@ use Rattle.event_graph.specs.Answer.{stack_tree}
 use Rattle.layer_mean.specs.State.{cell_at, queues_in}
 use Rattle.member_shown.specs.Shown.{state_shown}
 use Rattle.sink_lines.specs.Lines.{Gains}
-use Rattle.sink_lines.specs.Tells.{output_of}
+use Rattle.sink_lines.specs.Tells.{tells_of}
 use Rattle.typed_layer.specs.View.{layer_tree}
 use Rattle.report_text.specs.Cells.{one_queue}
 use Rattle.report_text.proofs.state.write_queues.Given as goal
 
 abbrev pub invariant-loop-queue : goal.invariant-loop-queue
 invariant-loop-queue g l = Gains
-    (output_of g.O.Sink l.initial.out)
-    (output_of g.O.Sink l.out)
+    (tells_of g.O.Sink l.initial.out)
+    (tells_of g.O.Sink l.out)
     (flat_map (one_queue (stack_tree l.stack) l.spot.id l.spot.place (layer_tree l.queues.layer.now) l.queues.is_array l.queues.name.now)
     (take l.queue (enumerate_from 0 (queues_in (cell_at (state_shown l.shown l.spot.place) l.spot.cell)))))

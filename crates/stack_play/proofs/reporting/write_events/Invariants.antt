@@ -1,10 +1,10 @@
 use Rattle.event_graph.specs.Answer.{stack_tree}
 use Rattle.packet_plans.specs.Trees.{plans_tree}
-use Rattle.sink_lines.specs.Tells.{output_of}
+use Rattle.sink_lines.specs.Tells.{tells_of}
 use Rattle.stack_play.proofs.Held.{Held}
 use Rattle.stack_play.proofs.reporting.write_events.Given as goal
 
 abbrev pub invariant-loop-event : goal.invariant-loop-event
 invariant-loop-event g l = Held (stack_tree l.manner.stack.now) (plans_tree l.manner.plans.now) l.manner.wire l.script l.event-index l.run
-    (output_of g.O.Sink l.initial.out)
-    (output_of g.O.Sink l.out)
+    (tells_of g.O.Sink l.initial.out)
+    (tells_of g.O.Sink l.out)

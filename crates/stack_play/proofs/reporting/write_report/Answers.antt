@@ -4,7 +4,7 @@ use Rattle.event_graph.specs.Answer.{stack_tree}
 use Rattle.packet_plans.specs.Trees.{plans_tree}
 use Rattle.run_mean.specs.Report.{end_line}
 use Rattle.sink_lines.specs.Lines.{Wrote}
-use Rattle.sink_lines.specs.Tells.{output_of}
+use Rattle.sink_lines.specs.Tells.{tells_of}
 use Rattle.sink_lines.proofs.Turns.{part_of, wrote_as, wrote_both}
 use Rattle.stack_play.specs.Turns.{visits_if}
 use Rattle.stack_play.proofs.Outputs.{output_is}
@@ -19,8 +19,8 @@ returns-in_err-write_events g c =
 
 pub returns : goal.returns
 returns g c =
-    let before = output_of g.O.Sink c.write_events.new.out in
-    let after = output_of g.O.Sink c.write_last.new.out in
+    let before = tells_of g.O.Sink c.write_events.new.out in
+    let after = tells_of g.O.Sink c.write_last.new.out in
     let events = ap length c.slice.ensures in
     let visits = c.in_ok-write_events.ensures.visits in
     wrote_as _ _ _ _ c.write_last.result
