@@ -3,7 +3,7 @@
 ghost use Rattle.std.specs.Prelude.{◌≡◌, IfOk, length};
 
 use outside::{
-    Clock, Datagram, Fate, LinkError, Links, MOST_BYTES, MemClock, MemLinks, Peer, RunClock,
+    Clock, Datagram, Fate, LONGEST_DATAGRAM, LinkError, Links, MemClock, MemLinks, Peer, RunClock,
 };
 use std::alloc::{AllocError, Global};
 use std::test::Fail;
@@ -26,9 +26,9 @@ const PEERS: [Peer; 3] = [
 ];
 
 fn room(alloc: Global) -> Result<Vec<u8>, AllocError>
-    ensures { IfOk result (λ room. length room.items ≡ MOST_BYTES) }
+    ensures { IfOk result (λ room. length room.items ≡ LONGEST_DATAGRAM) }
 {
-    vec![in alloc; 0; MOST_BYTES]
+    vec![in alloc; 0; LONGEST_DATAGRAM]
 }
 
 // What is sent, and whether that fails.

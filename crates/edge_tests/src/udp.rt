@@ -1,7 +1,7 @@
 // Over the loopback, at an address of this process alone: what the system's sockets carry.
 ghost use Rattle.std.specs.Prelude.{◌≡◌, ◌≤◌, ◌<◌, ℕ, Some, IfOk, OnOk, IsSome, length};
 
-use outside::{LinkError, Links, MOST_BYTES, Peer};
+use outside::{LONGEST_DATAGRAM, LinkError, Links, Peer};
 use std::alloc::{AllocError, Global};
 use std::process::Abort;
 use std::rt::Clock;
@@ -38,9 +38,9 @@ fn places(process: u32) -> [Peer; 3] {
 }
 
 fn room(alloc: Global) -> Result<Vec<u8>, AllocError>
-    ensures { IfOk result (λ room. length room.items ≡ MOST_BYTES) }
+    ensures { IfOk result (λ room. length room.items ≡ LONGEST_DATAGRAM) }
 {
-    vec![in alloc; 0; MOST_BYTES]
+    vec![in alloc; 0; LONGEST_DATAGRAM]
 }
 
 // A datagram for the member, which is waited for up to a second.
@@ -51,7 +51,7 @@ fn receive<N: Links>(
     into: &mut [u8],
 ) -> Result<Option<usize>, LinkError>
     requires listens { IsSome (N.listening links.old member) }
-    requires room { length into.old ≡ MOST_BYTES }
+    requires room { length into.old ≡ LONGEST_DATAGRAM }
     ensures listening { (m : ℕ) → N.listening links.new m ≡ N.listening links.old m }
 {
     'turns: for _ in 0..1000 {
@@ -82,7 +82,7 @@ fn exchange<N: Links>(
     links: &mut N,
     count: usize,
 ) -> Result<(), LinkError>
-    requires size { count ≤ MOST_BYTES }
+    requires size { count ≤ LONGEST_DATAGRAM }
     requires there { N.listening links.old 0 ≡ Some 3 }
     requires back { N.listening links.old 1 ≡ Some 3 }
     ensures listening { (m : ℕ) → N.listening links.new m ≡ N.listening links.old m }
@@ -113,7 +113,7 @@ fn a_datagram_of_each_size_passes_whole(rt: HostRuntime) -> Result<(), Fail> {
     exchange(&rt, alloc, &mut links, 1)?;
     exchange(&rt, alloc, &mut links, 19)?;
     exchange(&rt, alloc, &mut links, 8_619)?;
-    exchange(&rt, alloc, &mut links, MOST_BYTES)?;
+    exchange(&rt, alloc, &mut links, LONGEST_DATAGRAM)?;
     let mut room = room(alloc)?;
     let to_another = links.recv(2, room.as_mut_slice());
     assert_eq!(rt; to_another, Ok(None));

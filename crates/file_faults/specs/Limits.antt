@@ -25,11 +25,11 @@ abbrev pub most_names : ℕ
 most_names = 64
 
 -- The largest capacity of a queue, and the largest maximum of a loop.
-abbrev pub most_rows : ℕ
-most_rows = 64
+abbrev pub largest_capacity : ℕ
+largest_capacity = 64
 
-abbrev pub most_turns : ℕ
-most_turns = 32
+abbrev pub longest_loop : ℕ
+longest_loop = 32
 
 -- The numbers of a row beyond the most.
 abbrev pub numbers_beyond : List ItemTree → List ItemTree
@@ -52,12 +52,12 @@ is_within most number = nat_le 1 number && nat_le number most
 
 -- The sizes of a declaration, and of a statement.
 abbrev pub capacity_in : DeclarationTree → List LimitedSize
-capacity_in (rows_cell at name capacity items) = record { size = capacity; most = most_rows } ∷ []
-capacity_in (rows_array at name capacity items) = record { size = capacity; most = most_rows } ∷ []
+capacity_in (rows_cell at name capacity items) = record { size = capacity; most = largest_capacity } ∷ []
+capacity_in (rows_array at name capacity items) = record { size = capacity; most = largest_capacity } ∷ []
 capacity_in _ = []
 
 abbrev pub maximum_in : StatementTree → List LimitedSize
-maximum_in (each at name below most block) = record { size = most; most = most_turns } ∷ []
+maximum_in (each at name below most block) = record { size = most; most = longest_loop } ∷ []
 maximum_in _ = []
 
 -- All sizes of a layer.

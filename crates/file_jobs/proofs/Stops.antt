@@ -15,7 +15,7 @@ use Rattle.job_mean.specs.Status.{Ended, file_refused, report_refused, read_fail
 use Rattle.program_mean.specs.Headline.{ReadsStack}
 use Rattle.job_ends.specs.Comes.{Around, file_name, Comes}
 use Rattle.job_ends.proofs.Comes.{longer}
-use Rattle.file_jobs.specs.declared.report.TheConstants.{MOST_REPORT}
+use Rattle.file_jobs.specs.declared.report.TheConstants.{LONGEST_REPORT}
 use Rattle.file_jobs.specs.Stack.{StopsAt, IsRefused}
 use Rattle.file_jobs.specs.Report as report
 
@@ -49,11 +49,11 @@ audit_stops name law a _ s same = absurd s
 
 -- A report of too many bytes.
 pub large_report : (name : Text) (law : Law) (told : Option Shelved) (reads reads_after : ℕ) →
-    IfSome told (λ shelf. IsSomeAnd (found_in shelf name) (λ file. MOST_REPORT < length file)) → reads_after ≡ reads →
+    IfSome told (λ shelf. IsSomeAnd (found_in shelf name) (λ file. LONGEST_REPORT < length file)) → reads_after ≡ reads →
     report.IsNone name law told reads reads_after finding.too_large
-large_report name law told reads reads_after h sound = let l = longer told name MOST_REPORT h in record {
+large_report name law told reads reads_after h sound = let l = longer told name LONGEST_REPORT h in record {
   file = l.0;
   found = l.1;
-  refused = ap (λ b. if b then Err finding.too_large else finding.judged law (report_from running 1 (lines_of l.0))) (lt-ltb MOST_REPORT (length l.0) l.2);
+  refused = ap (λ b. if b then Err finding.too_large else finding.judged law (report_from running 1 (lines_of l.0))) (lt-ltb LONGEST_REPORT (length l.0) l.2);
   sound = sound;
 }

@@ -13,7 +13,7 @@ use run_audit::{AuditError, Finding, Law, audit};
 use std::alloc::Global;
 
 /// The most bytes of a report.
-const MOST_REPORT: u64 = 67_108_864;
+const LONGEST_REPORT: u64 = 67_108_864;
 
 /// Reads a report and judges a law on it: the output of that, or how the job ends.
 pub(crate) fn fetch_report<S: Shelf>(
@@ -25,7 +25,7 @@ pub(crate) fn fetch_report<S: Shelf>(
     ensures { Fetches file.now law (S.told shelf.old) (S.faults shelf.old) (S.faults shelf.new) result }
 {
     let mut text = Vec::new(alloc);
-    match shelf.read(file, &mut text, MOST_REPORT) {
+    match shelf.read(file, &mut text, LONGEST_REPORT) {
         Ok(Got::Whole) => judged(alloc, &text, law),
         Ok(Got::TooLong) => Err(Ending::ReportTooLarge),
         Err(ShelfError::Failed) => Err(Ending::Read),

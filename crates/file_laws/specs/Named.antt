@@ -13,7 +13,7 @@ use Rattle.layer_mean.specs.Tree.{ExpressionTree, number, local, element, square
 use Rattle.file_faults.specs.FileFault.{file_fault}
 use Rattle.file_mean.specs.Library.{IsFile}
 use Rattle.file_mean.specs.Stack.{stack_of}
-use Rattle.file_faults.specs.Limits.{most_turns, most_rows}
+use Rattle.file_faults.specs.Limits.{longest_loop, largest_capacity}
 
 -- What a cell is of a form: numbers of a shape, a queue that is alone, queues of an array.
 abbrev pub shape_in : Form → Option Shape
@@ -100,7 +100,7 @@ abbrev mutual
       × NamedAll layer slots otherwise
   NamedStatement layer slots (branch likely e block otherwise) =
       Named layer slots e × NamedAll layer slots block × NamedAll layer slots otherwise
-  NamedStatement layer slots (each k below most block) = (k < slots) × Named layer slots below × IsSize most_turns most × NamedAll layer slots block
+  NamedStatement layer slots (each k below most block) = (k < slots) × Named layer slots below × IsSize longest_loop most × NamedAll layer slots block
   NamedStatement layer slots (emit e) = AllByRecursion (Named layer slots) e.numbers × NamedContent layer slots e.content
 
   pub NamedAll : LayerTree → ℕ → StatementTrees → Type 0
@@ -128,8 +128,8 @@ NamedHandler layer h = NamedExpected layer (slots_of layer h) h.expected × Name
 
 abbrev pub NamedForm : Form → Type 0
 NamedForm (numbers shape initial) = Named no_layer 0 initial
-NamedForm (queue capacity items) = IsSize most_rows capacity
-NamedForm (queues capacity items) = IsSize most_rows capacity
+NamedForm (queue capacity items) = IsSize largest_capacity capacity
+NamedForm (queues capacity items) = IsSize largest_capacity capacity
 
 pub record NamedLayer (layer : LayerTree) : Type 0 where
   pub cells_are : AllByRecursion (λ cell. NamedForm cell.form) layer.cells

@@ -19,7 +19,7 @@ use Rattle.layer_desk.specs.Spent.{Begun, Suffices}
 use Rattle.layer_stage.specs.Room.{slots_needed, places_needed, headers_met, most_counted, CountsWithin}
 use Rattle.layer_stage.proofs.Needs.{slots_at_a_desk, places_at_a_desk, headers_at_a_desk}
 use Rattle.pool_message.specs.Seen.{refs, seen, Lies, refs_if, seen_if, event_refs, event_seen, EventLies}
-use Rattle.pool_message.specs.Sent.{sent_refs, SentLie, most_events}
+use Rattle.pool_message.specs.Sent.{sent_refs, SentLie, most_sent}
 use Rattle.pool_message.specs.declared.event.PoolEvent.{PoolEvent}
 use Rattle.pool_message.specs.declared.message.PoolMessage.{PoolMessage}
 use Rattle.file_layer.specs.Stock.{Stock, kept_refs, stock_refs, laid}
@@ -40,7 +40,7 @@ refs_at i s messages hand =
     let all = parts i s in let one = ap (λ ms. times i (flat_map refs ms)) messages in let two = ap (λ ms. times i (flat_map refs ms)) hand in omega arith
 
 module _ (layer : LayerTree) (p : List Held) (d : FileDesk) (rest : IsAtRest layer p d) (event : PoolEvent) (out : Buffer (Dir × PoolEvent)) (dir : Dir)
-    (within : length out.items ≤ out.capacity) (few : out.capacity ≤ most_events) where
+    (within : length out.items ≤ out.capacity) (few : out.capacity ≤ most_sent) where
   abbrev first : FileDesk
   first = begins event.message out d
 

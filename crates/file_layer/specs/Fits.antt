@@ -7,15 +7,15 @@ use Rattle.layer_ast.specs.declared.tokens.Dir.{Dir}
 use Rattle.cell_store.specs.Kept.{KeptCell, queues_kept, capacity_of}
 use Rattle.layer_desk.specs.Need.{Layout, most_above}
 use Rattle.pool_message.specs.declared.message.PoolMessage.{PoolMessage}
-use Rattle.pool_message.specs.Sent.{sent_refs, most_events}
+use Rattle.pool_message.specs.Sent.{sent_refs, most_sent}
 use Rattle.pool_message.specs.declared.event.PoolEvent.{PoolEvent}
 use Rattle.pool_message.specs.declared.row.PoolRow.{PoolRow}
 use Rattle.file_layer.specs.Stock.{Stock}
 use Rattle.msg_core.specs.View.{most_members}
 
 -- The most references of a desk's rows, and of a whole desk beside what it sends.
-abbrev pub most_rows : ℕ
-most_rows = 32768
+abbrev pub most_desk_rows : ℕ
+most_desk_rows = 32768
 
 abbrev pub most_own : ℕ
 most_own = 15728638
@@ -65,5 +65,5 @@ pub record SentGrows (from : List ℕ) (list first places : ℕ) (sent : Buffer 
   pub kept : sent.capacity ≡ list
   pub before : first ≤ length sent.items
   pub within : places ≤ sent.capacity
-  pub few : places ≤ most_events
+  pub few : places ≤ most_sent
   pub old : (i : ℕ) → times i (sent_refs (take first sent.items)) ≤ times i from

@@ -10,7 +10,7 @@ pub(crate) const MOST_ABOVE: u32 = 23;
 pub(crate) const MOST_BOUND: usize = 6;
 
 /// The most rows of a desk's queues, for as many members as a view has at most.
-pub(crate) const MOST_ROWS: u32 = 32_768;
+pub(crate) const MOST_DESK_ROWS: u32 = 32_768;
 
 /// The most rows, messages of the scope and messages in hand of a desk.
 pub(crate) const MOST_OWN: u32 = 15_728_638;

@@ -15,7 +15,7 @@ ghost use Rattle.file_layer.specs.Rest.{IsAtRest, IsMadeFor};
 ghost use Rattle.file_layer.specs.Stock.{kept_refs};
 ghost use Rattle.msg_core.specs.View.{most_members};
 
-use crate::desk::{FileDesk, MOST_BOUND, MOST_OWN, MOST_ROWS};
+use crate::desk::{FileDesk, MOST_BOUND, MOST_DESK_ROWS, MOST_OWN};
 use cell_store::Cells;
 use layer_room::{Reserve, reserve_for};
 use msg_core::MOST_MEMBERS;
@@ -71,7 +71,7 @@ fn rows_at_most(cells: &[Cell]) -> Option<u32>
     let mut rows = 0;
     for cell in cells {
         rows += MOST_MEMBERS as u32 * u32::from(capacity_of(&cell.form));
-        if rows > MOST_ROWS {
+        if rows > MOST_DESK_ROWS {
             return None;
         }
     }

@@ -12,7 +12,7 @@ ghost use Rattle.layer_stage.specs.Front.{first_way, first_seen, behind_first};
 ghost use Rattle.layer_stage.specs.Room.{slots_needed, places_needed, headers_met, most_counted, CountsWithin};
 ghost use Rattle.cell_store.specs.Kept.{state_of};
 ghost use Rattle.pool_message.specs.Seen.{row_seen, event_refs, EventLies};
-ghost use Rattle.pool_message.specs.Sent.{sent_refs, sent_seen, SentLie, first_sent, most_events, envelope_of};
+ghost use Rattle.pool_message.specs.Sent.{sent_refs, sent_seen, SentLie, first_sent, most_sent, envelope_of};
 ghost use Rattle.file_layer.specs.Rest.{IsAtRest, begins, ends};
 ghost use Rattle.file_layer.specs.Stock.{kept_refs};
 
@@ -31,7 +31,7 @@ fn begin(desk: &mut FileDesk, events: &mut Events) -> (Dir, Envelope)
     ensures desk { desk.new ≡ begins (first_sent events.old.items).1.message (buffer (behind_first events.old.items) (events.old.capacity - 1)) desk.old }
     ensures events { events.new ≡ buffer desk.old.tray.sent.items (desk.old.tray.sent.capacity + 1) }
     ensures within { length (behind_first events.old.items) ≤ events.old.capacity - 1 }
-    ensures few { events.old.capacity - 1 ≤ most_events }
+    ensures few { events.old.capacity - 1 ≤ most_sent }
     ensures first { result ≡ (first_way events.old.items, envelope_of (first_sent events.old.items).1) }
 {
     desk.first = events.len() - 1;

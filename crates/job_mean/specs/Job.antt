@@ -61,11 +61,11 @@ law_of given = do
   law_named name
 
 -- the most events of a generated script, turns of a node, and failed receives that it bears
-abbrev pub most_events : ℕ
-most_events = 99999
+abbrev pub most_generated : ℕ
+most_generated = 99999
 
-abbrev pub most_turns : ℕ
-most_turns = 1000000
+abbrev pub most_node_turns : ℕ
+most_node_turns = 1000000
 
 abbrev pub most_patience : ℕ
 most_patience = 1000
@@ -126,7 +126,7 @@ abbrev pub load_job : Given → Option Job
 load_job given = do
   _ ← with_only (codes "seed" ∷ codes "events" ∷ codes "members" ∷ codes "run" ∷ codes "raw" ∷ []) given
   seed ← a_number 0 4294967295 given.seed
-  events ← a_number 0 most_events given.events
+  events ← a_number 0 most_generated given.events
   members ← a_number 1 most_members given.members
   mode ← mode_of given.run
   Some (load given.file seed events members given.raw mode)
@@ -136,7 +136,7 @@ abbrev pub node_job : Given → Option Job
 node_job given = do
   _ ← with_only (codes "second" ∷ codes "turns" ∷ codes "me" ∷ codes "run" ∷ codes "patience" ∷ []) given
   plan ← given.second
-  turns ← a_number 0 most_turns given.turns
+  turns ← a_number 0 most_node_turns given.turns
   members ← some_members given.me
   mode ← mode_of given.run
   patience ← a_number_or_zero most_patience given.patience

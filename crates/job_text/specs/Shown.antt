@@ -4,7 +4,7 @@ use Rattle.clap.specs.Walk.{Text}
 use Rattle.script_mean.specs.Words.{◌>>=◌}
 use Rattle.job_mean.specs.Given as given
 use Rattle.job_mean.specs.Job as job
-use Rattle.job_mean.specs.Job.{a_number, a_number_or_zero, mode_of, most_turns, most_patience}
+use Rattle.job_mean.specs.Job.{a_number, a_number_or_zero, mode_of, most_node_turns, most_patience}
 use Rattle.job_text.specs.declared.given.Given.{Given}
 use Rattle.job_text.specs.declared.named.Job.{Job}
 use Rattle.job_text.specs.declared.named.Job.TheVariants.{Check, Synth, Replay, Load, Node, Audit}
@@ -50,7 +50,7 @@ shown_given g = record {
 abbrev pub node_of : given.Given → Option (List ℕ) → Option job.Job
 node_of given members = do
   plan ← given.second
-  turns ← a_number 0 most_turns given.turns
+  turns ← a_number 0 most_node_turns given.turns
   me ← members
   mode ← mode_of given.run
   patience ← a_number_or_zero most_patience given.patience

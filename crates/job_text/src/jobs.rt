@@ -13,9 +13,9 @@ use msg_core::MOST_MEMBERS;
 use std::alloc::{AllocError, Global};
 
 /// The most events of a generated script, members of a group, turns of a node and failed receives that it bears.
-const MOST_EVENTS: u32 = 99_999;
+const MOST_GENERATED: u32 = 99_999;
 
-const MOST_TURNS: u32 = 1_000_000;
+const MOST_NODE_TURNS: u32 = 1_000_000;
 
 const MOST_PATIENCE: u32 = 1_000;
 
@@ -88,7 +88,7 @@ fn load<'w>(given: &Given<'w>) -> Option<Job<'w>>
         return None;
     }
     let seed = a_number(0, u32::MAX, given.seed)?;
-    let events = a_number(0, MOST_EVENTS, given.events)?;
+    let events = a_number(0, MOST_GENERATED, given.events)?;
     let members = a_number(1, u32::from(MOST_MEMBERS), given.members)?;
     let mode = mode_of(given.run)?;
     Some(Job::Load(Load {
@@ -118,7 +118,7 @@ fn node_of<'w>(given: &Given<'w>, members: Option<Vec<u32>>) -> Option<Job<'w>>
     ensures { option_map shown_job result ≡ node_of (shown_given given.now) (option_map (λ m. m.items) members) }
 {
     let plan = given.second?;
-    let turns = a_number(0, MOST_TURNS, given.turns)?;
+    let turns = a_number(0, MOST_NODE_TURNS, given.turns)?;
     let members = members?;
     let mode = mode_of(given.run)?;
     let patience = a_number_or_zero(MOST_PATIENCE, given.patience)?;

@@ -2,7 +2,7 @@
 
 ghost use Rattle.std.specs.Prelude.{◌≤◌, length};
 ghost use Rattle.msg_core.specs.View.{most_members};
-ghost use Rattle.job_mean.specs.Job.{most_events};
+ghost use Rattle.job_mean.specs.Job.{most_generated};
 
 use audit_mean::Law;
 
@@ -52,7 +52,7 @@ pub struct Load<'w> {
     /// Whether the script has datagrams.
     pub raw: bool,
     pub mode: Mode,
-    ghost few: { events ≤ most_events },
+    ghost few: { events ≤ most_generated },
     ghost within: { (1 ≤ members) × (members ≤ most_members) },
 }
 

@@ -114,7 +114,7 @@ fn inside(
         } => {
             let outer = scope.len();
             bring(found, scope, *name, Sort::Int)?;
-            limits::size(found, limits::MOST_TURNS, most);
+            limits::size(found, limits::LONGEST_LOOP, most);
             block(alloc, found, scope, first)?;
             scope.leave(outer);
             Ok(())

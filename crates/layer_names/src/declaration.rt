@@ -42,7 +42,7 @@ fn capacity(found: &mut Found, d: &Declaration)
 {
     match d {
         Declaration::Queue { capacity, .. } | Declaration::Queues { capacity, .. } => {
-            limits::size(found, limits::MOST_ROWS, capacity)
+            limits::size(found, limits::LARGEST_CAPACITY, capacity)
         }
         _ => {}
     }

@@ -28,7 +28,7 @@ const MOST_PARAMS: usize = 16;
 const MOST_CELLS: usize = 16;
 
 /// The most headers of a layer.
-const MOST_HEADERS: usize = 7;
+const MOST_DECLARED: usize = 7;
 
 /// The most handlers of a layer.
 const MOST_HANDLERS: usize = 64;
@@ -117,7 +117,7 @@ fn declared(alloc: Global, found: &mut Found, layer: &Layer, own: &Words) -> Res
     each_once(alloc, found, layer)?;
     few(alloc, found, Form::Param, MOST_PARAMS, layer)?;
     few(alloc, found, Form::Cell, MOST_CELLS, layer)?;
-    few(alloc, found, Form::Header, MOST_HEADERS, layer)?;
+    few(alloc, found, Form::Header, MOST_DECLARED, layer)?;
     let scope = Scope::of(alloc, layer, own);
     declarations(alloc, found, &scope, &layer.declarations)?;
     Ok(())

@@ -17,10 +17,10 @@ use name_scope::items;
 use std::alloc::{AllocError, Global};
 
 /// The most rows of a queue.
-pub const MOST_ROWS: u32 = 64;
+pub const LARGEST_CAPACITY: u32 = 64;
 
 /// The most turns of a loop.
-pub const MOST_TURNS: u32 = 32;
+pub const LONGEST_LOOP: u32 = 32;
 
 /// The most numbers of a row.
 const MOST_NUMBERS: usize = 4;

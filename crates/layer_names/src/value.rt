@@ -11,7 +11,7 @@ ghost use Rattle.file_faults.specs.Places as spec;
 ghost use Rattle.name_scope.specs.Scope.{scope_of};
 ghost use Rattle.layer_names.specs.Gathered.{sizes_of};
 
-use crate::limits::{MOST_ROWS, MOST_TURNS, is_within};
+use crate::limits::{LARGEST_CAPACITY, LONGEST_LOOP, is_within};
 use crate::sizes::Sizes;
 use crate::tables::given_words;
 use layer_ast::{Declaration, Given, Place, Word};
@@ -96,10 +96,16 @@ fn are_within(scope: &Scope, place: &Place, names: &Words, sizes: &Sizes) -> boo
     ensures { result ≡ list_all (λ l. is_within_at (scope_of scope.now).layer (place_tree place.now) l.size l.most) (sizes_in (scope_of scope.now).layer) }
 {
     let given = place.given.as_slice();
-    if !all_within(scope, given, names, MOST_ROWS, sizes.capacities.list()) {
+    if !all_within(
+        scope,
+        given,
+        names,
+        LARGEST_CAPACITY,
+        sizes.capacities.list(),
+    ) {
         return false;
     }
-    all_within(scope, given, names, MOST_TURNS, sizes.maxima.list())
+    all_within(scope, given, names, LONGEST_LOOP, sizes.maxima.list())
 }
 
 /// Whether all sizes of a layer that are params are within their limits at a place.

@@ -7,7 +7,7 @@ use Rattle.std.specs.Option.{option_map}
 use Rattle.file_layer.proofs.Lists.{all-behind}
 use Rattle.outside.specs.Links.{Network, Sends, after_send, faults_after_call, is_failure, next_fate}
 use Rattle.outside.specs.declared.links.LinkError.{LinkError}
-use Rattle.outside.specs.declared.links.TheConstants.{MOST_BYTES}
+use Rattle.outside.specs.declared.links.TheConstants.{LONGEST_DATAGRAM}
 use Rattle.outside.specs.declared.links.LinkError.TheVariants as link
 use Rattle.outside.specs.declared.sink.SinkError.{SinkError}
 use Rattle.outside.specs.declared.sink.SinkError.TheVariants as sink
@@ -100,11 +100,11 @@ sending_append k (h ∷ xs) ys (x ∷ f) g is =
 
 pub may_take : (bytes : List ℕ) (to : ℕ) (front rest whole : List ℕ) (first now : Option ℕ) →
     IsSomeAnd first (λ peers. AllByRecursion (MayTake bytes peers) whole) → whole ≡ front ++ to ∷ rest → now ≡ first →
-    IsSomeAnd now (λ peers. to < peers) × (length bytes ≤ MOST_BYTES)
+    IsSomeAnd now (λ peers. to < peers) × (length bytes ≤ LONGEST_DATAGRAM)
 may_take bytes to front rest whole first now may are same =
-    subst (λ o. IsSomeAnd o (λ peers. to < peers) × (length bytes ≤ MOST_BYTES)) (sym same) (go first may) where
+    subst (λ o. IsSomeAnd o (λ peers. to < peers) × (length bytes ≤ LONGEST_DATAGRAM)) (sym same) (go first may) where
       go : (o : Option ℕ) → IsSomeAnd o (λ peers. AllByRecursion (MayTake bytes peers) whole) →
-          IsSomeAnd o (λ peers. to < peers) × (length bytes ≤ MOST_BYTES)
+          IsSomeAnd o (λ peers. to < peers) × (length bytes ≤ LONGEST_DATAGRAM)
       go None h = absurd h
       go (Some peers) h = (all-behind (MayTake bytes peers) front (to ∷ rest) (subst (AllByRecursion (MayTake bytes peers)) are h)).0
 
@@ -128,7 +128,7 @@ module _ (k from : ℕ) (bytes : List ℕ) (view : View) where
 
   pub front_takes : (at : ℕ) (a b : Around) (first now : Option ℕ) → IsSomeAnd first (λ peers. AllByRecursion (MayTake bytes peers) (receivers from view All)) →
       now ≡ first → others_from view from at ≡ at ∷ others_from view from (at + 1) → PassesFront k from bytes view at a b →
-      IsSomeAnd now (λ peers. at < peers) × (length bytes ≤ MOST_BYTES)
+      IsSomeAnd now (λ peers. at < peers) × (length bytes ≤ LONGEST_DATAGRAM)
   front_takes at a b first now may same next p = may_take bytes at p.front (others_from view from (at + 1)) (receivers from view All) first now may
       (others_begin view from ∙ p.whole ∙ ap (λ o. p.front ++ o) next) same
 

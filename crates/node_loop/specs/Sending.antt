@@ -1,7 +1,7 @@
 -- The acts of a packet, and of a step.
 use Rattle.std.specs.Prelude.{ℕ, ◌<◌, ◌≤◌, Bool, List, [], ◌∷◌, ◌++◌, map, length, Option}
 use Rattle.std.specs.List.{flat_map}
-use Rattle.outside.specs.declared.links.TheConstants.{MOST_BYTES}
+use Rattle.outside.specs.declared.links.TheConstants.{LONGEST_DATAGRAM}
 use Rattle.layer_mean.specs.Tree.{LayerTree}
 use Rattle.stack_mean.specs.Plan.{Plan}
 use Rattle.run_mean.specs.Journal.{Handed, handed_output}
@@ -19,7 +19,7 @@ sent_to from bytes to = record { from = from; to = to; bytes = bytes }
 
 -- These bytes may be handed on to this one of so many peers.
 abbrev pub MayTake : List ℕ → (peers to : ℕ) → Type 0
-MayTake bytes peers to = (to < peers) × (length bytes ≤ MOST_BYTES)
+MayTake bytes peers to = (to < peers) × (length bytes ≤ LONGEST_DATAGRAM)
 
 -- What outputs hand on.
 abbrev pub sends_of_outputs : List Plan → ℕ → List (Output × Option ℕ) → List Handed

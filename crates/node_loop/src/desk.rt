@@ -1,7 +1,7 @@
 //! What a node works with.
 
 ghost use Rattle.std.specs.Prelude.{◌≡◌, length};
-ghost use Rattle.outside.specs.declared.links.TheConstants.{MOST_BYTES};
+ghost use Rattle.outside.specs.declared.links.TheConstants.{LONGEST_DATAGRAM};
 
 use crate::tools::Tools;
 use std::alloc::Global;
@@ -16,5 +16,5 @@ pub struct Desk {
     pub tools: Tools,
     pub room: Vec<u8>,
     pub events: u64,
-    ghost room_size: { length room.items ≡ MOST_BYTES },
+    ghost room_size: { length room.items ≡ LONGEST_DATAGRAM },
 }

@@ -17,7 +17,7 @@ ghost use Rattle.node_loop.specs.Sending.{MayTake, sent_to};
 use crate::receivers::{has, member_at};
 use crate::tools::Tools;
 use msg_core::{Dest, MOST_MEMBERS, Memory, View};
-use outside::{LinkError, Links, MOST_BYTES, Sink, SinkError};
+use outside::{LONGEST_DATAGRAM, LinkError, Links, Sink, SinkError};
 use packet_full::{put_full_of, room_of};
 use packet_mean::Here;
 use report_lines::{Line, lost_line};
@@ -52,7 +52,7 @@ fn send_to<O: Sink, N: Links>(
     links: &mut N,
 ) -> Result<(), SinkError>
     requires peer { IsSomeAnd (N.listening links.old sending.from) (λ peers. to < peers) }
-    requires size { length sending.bytes.now ≤ MOST_BYTES }
+    requires size { length sending.bytes.now ≤ LONGEST_DATAGRAM }
     ensures handed { Handles (sending_acts sending.entry.number (sent_to sending.entry.from sending.entry.bytes.now to ∷ []))
         (around O.Sink N.Links out.old links.old) (around O.Sink N.Links out.new links.new) result }
     ensures listening { (m : ℕ) → N.listening links.new m ≡ N.listening links.old m }

@@ -23,7 +23,7 @@ use crate::turns::turn;
 use event_graph::Stack;
 use msg_core::Memory;
 use node_laws::stopped_goes_on;
-use outside::{Clock, LinkError, Links, MOST_BYTES, Peer, Sink};
+use outside::{Clock, LONGEST_DATAGRAM, LinkError, Links, Peer, Sink};
 use report_lines::Line;
 use report_text::{Pen, write_end};
 use std::alloc::{AllocError, Global};
@@ -32,9 +32,9 @@ use world_core::Feed;
 
 /// Where a datagram is received.
 fn room(alloc: Global) -> Result<Vec<u8>, AllocError>
-    ensures { IfOk result (λ room. length room.items ≡ MOST_BYTES) }
+    ensures { IfOk result (λ room. length room.items ≡ LONGEST_DATAGRAM) }
 {
-    vec![in alloc; 0; MOST_BYTES]
+    vec![in alloc; 0; LONGEST_DATAGRAM]
 }
 
 /// A desk at which nothing was done.

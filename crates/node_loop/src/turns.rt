@@ -21,7 +21,7 @@ use crate::desk::Desk;
 use crate::error::{NodeError, cut};
 use crate::feeding::feed_on;
 use msg_core::Memory;
-use outside::{Clock, LinkError, Links, MOST_BYTES, Sink, SinkError};
+use outside::{Clock, LONGEST_DATAGRAM, LinkError, Links, Sink, SinkError};
 use report_lines::{Line, deaf_line};
 use report_text::member_of;
 use script_mean::{Bytes, ScriptEvent};
@@ -90,7 +90,7 @@ fn feed_datagram<F: Feed, O: Sink, N: Links>(
 ) -> Result<(), SinkError>
     requires up { IsUp (stack_in course) (plans_in course) (F.group feed.old) desk.old (N.listening links.old) (id ∷ []) }
     requires few { desk.old.events + 1 < 2 ^ 64 }
-    requires count { count ≤ MOST_BYTES }
+    requires count { count ≤ LONGEST_DATAGRAM }
     ensures told { FedOn (stack_in course.entry) (plans_in course.entry) (Raw id (take count desk.old.room.items)) (F.group feed.old) (F.group feed.new) desk.old desk.new
         (around O.Sink N.Links out.old links.old) (around O.Sink N.Links out.new links.new) result }
     ensures rests { OnOk result (RestsAgain (stack_in course.entry) (plans_in course.entry) (F.group feed.old) desk.old (F.group feed.new) desk.new) }

@@ -40,7 +40,7 @@ mod std_sink;
 pub use clock::Clock;
 pub use datagram::Datagram;
 pub use file_shelf::{FileShelf, read_stream};
-pub use links::{Fate, LinkError, Links, MOST_BYTES, MOST_PEERS, Peer};
+pub use links::{Fate, LONGEST_DATAGRAM, LinkError, Links, MOST_PEERS, Peer};
 pub use mem_clock::MemClock;
 pub use mem_links::MemLinks;
 pub use mem_shelf::{MemShelf, StillShelf};

@@ -6,7 +6,7 @@ ghost use Rattle.outside.specs.Links.{Network, Listens, Sends, Receives, WritesF
 use std::alloc::{AllocError, AllocFailed};
 
 /// The most bytes that a datagram carries: a UDP datagram over IPv4 has at most so many of data.
-pub const MOST_BYTES: usize = 65507;
+pub const LONGEST_DATAGRAM: usize = 65507;
 
 /// The most peers that links reach.
 pub const MOST_PEERS: usize = 32;
@@ -87,7 +87,7 @@ pub trait Links {
     /// Hands on a datagram from a member that listens to one of its peers.
     fn send(&mut self, from: u8, to: u8, bytes: &[u8]) -> Result<(), LinkError>
         requires peer { IsSomeAnd (listening self.old from) (λ peers. to < peers) }
-        requires size { length bytes.now ≤ MOST_BYTES }
+        requires size { length bytes.now ≤ LONGEST_DATAGRAM }
         ensures counted { send_faults self.new ≡ faults_after_call (send_faults self.old) result }
         ensures faults { faults self.new ≡ faults self.old }
         ensures listening { (m : ℕ) → listening self.new m ≡ listening self.old m }
@@ -97,8 +97,8 @@ pub trait Links {
     /// as they were. None waits where the answer is None; then, and on an error, `into` is as before.
     fn recv(&mut self, member: u8, into: &mut [u8]) -> Result<Option<usize>, LinkError>
         requires listens { IsSome (listening self.old member) }
-        requires room { length into.old ≡ MOST_BYTES }
-        ensures bound { IfOk result (λ got. IfSome got (λ count. count ≤ MOST_BYTES)) }
+        requires room { length into.old ≡ LONGEST_DATAGRAM }
+        ensures bound { IfOk result (λ got. IfSome got (λ count. count ≤ LONGEST_DATAGRAM)) }
         ensures counted { faults self.new ≡ faults_after_call (faults self.old) result }
         ensures sends { send_faults self.new ≡ send_faults self.old }
         ensures listening { (m : ℕ) → listening self.new m ≡ listening self.old m }

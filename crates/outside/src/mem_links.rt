@@ -5,7 +5,7 @@ ghost use Rattle.outside.specs.Links.{waiting_after, first_for, without_first};
 ghost use Rattle.outside.specs.MemLinks.{listening_in, sent_of, met_of};
 
 use crate::count::count_after;
-use crate::{Datagram, Fate, LinkError, Links, MOST_BYTES, MOST_PEERS, Peer};
+use crate::{Datagram, Fate, LONGEST_DATAGRAM, LinkError, Links, MOST_PEERS, Peer};
 use std::alloc::{AllocError, Global};
 use std::collections::VecDeque;
 
@@ -143,7 +143,7 @@ impl Links for MemLinks {
 }
 
 fn datagram(alloc: Global, from: u8, to: u8, bytes: &[u8]) -> Result<Datagram, AllocError>
-    requires { length bytes.now ≤ MOST_BYTES }
+    requires { length bytes.now ≤ LONGEST_DATAGRAM }
     ensures { IfOk result (λ d. sent_of d ≡ record { from = from; to = to; bytes = bytes.now }) }
 {
     let bytes = bytes.to_vec(alloc)?;

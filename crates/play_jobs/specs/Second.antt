@@ -11,11 +11,11 @@ use Rattle.job_mean.specs.Status.{Ended, second_refused, read_failed, no_memory,
 use Rattle.file_jobs.specs.Stack.{IsMissed}
 use Rattle.job_ends.specs.Shown.{shown}
 use Rattle.job_ends.specs.declared.ending.Ending.{Ending}
-use Rattle.play_jobs.specs.declared.second.TheConstants.{MOST_SECOND}
+use Rattle.play_jobs.specs.declared.second.TheConstants.{LONGEST_SECOND}
 
 -- The most bytes of a second file.
 abbrev pub longest_second : ℕ
-longest_second = MOST_SECOND
+longest_second = LONGEST_SECOND
 
 -- The next read of this name found this text.
 pub record IsText (name : Text) (told : Option Shelved) (reads reads_after : ℕ) (text : List ℕ) : Type 0 where

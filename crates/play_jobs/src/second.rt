@@ -10,14 +10,14 @@ use script_text::ScriptError;
 use std::alloc::Global;
 
 /// The most bytes of a script or a plan.
-const MOST_SECOND: u64 = 4_194_304;
+const LONGEST_SECOND: u64 = 4_194_304;
 
 /// Reads the second file of a job, or finds how the job ends.
 pub fn fetch_second<S: Shelf>(alloc: Global, name: &str, shelf: &mut S) -> Result<Vec<u8>, Ending>
     ensures { Reads name.now (S.told shelf.old) (S.faults shelf.old) (S.faults shelf.new) result }
 {
     let mut text = Vec::new(alloc);
-    match shelf.read(name, &mut text, MOST_SECOND) {
+    match shelf.read(name, &mut text, LONGEST_SECOND) {
         Ok(Got::Whole) => Ok(text),
         Ok(Got::TooLong) => Err(Ending::SecondTooLong),
         Err(ShelfError::Failed) => Err(Ending::Read),

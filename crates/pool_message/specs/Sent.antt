@@ -12,7 +12,7 @@ use Rattle.layer_desk.specs.declared.envelope.Envelope.{Envelope}
 use Rattle.layer_mean.specs.declared.run.Event.{Event}
 use Rattle.pool_message.specs.Seen.{event_refs, event_seen, EventLies}
 use Rattle.pool_message.specs.declared.event.PoolEvent.{PoolEvent}
-use Rattle.pool_message.specs.declared.events.TheConstants.{MOST_EVENTS}
+use Rattle.pool_message.specs.declared.events.TheConstants.{MOST_SENT}
 use Rattle.pool_message.specs.declared.message.PoolMessage.{PoolMessage}
 
 abbrev pub sent_refs : List (Dir × PoolEvent) → List ℕ
@@ -25,8 +25,8 @@ abbrev pub SentLie : List Held → List (Dir × PoolEvent) → Type 0
 SentLie p events = AllByRecursion (λ e. EventLies p e.1) events
 
 -- The most places for events.
-abbrev pub most_events : ℕ
-most_events = MOST_EVENTS
+abbrev pub most_sent : ℕ
+most_sent = MOST_SENT
 
 -- The first of the events that were sent; where there is none, one without a message.
 abbrev pub first_sent : List (Dir × PoolEvent) → Dir × PoolEvent

@@ -8,7 +8,7 @@ ghost use Rattle.pool_message.specs.Moves.{CanKeep, Kept, Returned};
 ghost use Rattle.pool_message.specs.Piled.{without_last};
 ghost use Rattle.pool_message.specs.Put.{Puts};
 ghost use Rattle.pool_message.specs.Seen.{refs, event_refs};
-ghost use Rattle.pool_message.specs.Sent.{sent_refs, most_events, first_sent, sent_behind, message_passed, pool_event, CanPass};
+ghost use Rattle.pool_message.specs.Sent.{sent_refs, most_sent, first_sent, sent_behind, message_passed, pool_event, CanPass};
 
 use crate::event::PoolEvent;
 use crate::list::List;
@@ -23,9 +23,9 @@ use std::alloc::Global;
 use std::marker::Model;
 
 /// The most places for events.
-pub const MOST_EVENTS: usize = 1_048_576;
+pub const MOST_SENT: usize = 1_048_576;
 
-/// The events that were sent, in order, each with its direction. There is a number of places for them, at most `MOST_EVENTS`, which
+/// The events that were sent, in order, each with its direction. There is a number of places for them, at most `MOST_SENT`, which
 /// is chosen once. Two lists are swapped by their pointers. It can't be let go: it is emptied, and then closed.
 pub struct Events {
     list: Box<List>,
@@ -47,7 +47,7 @@ impl Events {
 
     /// Room for so many events.
     pub fn fresh(alloc: Global, places: usize) -> Result<Events, Memory>
-        requires { places ≤ most_events }
+        requires { places ≤ most_sent }
         ensures { IfOk result (λ e. e ≡ buffer [] places) }
     {
         let list = List::fresh(alloc, places)?;
@@ -71,7 +71,7 @@ impl Events {
     /// How many there may be.
     pub fn places(&self) -> usize
         ensures places { result ≡ self.now.capacity }
-        ensures few { result ≤ most_events }
+        ensures few { result ≤ most_sent }
     {
         self.list.places()
     }

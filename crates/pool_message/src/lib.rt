@@ -17,7 +17,7 @@ mod row;
 mod tray;
 
 pub use event::PoolEvent;
-pub use events::{Events, MOST_EVENTS, pass_message};
+pub use events::{Events, MOST_SENT, pass_message};
 pub use laws::what_lies_stays;
 pub use message::PoolMessage;
 pub use messages::Messages;

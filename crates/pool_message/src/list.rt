@@ -8,7 +8,7 @@ ghost use Rattle.pool_message.specs.Moves.{CanKeep, Kept, Returned};
 ghost use Rattle.pool_message.specs.Piled.{without_last};
 ghost use Rattle.pool_message.specs.Put.{Puts};
 ghost use Rattle.pool_message.specs.Seen.{refs, event_refs};
-ghost use Rattle.pool_message.specs.Sent.{sent_refs, most_events, first_sent, sent_behind, bared, pool_event, CanPass};
+ghost use Rattle.pool_message.specs.Sent.{sent_refs, most_sent, first_sent, sent_behind, bared, pool_event, CanPass};
 ghost use Rattle.pool_message.specs.Slots.{first_number};
 
 use crate::event::PoolEvent;
@@ -24,7 +24,7 @@ use slot_pool::{Memory, Pool};
 use std::alloc::Global;
 use std::marker::Model;
 
-/// The events that were sent, in order, each with its direction. There is a number of places for them, at most `MOST_EVENTS`, which
+/// The events that were sent, in order, each with its direction. There is a number of places for them, at most `MOST_SENT`, which
 /// is chosen once. An event stays in its slot while the order moves on, and its slot is used again when it is gone, so few slots are ever
 /// touched. It can't be let go: it is emptied, and then closed.
 pub(crate) struct List {
@@ -41,7 +41,7 @@ impl Model for List {
     ghost use Rattle.std.specs.Prelude.{◌≤◌, length, vec_capacity};
     ghost use Rattle.circular_buffer.specs.Buffer.{Buffer, buffer};
     ghost use Rattle.layer_ast.specs.declared.tokens.Dir.{Dir};
-    ghost use Rattle.pool_message.specs.Sent.{most_events};
+    ghost use Rattle.pool_message.specs.Sent.{most_sent};
     ghost use Rattle.pool_message.specs.Slots.{standing, AreParted, IsFirst};
     ghost use Rattle.pool_message.specs.declared.event.PoolEvent.{PoolEvent};
 
@@ -49,7 +49,7 @@ impl Model for List {
 
     ghost view = { λ e. buffer (standing e.slots.items e.order.items) e.order.capacity };
 
-    ghost invariant = { λ e. AreParted e.slots.items e.order.items e.free.items × (e.order.capacity ≤ most_events)
+    ghost invariant = { λ e. AreParted e.slots.items e.order.items e.free.items × (e.order.capacity ≤ most_sent)
         × (e.order.capacity ≤ vec_capacity e.slots) × (e.order.capacity ≤ vec_capacity e.free) × (length e.slots.items ≤ e.order.capacity) × IsFirst e.first e.order.items };
 }
 
@@ -59,7 +59,7 @@ impl List {
 
     /// Room for so many events.
     pub fn fresh(alloc: Global, places: usize) -> Result<List, Memory>
-        requires { places ≤ most_events }
+        requires { places ≤ most_sent }
         ensures { IfOk result (λ e. e ≡ buffer [] places) }
     {
         let order = HeapCircularBuffer::with_capacity(alloc, places)?;
@@ -84,7 +84,7 @@ impl List {
     /// How many there may be.
     pub fn places(&self) -> usize
         ensures places { result ≡ self.now.capacity }
-        ensures few { result ≤ most_events }
+        ensures few { result ≤ most_sent }
     {
         self.order.capacity()
     }

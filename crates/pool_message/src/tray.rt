@@ -66,7 +66,7 @@ impl Tray {
     ghost use Rattle.layer_desk.specs.Laid.{said_tag, said_fields};
     ghost use Rattle.msg_core.specs.Headers.{most_headers};
     ghost use Rattle.pool_message.specs.Seen.{refs, refs_if, bodiless};
-    ghost use Rattle.pool_message.specs.Sent.{first_sent, most_events, first_header, with_header, without_first, sent_behind, envelope_of, CanPass};
+    ghost use Rattle.pool_message.specs.Sent.{first_sent, most_sent, first_header, with_header, without_first, sent_behind, envelope_of, CanPass};
     ghost use Rattle.pool_message.specs.Moves.{CanKeep, Kept, Returned};
     ghost use Rattle.pool_message.specs.Piled.{pile_refs, without_last};
     ghost use Rattle.pool_message.specs.Tray.{also_sent, message_at};
@@ -278,7 +278,7 @@ impl Tray {
     /// How many events may be sent.
     pub fn places(&self) -> usize
         ensures places { result ≡ self.now.sent.capacity }
-        ensures few { result < most_events }
+        ensures few { result < most_sent }
     {
         self.events.places() - 1
     }

@@ -22,7 +22,7 @@ use sink_lines::put_line;
 use typed_layer::{Cell, Form, TypedLayer};
 
 /// The most cells of a layer that numbers of eight bits name.
-const MOST_CELLS: usize = 256;
+const NUMBERED_CELLS: usize = 256;
 
 /// Puts the line of a cell of numbers.
 fn write_numbers<O: Sink>(
@@ -142,7 +142,7 @@ fn write_layer<O: Sink>(
         (tells_of O.Sink out.old) (tells_of O.Sink out.new) result }
 {
     let count = layer.cells.len();
-    if count > MOST_CELLS {
+    if count > NUMBERED_CELLS {
         return Err(SinkError::Memory);
     }
     for number in 0..count {

@@ -20,14 +20,14 @@ use audit_mean::{Finding, Law};
 use std::alloc::{AllocError, Global};
 
 /// The most bytes of a report.
-const MOST_BYTES: usize = 67_108_864;
+const LONGEST_REPORT: usize = 67_108_864;
 
 /// Judges a law of the group on a finished run, by its report. It fails where the text is too large or
 /// no report, which names the first line out of form, and where memory runs out.
 pub fn audit(alloc: Global, text: &[u8], law: Law) -> Result<Finding, AuditError>
     ensures { Audits (audit_of law text.now) result }
 {
-    if text.len() > MOST_BYTES {
+    if text.len() > LONGEST_REPORT {
         return Err(AuditError::TooLarge);
     }
     let lines = read_lines(alloc, text)?;

@@ -8,7 +8,7 @@ use Rattle.script_mean.specs.Event.{event_line, said_by}
 use Rattle.script_mean.specs.declared.event.ScriptEvent.{ScriptEvent}
 use Rattle.script_mean.specs.declared.event.ScriptEvent.TheVariants.{Cast, Send, Leave, Tick, Give, Raw, Show}
 use Rattle.msg_core.specs.View.{last_member}
-use Rattle.outside.specs.declared.links.TheConstants.{MOST_BYTES}
+use Rattle.outside.specs.declared.links.TheConstants.{LONGEST_DATAGRAM}
 
 -- bytes in lower case hexadecimal, or `-` for none
 abbrev pub hex_text : List ℕ → Word
@@ -36,7 +36,7 @@ IsSayable number = number ≤ 4294967295
 -- a body that a line can say
 pub record IsBody (body : List ℕ) : Type 0 where
   pub bytes : All (λ byte. byte < 256) body
-  pub most : length body ≤ MOST_BYTES
+  pub most : length body ≤ LONGEST_DATAGRAM
 
 -- an event that a line can say: its numbers have at most 32 bits, its rank is at most 31, and its body no
 -- more bytes than a datagram

@@ -10,7 +10,7 @@ use crate::error::ScriptError;
 use crate::event::group_line;
 use crate::lines::{Lines, line_count};
 use crate::plan_line::{peer_on, turn_on};
-use crate::reading::{MOST_BYTES, MOST_LINES};
+use crate::reading::{LONGEST_SCRIPT, MOST_LINES};
 use script_mean::{NodePlan, Peers, Turns};
 use std::alloc::Global;
 
@@ -20,7 +20,7 @@ pub fn read_plan(alloc: Global, text: &[u8]) -> Result<NodePlan, ScriptError>
     ensures runnable { IfOk result IsRunnable }
 {
     let count = line_count(text);
-    if text.len() > MOST_BYTES || count > MOST_LINES {
+    if text.len() > LONGEST_SCRIPT || count > MOST_LINES {
         return Err(ScriptError::TooLong);
     }
     let mut lines = Lines::of(text);

@@ -12,7 +12,7 @@ use script_mean::{Events, Script};
 use std::alloc::Global;
 
 /// The most bytes of a script.
-pub(crate) const MOST_BYTES: usize = 4_194_304;
+pub(crate) const LONGEST_SCRIPT: usize = 4_194_304;
 
 /// The most lines of a script.
 pub(crate) const MOST_LINES: usize = 100_000;
@@ -22,7 +22,7 @@ pub fn read_script(alloc: Global, text: &[u8]) -> Result<Script, ScriptError>
     ensures spelled { Answers (script_of text.now) result }
     ensures runnable { IfOk result IsRunnable }
 {
-    if text.len() > MOST_BYTES || line_count(text) > MOST_LINES {
+    if text.len() > LONGEST_SCRIPT || line_count(text) > MOST_LINES {
         return Err(ScriptError::TooLong);
     }
     let mut lines = Lines::of(text);

@@ -7,7 +7,7 @@ use Rattle.stack_mean.specs.Acceptance.{largest_weight, largest_joins, accepted}
 use Rattle.weight_laws.specs.Visits.{task_weight, task_joins}
 use Rattle.weight_laws.specs.Runs.{Enters}
 use Rattle.chain_laws.specs.Runs.{IsChainedTask}
-use Rattle.pool_message.specs.Sent.{most_events}
+use Rattle.pool_message.specs.Sent.{most_sent}
 
 -- A task with which a run begins weighs no more than its stack, and joins no more than the stack's entries do at most.
 pub record FitsStack (stack : List LayerTree) (first : Task Event) : Type 0 where
@@ -20,4 +20,4 @@ EntriesFit = (stack : List LayerTree) (first : Task Event) → IsChainedTask sta
 
 -- A stack that is accepted weighs less than there may be events in a list.
 abbrev pub StacksFit : Type 0
-StacksFit = (stack : List LayerTree) → accepted stack ≡ Ok stack → largest_weight stack < most_events
+StacksFit = (stack : List LayerTree) → accepted stack ≡ Ok stack → largest_weight stack < most_sent

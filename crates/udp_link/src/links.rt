@@ -1,12 +1,12 @@
 // Links over the system's sockets.
 ghost use Rattle.std.specs.Prelude.{◌≡◌, ◌≢◌, ◌<◌, ◌≤◌, ℕ, None, Some, Err, IsSome, IsSomeAnd, IfOk, IfSome, OnOk, OnErr, length, replicate, slice_get, vec_capacity};
 ghost use Rattle.outside.specs.declared.links.LinkError.TheVariants.{Memory};
-ghost use Rattle.outside.specs.declared.links.TheConstants.{MOST_BYTES, MOST_PEERS};
+ghost use Rattle.outside.specs.declared.links.TheConstants.{LONGEST_DATAGRAM, MOST_PEERS};
 ghost use Rattle.outside.specs.Links.{Listens, Sends, Receives, WritesFront, faults_after_call};
 ghost use Rattle.udp_link.specs.Listening.{listening_in, peers_in, peers_of};
 
 use crate::member::{Member, address};
-use outside::{LinkError, Links, MOST_BYTES, MOST_PEERS, Peer};
+use outside::{LONGEST_DATAGRAM, LinkError, Links, MOST_PEERS, Peer};
 use std::alloc::{AllocError, Global};
 use std::net::Net;
 
@@ -22,7 +22,7 @@ pub struct UdpLinks<R: Net + Drop> {
     faults: u64,
     send_faults: u64,
     ghost places: { length members.items ≡ MOST_PEERS },
-    ghost room_size: { MOST_BYTES ≤ vec_capacity room },
+    ghost room_size: { LONGEST_DATAGRAM ≤ vec_capacity room },
 }
 
 impl<R: Net + Drop> UdpLinks<R> {
@@ -33,7 +33,7 @@ impl<R: Net + Drop> UdpLinks<R> {
         ensures send_faults { IfOk result (λ links. ⟦<UdpLinks<R> as Links>⟧.send_faults links ≡ 0) }
     {
         let members = nobody(alloc)?;
-        let room = Vec::with_capacity(alloc, MOST_BYTES)?;
+        let room = Vec::with_capacity(alloc, LONGEST_DATAGRAM)?;
         Ok(UdpLinks {
             net,
             members,
@@ -70,11 +70,11 @@ fn nobody(alloc: Global) -> Result<Vec<Option<Member>>, AllocError>
 
 /// Fills a room that has memory for the longest datagram.
 fn fill(room: &mut Vec<u8>)
-    requires { MOST_BYTES ≤ vec_capacity room.old }
-    ensures size { length room.new.items ≡ MOST_BYTES }
-    ensures capacity { MOST_BYTES ≤ vec_capacity room.new }
+    requires { LONGEST_DATAGRAM ≤ vec_capacity room.old }
+    ensures size { length room.new.items ≡ LONGEST_DATAGRAM }
+    ensures capacity { LONGEST_DATAGRAM ≤ vec_capacity room.new }
 {
-    match room.resize(MOST_BYTES, 0) {
+    match room.resize(LONGEST_DATAGRAM, 0) {
         Ok(()) => {}
         Err(_) => unreachable!(),
     }
@@ -129,7 +129,7 @@ impl<R: Net + Drop> Links for UdpLinks<R> {
 
     fn send(&mut self, from: u8, to: u8, bytes: &[u8]) -> Result<(), LinkError>
         requires peer { IsSomeAnd (listening_in self.old.members.items from) (λ peers. to < peers) }
-        requires size { length bytes.now ≤ MOST_BYTES }
+        requires size { length bytes.now ≤ LONGEST_DATAGRAM }
         ensures counted { self.new.send_faults ≡ faults_after_call self.old.send_faults result }
         ensures faults { self.new.faults ≡ self.old.faults }
         ensures listening { (m : ℕ) → listening_in self.new.members.items m ≡ listening_in self.old.members.items m }
@@ -147,8 +147,8 @@ impl<R: Net + Drop> Links for UdpLinks<R> {
 
     fn recv(&mut self, member: u8, into: &mut [u8]) -> Result<Option<usize>, LinkError>
         requires listens { IsSome (listening_in self.old.members.items member) }
-        requires room { length into.old ≡ MOST_BYTES }
-        ensures bound { IfOk result (λ got. IfSome got (λ count. count ≤ MOST_BYTES)) }
+        requires room { length into.old ≡ LONGEST_DATAGRAM }
+        ensures bound { IfOk result (λ got. IfSome got (λ count. count ≤ LONGEST_DATAGRAM)) }
         ensures counted { self.new.faults ≡ faults_after_call self.old.faults result }
         ensures sends { self.new.send_faults ≡ self.old.send_faults }
         ensures listening { (m : ℕ) → listening_in self.new.members.items m ≡ listening_in self.old.members.items m }
