@@ -1,4 +1,4 @@
--- A script that is read or made has few events.
+-- A script that is read has few events.
 use Rattle.std.proofs.Common.{◌≡◌, refl, sym, ◌∙◌, ap, ℕ, zero, suc, ◌<◌, ◌≤◌, Bool, true, false, List, [], ◌∷◌, length, length-append, arith}
 use Rattle.std.specs.Prelude.{Result, Ok, Err, ◌||◌, nat_lt, if◌then◌else◌}
 use Rattle.std.specs.List.{enumerate_from}
@@ -7,7 +7,6 @@ use Rattle.std.proofs.lemmas.List.FromFn.{length-enumerate_from}
 use Rattle.std.proofs.lemmas.List.Splits.{length-slice_split}
 use Rattle.std.proofs.lemmas.List.Sums.{length-filter, count_by-le-length}
 use Rattle.script_mean.specs.Event.{group_line, said_by}
-use Rattle.script_mean.specs.Generate.{generate, generated, an_event}
 use Rattle.script_mean.specs.Lines.{is_line_feed, lines_of, line_count, is_too_long, says_nothing, said_lines}
 use Rattle.script_mean.specs.Script.{ScriptFault, ◌>>=◌, too_long, script_of, script_of_lines, in_form, event_of, events_of}
 use Rattle.script_mean.specs.declared.event.ScriptEvent.{ScriptEvent}
@@ -69,15 +68,3 @@ few_read text s is = judged (is_too_long text) refl is where
         let lines = few_lines text (ltb-false 100000 (line_count text) few) in
         let less = script_length (said_lines text) s is in
         omega (arith, lines, less)
-
--- a made script has as many events as were asked for
-made_length : (seed members : ℕ) (raw : Bool) (events : ℕ) → length (generated seed members raw events).events ≡ events
-made_length seed members raw zero = refl
-made_length seed members raw (suc k) =
-    let g = generated seed members raw k in
-    let before = made_length seed members raw k in
-    let both = length-append g.events ((an_event raw members k g.cursors g.seed).0.0 ∷ []) in
-    omega (arith, before, both)
-
-pub made_many : (seed events members : ℕ) (raw : Bool) → length (generate seed events members raw).events ≡ events
-made_many seed events members raw = made_length seed members raw events

@@ -1,5 +1,6 @@
 //! The job `load`, layer by layer.
 
+ghost use Rattle.std.specs.Prelude.{◌≡◌};
 ghost use Rattle.job_mean.specs.Job as job;
 ghost use Rattle.job_mean.specs.Job.{layered};
 ghost use Rattle.job_ends.specs.Comes.{Comes, around};
@@ -10,9 +11,21 @@ use file_jobs::fetch_stack;
 use job_ends::Ending;
 use job_text::Load;
 use outside::{Shelf, Sink};
-use script_text::generate;
+use script_text::Workload;
 use stack_play::play_load;
 use std::alloc::Global;
+
+/// What the script of a load is made from.
+fn workload_of(load: &Load<'_>) -> Workload
+    ensures { result ≡ record { seed = load.now.seed; events = load.now.events; members = load.now.members; raw = load.now.raw } }
+{
+    Workload {
+        seed: load.seed,
+        events: load.events,
+        members: load.members as u8,
+        raw: load.raw,
+    }
+}
 
 /// Replays a script that is made from a seed, layer by layer, and writes how many lines of each kind its report has.
 pub fn load_stack<S: Shelf, O: Sink>(
@@ -25,10 +38,7 @@ pub fn load_stack<S: Shelf, O: Sink>(
         (around S.Shelf O.Sink shelf.old shelf.new out.old out.new) (shown result) }
 {
     match fetch_stack(alloc, load.file, shelf) {
-        Ok(stack) => match generate(alloc, load.seed, load.events, load.members as u8, load.raw) {
-            Ok(script) => ending(play_load(alloc, stack, &script, out)),
-            Err(_) => Ending::Memory,
-        },
+        Ok(stack) => ending(play_load(alloc, stack, workload_of(load), out)),
         Err(ending) => ending,
     }
 }

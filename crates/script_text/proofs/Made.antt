@@ -1,57 +1,87 @@
 -- A script, event by event.
-use Rattle.std.proofs.Common.{◌≡◌, ℕ, zero, suc, ◌+◌, ◌*◌, ◌<◌, ◌≤◌, Bool, List, [], ◌∷◌, ◌++◌, length, replicate, sym, ap, ◌∙◌, arith}
-use Rattle.std.specs.Prelude.{slice_index}
-use Rattle.std.specs.List.{All}
-use Rattle.std.proofs.lemmas.List.Elements.{All-nil, All-push}
-use Rattle.std.proofs.lemmas.List.{length-replicate}
+use Rattle.std.proofs.Common.{◌≡◌, ℕ, zero, suc, ◌+◌, ◌<◌, ◌≤◌, Bool, true, false, List, [], ◌∷◌, ◌++◌, length, length-append, get_or, refl, sym, ap, subst, ◌∙◌, arith}
+use Rattle.std.proofs.Math.Seq.{get_or-append_seam}
+use Rattle.std.proofs.lemmas.Bool.{ltb-true, ltb-false}
+use Rattle.std.proofs.lemmas.List.{get_or_append_left}
+use Rattle.std.proofs.lemmas.Option.{slice_get_read}
+use Rattle.std.specs.Prelude.{Some, nat_lt, slice_get}
+use Rattle.msg_core.specs.View.{most_members}
 use Rattle.script_mean.specs.Event.{member_of}
-use Rattle.script_mean.specs.Generate.{an_event, generated, with_event}
+use Rattle.script_mean.specs.Generate.{an_event, generate, generated}
 use Rattle.script_mean.specs.declared.event.ScriptEvent.{ScriptEvent}
+use Rattle.script_text.specs.Course.{Course, IsAt, IsNext}
 use Rattle.script_text.specs.Making.{IsWithin}
 use Rattle.script_text.specs.declared.maker.Maker.{Maker}
 
--- the events that are made so far, and how far the maker is
-pub record IsMade (seed members : ℕ) (raw : Bool) (number : ℕ) (maker : Maker) (events : List ScriptEvent) : Type 0 where
-  pub reached : generated seed members raw number ≡ record { seed = maker.seed.value; cursors = maker.cursors.items; events = events }
-  pub same_members : maker.members ≡ members
-  pub same_raw : maker.raw ≡ raw
-  pub count : length maker.cursors.items ≡ members
-  pub within : IsWithin number maker.cursors.items
-  pub of_members : All (λ event. member_of event < members) events
+module _ (seed members : ℕ) (raw : Bool) where
+  -- the event of a number, behind those that are made
+  abbrev drawn : ℕ → ScriptEvent
+  drawn k = (an_event raw members k (generated seed members raw k).cursors (generated seed members raw k).seed).0.0
 
--- one more
-pub one_made : (seed members : ℕ) (raw : Bool) (number : ℕ) (old new : Maker) (events : List ScriptEvent) (event : ScriptEvent) → IsMade seed members raw number old events → an_event old.raw old.members number old.cursors.items old.seed.value ≡ ((event, new.cursors.items), new.seed.value) → member_of event < old.members → new.raw ≡ old.raw → new.members ≡ old.members → length new.cursors.items ≡ length old.cursors.items → IsWithin (number + 1) new.cursors.items → IsMade seed members raw (number + 1) new (events ++ event ∷ [])
-one_made seed members raw number old new events event so_far makes of_member raw_is members_is count within =
-    let next : number + 1 ≡ suc number = omega arith in
-    record {
-      reached =
-          ap (generated seed members raw) next
-          ∙ (λ i. with_event (so_far.reached i).events (an_event raw members number (so_far.reached i).cursors (so_far.reached i).seed))
-          ∙ (λ i. with_event events (an_event (sym so_far.same_raw i) (sym so_far.same_members i) number old.cursors.items old.seed.value))
-          ∙ ap (with_event events) makes;
-      same_members = members_is ∙ so_far.same_members;
-      same_raw = raw_is ∙ so_far.same_raw;
-      count = count ∙ so_far.count;
-      within = within;
-      of_members = All-push (λ e. member_of e < members) events event so_far.of_members (omega (arith, of_member, so_far.same_members));
-    }
+  -- as many events are made as were asked for
+  pub made_length : (k : ℕ) → length (generated seed members raw k).events ≡ k
+  made_length zero = refl
+  made_length (suc k) =
+      let before = made_length k in
+      let both = length-append (generated seed members raw k).events (drawn k ∷ []) in
+      omega (arith, before, both)
 
--- at first none is made
-pub none_made : (seed members : ℕ) (raw : Bool) (maker : Maker) (events : List ScriptEvent) → maker.seed.value ≡ seed → maker.cursors.items ≡ replicate members 0 → events ≡ [] → maker.members ≡ members → maker.raw ≡ raw → IsMade seed members raw 0 maker events
-none_made seed members raw maker events seed_is cursors_are none members_is raw_is = record {
-  reached = λ i. record { seed = sym seed_is i; cursors = sym cursors_are i; events = sym none i };
-  same_members = members_is;
-  same_raw = raw_is;
-  count = ap length cursors_are ∙ length-replicate members 0;
-  within = λ member. rw cursors_are (nothing members member);
-  of_members = rw none (All-nil (λ event. member_of event < members));
+  last_made : (d : ScriptEvent) (k : ℕ) → get_or (generated seed members raw (suc k)).events k d ≡ drawn k
+  last_made d k = subst (λ i. get_or ((generated seed members raw k).events ++ drawn k ∷ []) i d ≡ drawn k) (made_length k)
+      (get_or-append_seam (generated seed members raw k).events (drawn k) [] d)
+
+  -- an event stays the one of its number while others are made
+  each_made : (d : ScriptEvent) (k n : ℕ) → k < n → get_or (generated seed members raw n).events k d ≡ drawn k
+  each_made d k zero lt = absurd (omega (arith, lt))
+  each_made d k (suc n) lt = go (nat_lt k n) refl (each_made d k n) where
+    go : (b : Bool) → nat_lt k n ≡ b → (k < n → get_or (generated seed members raw n).events k d ≡ drawn k) →
+        get_or (generated seed members raw (suc n)).events k d ≡ drawn k
+    go true is before =
+        let less = ltb-true k n is in
+        let within : k < length (generated seed members raw n).events = omega (arith, less, made_length n) in
+        get_or_append_left (generated seed members raw n).events (drawn n ∷ []) d k within ∙ before less
+    go false is before =
+        let past = ltb-false k n is in
+        let same : n ≡ k = omega (arith, past, lt) in
+        subst (λ i. get_or (generated seed members raw (suc i)).events k d ≡ drawn k) (sym same) (last_made d k)
+
+-- the event that a maker makes is the script's of its number
+pub is_made : (seed events k : ℕ) (old new : Maker) (event : ScriptEvent) → IsAt seed k old → k < events →
+    an_event old.raw old.members k old.cursors.items old.seed.value ≡ ((event, new.cursors.items), new.seed.value) →
+    slice_get (generate seed events old.members old.raw).events k ≡ Some event
+is_made seed events k old new event at lt makes =
+    let drawn_is : drawn seed old.members old.raw k ≡ event =
+    (λ i. (an_event old.raw old.members k (at.cursors_are i) (at.seed_is i)).0.0) ∙ ap (λ x. x.0.0) makes in
+    slice_get_read (generate seed events old.members old.raw).events events k event (sym (made_length seed old.members old.raw events)) lt
+    (sym (each_made seed old.members old.raw event k events lt ∙ drawn_is))
+
+-- how far the script is made by a maker
+abbrev pub course_of : (seed events k : ℕ) → Maker → Course
+course_of seed events k m = record { workload = record { seed = seed; events = events; members = m.members; raw = m.raw }; made = k }
+
+pub is_next : (seed events k : ℕ) (old new : Maker) (event : ScriptEvent) → IsAt seed k old → k < events →
+    an_event old.raw old.members k old.cursors.items old.seed.value ≡ ((event, new.cursors.items), new.seed.value) → member_of event < old.members →
+    new.raw ≡ old.raw → new.members ≡ old.members → IsNext (course_of seed events k old) (course_of seed events (k + 1) new) event
+is_next seed events k old new event at lt makes of_member raw_is members_is = record {
+  event_is = is_made seed events k old new event at lt makes;
+  of_member = of_member;
+  course = λ i. record { workload = record { seed = seed; events = events; members = members_is i; raw = raw_is i }; made = k + 1 };
 }
-  where
-    nothing : (n member : ℕ) → slice_index (replicate n 0) member ≤ 2 * 0
-    nothing zero member = omega arith
-    nothing (suc n) zero = omega arith
-    nothing (suc n) (suc member) = nothing n member
 
--- all are made
-pub all_made : (seed events members : ℕ) (raw : Bool) (number : ℕ) (maker : Maker) (made : List ScriptEvent) → number ≡ events → IsMade seed members raw number maker made → made ≡ (generated seed members raw events).events
-all_made seed events members raw number maker made all so_far = sym (ap (λ n. (generated seed members raw n).events) (sym all) ∙ ap (λ g. g.events) so_far.reached)
+-- and it stands one further behind it
+pub one_further : (seed k : ℕ) (old new : Maker) (event : ScriptEvent) → IsAt seed k old →
+    an_event old.raw old.members k old.cursors.items old.seed.value ≡ ((event, new.cursors.items), new.seed.value) →
+    new.raw ≡ old.raw → new.members ≡ old.members → length new.cursors.items ≡ length old.cursors.items → IsWithin (k + 1) new.cursors.items →
+    IsAt seed (k + 1) new
+one_further seed k old new event at makes raw_is members_is count within =
+    let next : k + 1 ≡ suc k = omega arith in
+    record {
+      seed_is = (λ i. (generated seed (members_is i) (raw_is i) (next i)).seed)
+          ∙ (λ i. (an_event old.raw old.members k (at.cursors_are i) (at.seed_is i)).1) ∙ ap (λ x. x.1) makes;
+      cursors_are = (λ i. (generated seed (members_is i) (raw_is i) (next i)).cursors)
+          ∙ (λ i. (an_event old.raw old.members k (at.cursors_are i) (at.seed_is i)).0.1) ∙ ap (λ x. x.0.1) makes;
+      count = count ∙ at.count ∙ sym members_is;
+      within = within;
+      some_member = subst (λ n. 1 ≤ n) (sym members_is) at.some_member;
+      most = subst (λ n. n ≤ most_members) (sym members_is) at.most;
+    }

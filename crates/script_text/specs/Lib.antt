@@ -1,4 +1,5 @@
 pub mod Answer
+pub mod Course
 pub mod Making
 pub mod Parts
 pub mod Plan

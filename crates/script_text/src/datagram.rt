@@ -23,7 +23,7 @@ fn counting(alloc: Global, number: u32, size: u32) -> Result<Vec<u8>, AllocError
 {
     let mut bytes = Vec::with_capacity(alloc, size as usize)?;
     for place in 0..size {
-        bytes.push(((u64::from(number) + u64::from(place)) % 256) as u8)?;
+        bytes.push_reserved(((u64::from(number) + u64::from(place)) % 256) as u8);
     }
     Ok(bytes)
 }

@@ -1,42 +1,85 @@
-//! A whole script that is made from a number.
-ghost use Rattle.std.specs.Prelude.{◌≡◌, ◌≤◌, IfOk};
-ghost use Rattle.script_mean.specs.Generate as spec;
-ghost use Rattle.script_mean.specs.Script.{IsRunnable};
+//! Scripts that are made from a number, event by event.
+ghost use Rattle.std.specs.Prelude.{◌≡◌, ◌<◌, ◌≤◌, IfOk};
+ghost use Rattle.script_text.specs.Course.{IsNext};
 ghost use Rattle.msg_core.specs.View.{most_members};
 
 use crate::maker::Maker;
 use crate::seed::Seed;
-use script_mean::{Events, Script};
+use script_mean::ScriptEvent;
 use std::alloc::{AllocError, Global};
+use std::marker::Model;
 
-/// Makes the script of so many events of so many members from a seed, with datagrams or without. It
-/// fails only where memory runs out.
-pub fn generate(
-    alloc: Global,
+/// What a script is made from: a seed, how many events and members it has, and whether datagrams are among the events.
+#[derive(Clone, Copy)]
+pub struct Workload {
+    pub seed: u32,
+    pub events: u32,
+    pub members: u8,
+    pub raw: bool,
+}
+
+/// A script that is made while it is played, so that no more than one event of it is in memory. Contracts see what it is made from, and how
+/// many events are made.
+#[derive(Drop)]
+pub struct Generation {
+    /// The seed that it began with, and how many events it has.
     seed: u32,
     events: u32,
-    members: u8,
-    raw: bool,
-) -> Result<Script, AllocError>
-    requires members { (1 ≤ members) × (members ≤ most_members) }
-    requires few { events ≤ 2147483647 }
-    ensures made { IfOk result (λ script. script ≡ spec.generate seed events members raw) }
-    ensures runnable { IfOk result IsRunnable }
-{
-    let mut maker = Maker {
-        raw,
-        members,
-        seed: Seed { value: seed },
-        cursors: vec![in alloc; 0; members as usize]?,
-    };
-    let mut made = Vec::new(alloc);
-    for number in 0..events {
-        made.push(maker.event(alloc, number)?)?;
+    maker: Maker,
+    made: u32,
+}
+
+impl Model for Generation {
+    ghost use Rattle.std.specs.Prelude.{◌≤◌};
+    ghost use Rattle.script_text.specs.Course.{Course, IsAt};
+
+    ghost Value = { Course };
+
+    ghost view = { λ g. record {
+      workload = record { seed = g.seed; events = g.events; members = g.maker.members; raw = g.maker.raw };
+      made = g.made;
+    } };
+
+    ghost invariant = { λ g. IsAt g.seed g.made g.maker × (g.events ≤ 2147483647) };
+}
+
+impl Generation {
+    /// The script of a workload of 1 to 32 members and at most 2,147,483,647 events, of which none is made yet.
+    pub fn begin(alloc: Global, workload: Workload) -> Result<Generation, AllocError>
+        requires members { (1 ≤ workload.members) × (workload.members ≤ most_members) }
+        requires few { workload.events ≤ 2147483647 }
+        ensures { IfOk result (λ script. script ≡ record { workload = workload; made = 0 }) }
+    {
+        Ok(Generation {
+            seed: workload.seed,
+            events: workload.events,
+            maker: Maker {
+                raw: workload.raw,
+                members: workload.members,
+                seed: Seed {
+                    value: workload.seed,
+                },
+                cursors: vec![in alloc; 0; usize::from(workload.members)]?,
+            },
+            made: 0,
+        })
     }
-    Ok(Script {
-        group: 1,
-        stamp: 1,
-        members,
-        events: Events::of(made),
-    })
+
+    /// Makes the next event. It fails only where memory runs out; then none more is made.
+    pub fn next(&mut self, alloc: Global) -> Result<ScriptEvent, AllocError>
+        requires more { self.old.made < self.old.workload.events }
+        ensures { IfOk result (IsNext self.old self.new) }
+    {
+        let seed = self.maker.seed;
+        match self.maker.event(alloc, self.made) {
+            Ok(event) => {
+                self.made += 1;
+                Ok(event)
+            }
+            Err(error) => {
+                self.maker.seed = seed;
+                Err(error)
+            }
+        }
+    }
 }

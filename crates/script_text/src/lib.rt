@@ -17,7 +17,7 @@ mod values;
 mod words;
 
 pub use crate::error::ScriptError;
-pub use crate::generating::generate;
+pub use crate::generating::{Generation, Workload};
 pub use crate::plan::read_plan;
 pub use crate::reading::read_script;
 pub use crate::splits::cut;

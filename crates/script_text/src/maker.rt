@@ -1,5 +1,5 @@
 //! The events of a script that is made from a seed.
-ghost use Rattle.std.specs.Prelude.{◌≡◌, ◌+◌, ◌<◌, ◌≤◌, length, IfOk};
+ghost use Rattle.std.specs.Prelude.{◌≡◌, ◌+◌, ◌<◌, ◌≤◌, length, IfErr, IfOk};
 ghost use Rattle.script_mean.specs.Event.{member_of};
 ghost use Rattle.script_mean.specs.Generate as spec;
 ghost use Rattle.script_text.specs.Making.{IsWithin, Makes, MakesEvent};
@@ -33,6 +33,7 @@ impl Maker {
         ensures members { self.new.members ≡ self.old.members }
         ensures cursors { length self.new.cursors.items ≡ length self.old.cursors.items }
         ensures within { IsWithin (number + 1) self.new.cursors.items }
+        ensures kept { IfErr result (λ error. self.new.cursors ≡ self.old.cursors) }
     {
         let choice = self.seed.below(16);
         let member = self.seed.below(u32::from(self.members)) as u8;

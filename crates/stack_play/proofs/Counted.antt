@@ -1,20 +1,26 @@
 -- What holds between the events of a script whose lines are counted.
-use Rattle.std.proofs.Common.{◌≡◌, ℕ, ◌+◌, ◌<◌, ◌≤◌, List, length, take, get_or, sym, ap, ◌∙◌}
+use Rattle.std.proofs.Common.{◌≡◌, ℕ, ◌+◌, ◌<◌, ◌≤◌, List, length, take, get_or, sym, ap, subst, ◌∙◌, arith}
+use Rattle.std.specs.Prelude.{Some, slice_get}
 use Rattle.std.proofs.lemmas.List.{take_all, length-take-le}
+use Rattle.std.proofs.lemmas.Option.{get_or_from_slice_get, slice_get_within}
 use Rattle.layer_mean.specs.Tree.{LayerTree}
 use Rattle.script_mean.specs.declared.event.ScriptEvent.{ScriptEvent}
 use Rattle.script_mean.specs.declared.script.Script.{Script}
+use Rattle.script_mean.specs.Event.{member_of}
+use Rattle.script_text.specs.Course.{Course, IsNext, script_for}
+use Rattle.script_text.specs.declared.generating.Workload.{Workload}
+use Rattle.script_text.proofs.Made.{made_length}
 use Rattle.stack_mean.specs.Plan.{Plan}
 use Rattle.run_mean.specs.Report.{moments, run_of}
 use Rattle.run_mean.specs.World.{World, first_world}
 use Rattle.view_core.specs.declared.step.Did.{Did}
-use Rattle.report_text.specs.Counts.{counted, counts_of}
+use Rattle.report_text.specs.Counts.{counted, counts_of, no_counts}
 use Rattle.report_text.specs.declared.counts.Counts.{Counts}
 use Rattle.report_text.proofs.Gained.{counted_moment}
-use Rattle.stack_play.specs.Turns.{Keeps, moment_at, IsCounted}
+use Rattle.stack_play.specs.Turns.{IsAtFirst, Keeps, moment_at, IsCounted}
 use Rattle.stack_play.specs.declared.run.Run.{Run}
 use Rattle.stack_play.proofs.Events.{Happened}
-use Rattle.stack_play.proofs.Held.{StandsAt, stands_next}
+use Rattle.stack_play.proofs.Held.{StandsAt, stands_first, stands_next}
 use Rattle.stack_play.proofs.Moments.{stands_at, front, front_more, moments_length}
 
 -- After k events the lines of each are counted.
@@ -50,3 +56,44 @@ module _ (stack : List LayerTree) (plans : List Plan) (s : Script) where
       counts ≡ counts_of stack plans (run_of stack plans s)
   counted_last k r counts held all = held.counts_are
       ∙ ap (λ es. counts_of stack plans (moments stack plans (first_world stack s.group s.stamp s.members) es)) (take_all k s.events all)
+
+-- After k events of a workload's script they were made, too, and no more.
+pub record CountedSoFar (stack : List LayerTree) (plans : List Plan) (w : Workload) (k : ℕ) (r : Run) (counts : Counts) (script : Course) : Type 0 where
+  pub counted : Counted stack plans (script_for w) k r counts
+  pub course : script ≡ record { workload = w; made = k }
+
+module _ (stack : List LayerTree) (plans : List Plan) (w : Workload) where
+  -- the script has as many events as are wanted
+  many : length (script_for w).events ≡ w.events
+  many = made_length w.seed w.members w.raw w.events
+
+  pub first_counted : (r : Run) (counts : Counts) (script : Course) → IsAtFirst stack plans 1 1 w.members r → counts ≡ no_counts →
+      script ≡ record { workload = w; made = 0 } → CountedSoFar stack plans w 0 r counts script
+  first_counted r counts script first none course = record {
+    counted = record { stands = stands_first stack plans (script_for w) r first; counts_are = none };
+    course = course;
+  }
+
+  module _ (k : ℕ) (r : Run) (counts : Counts) (script : Course) (held : CountedSoFar stack plans w k r counts script) where
+    pub few_counted : k < w.events → counts.events ≡ k
+    few_counted lt = events_counted stack plans (script_for w) k r counts held.counted (omega (arith, lt, many))
+
+    pub all_counted : w.events ≤ k → counts ≡ counts_of stack plans (run_of stack plans (script_for w))
+    all_counted all = counted_last stack plans (script_for w) k r counts held.counted (omega (arith, all, many))
+
+    module _ (behind : Course) (event : ScriptEvent) (next : IsNext script behind event) where
+      -- it is the next event of the script
+      next_is : slice_get (script_for w).events k ≡ Some event
+      next_is = rw held.course at next.event_is
+
+      pub one_of_them : member_of event < length r.world.members
+      one_of_them = let of_member : member_of event < w.members = rw held.course at next.of_member in
+          subst (λ n. member_of event < n) (sym held.counted.stands.count) of_member
+
+      pub next_counted : (r' : Run) (after : Counts) → Keeps stack plans r r' →
+          IsCounted stack plans (stands_at stack plans (script_for w) k) event r' counts after → CountedSoFar stack plans w (k + 1) r' after behind
+      next_counted r' after kept c = record {
+        counted = counted_more stack plans (script_for w) k event r r' counts after held.counted kept c
+            (slice_get_within (script_for w).events k event next_is) (sym (get_or_from_slice_get (script_for w).events k event event next_is));
+        course = next.course ∙ ap (λ c. record { workload = c.workload; made = c.made + 1 }) held.course;
+      }

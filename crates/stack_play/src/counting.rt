@@ -1,13 +1,14 @@
-//! How many lines of each kind the report of a run has.
+//! How many lines of each kind the report of a script has that is made while it is played.
 
 ghost use Rattle.std.specs.Prelude.{◌≡◌, ◌^◌, ◌<◌, ◌≤◌, OnOk, length};
+ghost use Rattle.msg_core.specs.View.{most_members};
 ghost use Rattle.chain_laws.specs.Runs.{TypedStack};
 ghost use Rattle.script_mean.specs.Event.{member_of};
-ghost use Rattle.script_mean.specs.Script.{IsRunnable};
 ghost use Rattle.stack_mean.specs.Plans.{plans_of};
 ghost use Rattle.event_graph.specs.Answer.{stack_tree};
 ghost use Rattle.packet_plans.specs.Trees.{plans_tree};
 ghost use Rattle.job_mean.specs.Job.{layered};
+ghost use Rattle.script_text.specs.Course.{script_for};
 ghost use Rattle.run_mean.specs.Report.{run_of};
 ghost use Rattle.run_mean.specs.Tally.{tally};
 ghost use Rattle.run_mean.specs.World as mean;
@@ -26,32 +27,40 @@ use msg_core::Memory;
 use outside::{Sink, SinkError};
 use packet_plans::Plans;
 use report_text::{Tally, write_tally};
-use script_mean::{Script, ScriptEvent};
+use script_mean::ScriptEvent;
+use script_text::{Generation, Workload};
 use std::alloc::Global;
 use step_outputs::an_accepted_stack_is_light;
 use world_core::Feed;
 
-/// Plays a script in the world in which it begins, layer by layer, and writes how many lines of each kind its report has.
+/// The group of a script that is made.
+const GROUP: u32 = 1;
+
+/// The stamp of its group.
+const STAMP: u32 = 1;
+
+/// Plays the script of a workload of 1 to 32 members in the world in which it begins, layer by layer, and writes how many lines of each kind
+/// its report has. Each event is made as it is played.
 pub fn play_load<O: Sink>(
     alloc: Global,
     stack: Stack,
-    script: &Script,
+    workload: Workload,
     out: &mut O,
 ) -> Result<(), PlayError>
     requires typed { TypedStack (stack_tree stack) }
-    requires runs { IsRunnable script.now }
-    requires few { length script.now.events ≤ most_events }
-    ensures { Plays (stack_tree stack) script.now.members (tally (stack_tree stack) (plans_of (stack_tree stack)) layered script.now)
+    requires members { (1 ≤ workload.members) × (workload.members ≤ most_members) }
+    requires few { workload.events ≤ most_events }
+    ensures { Plays (stack_tree stack) workload.members (tally (stack_tree stack) (plans_of (stack_tree stack)) layered (script_for workload))
         (tells_of O.Sink out.old) (tells_of O.Sink out.new) result }
 {
-    match open(alloc, stack, script.group, script.stamp, script.members) {
+    match open(alloc, stack, GROUP, STAMP, workload.members) {
         Ok(opened) => {
             let Opened {
                 stack,
                 plans,
                 mut run,
             } = opened;
-            let wrote = write_counts(stack.stack(), &plans, &mut run, script, out);
+            let wrote = write_counts(alloc, stack.stack(), &plans, &mut run, workload, out);
             run.close();
             with_room(wrote)
         }
@@ -61,42 +70,46 @@ pub fn play_load<O: Sink>(
 
 /// Writes the counts of a run that begins.
 fn write_counts<O: Sink>(
+    alloc: Global,
     stack: &Stack,
     plans: &Plans,
     run: &mut Run,
-    script: &Script,
+    workload: Workload,
     out: &mut O,
 ) -> Result<(), SinkError>
-    requires first { IsAtFirst (stack_tree stack.now) (plans_tree plans.now) script.now.group script.now.stamp script.now.members run.old }
-    requires runs { IsRunnable script.now }
-    requires few { length script.now.events ≤ most_events }
-    ensures { Wrote (tally (stack_tree stack.now) (plans_tree plans.now) layered script.now)
+    requires first { IsAtFirst (stack_tree stack.now) (plans_tree plans.now) GROUP STAMP workload.members run.old }
+    requires members { (1 ≤ workload.members) × (workload.members ≤ most_members) }
+    requires few { workload.events ≤ most_events }
+    ensures { Wrote (tally (stack_tree stack.now) (plans_tree plans.now) layered (script_for workload))
         (tells_of O.Sink out.old) (tells_of O.Sink out.new) result }
 {
     let mut counts = Tally::new();
-    match count_events(stack, plans, run, script, &mut counts) {
+    match count_events(alloc, stack, plans, run, workload, &mut counts) {
         Ok(()) => write_tally(&mut run.pen, &counts, out),
         Err(Memory) => Err(SinkError::Memory),
     }
 }
 
-/// Plays all events of a script, and counts the lines of each.
+/// Makes and plays all events of a script, and counts the lines of each.
 fn count_events(
+    alloc: Global,
     stack: &Stack,
     plans: &Plans,
     run: &mut Run,
-    script: &Script,
+    workload: Workload,
     counts: &mut Tally,
 ) -> Result<(), Memory>
-    requires first { IsAtFirst (stack_tree stack.now) (plans_tree plans.now) script.now.group script.now.stamp script.now.members run.old }
-    requires runs { IsRunnable script.now }
-    requires few { length script.now.events ≤ most_events }
+    requires first { IsAtFirst (stack_tree stack.now) (plans_tree plans.now) GROUP STAMP workload.members run.old }
+    requires members { (1 ≤ workload.members) × (workload.members ≤ most_members) }
+    requires few { workload.events ≤ most_events }
     requires nothing { counts.old ≡ no_counts }
     ensures { OnOk result (counts.new
-        ≡ counts_of (stack_tree stack.now) (plans_tree plans.now) (run_of (stack_tree stack.now) (plans_tree plans.now) script.now)) }
+        ≡ counts_of (stack_tree stack.now) (plans_tree plans.now) (run_of (stack_tree stack.now) (plans_tree plans.now) (script_for workload))) }
 {
-    for event in script.events.slice() {
-        count_event(stack, plans, run, event, counts)?;
+    let mut script = Generation::begin(alloc, workload)?;
+    for _ in 0..workload.events {
+        let event = script.next(alloc)?;
+        count_event(stack, plans, run, &event, counts)?;
     }
     Ok(())
 }

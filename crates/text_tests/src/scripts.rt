@@ -1,6 +1,6 @@
 //! What no clause says: that reading succeeds where there is memory, also at the limits, and what an
 //! error prints.
-use script_text::{ScriptError, generate, read_plan, read_script};
+use script_text::{Generation, ScriptError, Workload, read_plan, read_script};
 use std::alloc::{AllocError, Global};
 use std::test::Fail;
 
@@ -74,14 +74,23 @@ Peer { ip: [1, 2, 3, 255], port: 65535 }] }, turns: Turns { turns: [(3, Send(0, 
 
 #[test]
 fn makes_a_script(rt: HostRuntime) -> Result<(), Fail> {
-    let script = generate(rt.alloc(), 2, 3, 3, true)?;
-    let shown = format!(in rt.alloc(); "{script:?}")?;
+    let workload = Workload {
+        seed: 2,
+        events: 3,
+        members: 3,
+        raw: true,
+    };
+    let mut script = Generation::begin(rt.alloc(), workload)?;
+    let first = script.next(rt.alloc())?;
+    let second = script.next(rt.alloc())?;
+    let third = script.next(rt.alloc())?;
+    let shown = format!(in rt.alloc(); "{first:?} {second:?} {third:?}")?;
     assert_eq!(rt;
         shown.as_str(),
-        "Script { group: 1, stamp: 1, members: 3, events: Events { events: [Cast(0, Bytes { \
+        "Cast(0, Bytes { \
 bytes: [0, 1, 2, 3, 4, 5, 6, 7, 8, 9, 10, 11, 12, 13, 14, 15, 16, 17, 18, 19, 20, 21, \
-22, 23, 24, 25, 26, 27, 28, 29, 30] }), Give(2, 0), Raw(1, Bytes { bytes: [229, 0, 0, 0, \
-1, 0, 0, 0, 1, 0, 0, 0, 0, 0, 0, 0, 7, 1, 255, 0, 3, 3, 1] })] } }"
+22, 23, 24, 25, 26, 27, 28, 29, 30] }) Give(2, 0) Raw(1, Bytes { bytes: [229, 0, 0, 0, \
+1, 0, 0, 0, 1, 0, 0, 0, 0, 0, 0, 0, 7, 1, 255, 0, 3, 3, 1] })"
     );
     Ok(())
 }

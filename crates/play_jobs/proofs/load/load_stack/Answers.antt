@@ -1,8 +1,7 @@
-use Rattle.std.proofs.Common.{ap, arith, length, sym, subst}
+use Rattle.std.proofs.Common.{arith, sym, subst}
 use Rattle.event_graph.specs.Answer.{stack_tree}
 use Rattle.job_mean.specs.Job.{layered, load}
 use Rattle.job_ends.specs.Comes.{around, Comes}
-use Rattle.play_jobs.proofs.Events.{made_many}
 use Rattle.play_jobs.proofs.Plays.{load_comes}
 use Rattle.play_jobs.proofs.Typed.{means_typed}
 use Rattle.play_jobs.proofs.load.load_stack.Goals as goal
@@ -10,18 +9,16 @@ use Rattle.play_jobs.proofs.load.load_stack.Goals as goal
 pub play_load-requires-clause-typed : goal.play_load-requires-clause-typed
 play_load-requires-clause-typed g c = means_typed _ _ c.in-Ok.ensures.read.means
 
-pub returns-in-Ok-generate : goal.returns-in-Ok-generate
-returns-in-Ok-generate g c =
+pub play_load-requires-clause-members : goal.play_load-requires-clause-members
+play_load-requires-clause-members g c = rw c.workload_of.ensures c.args.load.now.within
+
+pub play_load-requires-clause-few : goal.play_load-requires-clause-few
+play_load-requires-clause-few g c = let few = c.args.load.now.few in rw c.workload_of.ensures (omega (arith, few))
+
+pub returns-in-Ok : goal.returns-in-Ok
+returns-in-Ok g c =
     let job = c.args.load.now in
     let a = around g.S.Shelf g.O.Sink c.args.shelf.now c.fetch_stack.new.shelf c.args.out.now c.play_load.new.out in
     subst (Comes (load job.file.now job.seed job.events job.members job.raw layered) a) (sym c.ending.ensures)
     (load_comes job.file.now job.seed job.events job.members job.raw a (stack_tree c.in-Ok.stack) c.in-Ok.ensures.read c.play_load.result
-    (rw c.in-Ok-generate.ensures.made at c.play_load.ensures))
-
-pub play_load-requires-clause-few : goal.play_load-requires-clause-few
-play_load-requires-clause-few g c =
-    let job = c.args.load.now in
-    let many = made_many job.seed job.events job.members job.raw in
-    let made = ap (λ s. length s.events) c.in-Ok-generate.ensures.made in
-    let few = job.few in
-    omega (arith, many, made, few)
+    (rw c.workload_of.ensures at c.play_load.ensures))

@@ -1,7 +1,8 @@
 use Rattle.event_graph.specs.Answer.{stack_tree}
 use Rattle.packet_plans.specs.Trees.{plans_tree}
-use Rattle.stack_play.proofs.Counted.{Counted}
+use Rattle.script_text.specs.Course.{script_for}
+use Rattle.stack_play.proofs.Counted.{CountedSoFar}
 use Rattle.stack_play.proofs.counting.count_events.Given as goal
 
-abbrev pub invariant-loop-event : goal.invariant-loop-event
-invariant-loop-event l = Counted (stack_tree l.stack) (plans_tree l.plans) l.script l.event-index l.run l.counts
+abbrev pub invariant-loop : goal.invariant-loop
+invariant-loop l = CountedSoFar (stack_tree l.stack) (plans_tree l.plans) l.fn.workload l.counter l.run l.counts l.script

@@ -4,8 +4,9 @@ use Rattle.packet_plans.specs.Trees.{plans_tree}
 use Rattle.report_text.proofs.Gained.{counted_tally}
 use Rattle.report_text.specs.Counts.{tally_lines}
 use Rattle.sink_lines.proofs.Turns.{wrote_as}
+use Rattle.script_text.specs.Course.{script_for}
 use Rattle.stack_play.proofs.counting.write_counts.Goals as goal
 
 pub returns-in-Ok : goal.returns-in-Ok
 returns-in-Ok g c = wrote_as _ _ _ _ c.write_tally.result
-    (ap tally_lines c.in-Ok.ensures ∙ counted_tally (stack_tree c.args.stack.now) (plans_tree c.args.plans.now) c.args.script.now) c.write_tally.ensures
+    (ap tally_lines c.in-Ok.ensures ∙ counted_tally (stack_tree c.args.stack.now) (plans_tree c.args.plans.now) (script_for c.args.workload)) c.write_tally.ensures
