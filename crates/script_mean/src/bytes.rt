@@ -29,4 +29,12 @@ impl Bytes {
     {
         self.bytes.as_slice()
     }
+
+    /// The bytes, in the memory in which they are.
+    pub fn into_vec(self) -> Vec<u8>
+        ensures { result.items ≡ self }
+    {
+        let Bytes { bytes } = self;
+        bytes
+    }
 }

@@ -8,29 +8,31 @@ ghost use Rattle.msg_core.specs.View.{most_members};
 
 use crate::seed::Seed;
 use script_mean::{Bytes, ScriptEvent};
-use std::alloc::{AllocError, Global};
+use std::alloc::AllocError;
 
-/// Up to 63 bytes, which count up from the event's number.
-pub(crate) fn body(alloc: Global, seed: &mut Seed, number: u32) -> Result<Bytes, AllocError>
+/// Up to 63 bytes, which count up from the event's number, in the memory of a vector.
+pub(crate) fn body(memory: Vec<u8>, seed: &mut Seed, number: u32) -> Result<Bytes, AllocError>
     ensures { Makes (spec.a_body number seed.old.value) result seed.new.value }
 {
     let size = seed.below(64);
-    Ok(Bytes::of(counting(alloc, number, size)?))
+    Ok(Bytes::of(counting(memory, number, size)?))
 }
 
-fn counting(alloc: Global, number: u32, size: u32) -> Result<Vec<u8>, AllocError>
+fn counting(memory: Vec<u8>, number: u32, size: u32) -> Result<Vec<u8>, AllocError>
     ensures { IfOk result (λ bytes. bytes.items ≡ map (λ byte. byte % 256) (range_with_len number size)) }
 {
-    let mut bytes = Vec::with_capacity(alloc, size as usize)?;
+    let mut bytes = memory;
+    bytes.clear();
+    bytes.reserve(size as usize)?;
     for place in 0..size {
         bytes.push_reserved(((u64::from(number) + u64::from(place)) % 256) as u8);
     }
     Ok(bytes)
 }
 
-/// A datagram that may be stray.
+/// A datagram that may be stray, in the memory of a vector.
 pub(crate) fn datagram(
-    alloc: Global,
+    memory: Vec<u8>,
     seed: &mut Seed,
     members: u8,
     member: u8,
@@ -42,7 +44,7 @@ pub(crate) fn datagram(
     let form = seed.below(2);
     let sender = seed.below(u32::from(members)) as u8;
     let count = seed.below(64);
-    let mut bytes = preamble(alloc, form, members, sender)?;
+    let mut bytes = preamble(memory, form, members, sender)?;
     add_small(&mut bytes, seed, count)?;
     let way = seed.below(8);
     cut_short(&mut bytes, seed, way);
@@ -50,11 +52,12 @@ pub(crate) fn datagram(
 }
 
 /// The bytes in front of a datagram's headers.
-fn preamble(alloc: Global, form: u32, members: u8, sender: u8) -> Result<Vec<u8>, AllocError>
+fn preamble(memory: Vec<u8>, form: u32, members: u8, sender: u8) -> Result<Vec<u8>, AllocError>
     requires { members ≤ most_members }
     ensures { IfOk result (λ bytes. bytes.items ≡ spec.a_preamble form members sender) }
 {
-    let mut bytes = Vec::new(alloc);
+    let mut bytes = memory;
+    bytes.clear();
     bytes.push(if form == 0 { 229 } else { 230 })?;
     bytes.extend_from_slice(&1_u32.to_be_bytes())?;
     bytes.extend_from_slice(&1_u32.to_be_bytes())?;

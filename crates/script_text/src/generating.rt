@@ -60,6 +60,7 @@ impl Generation {
                     value: workload.seed,
                 },
                 cursors: vec![in alloc; 0; usize::from(workload.members)]?,
+                spare: Vec::new(alloc),
             },
             made: 0,
         })
@@ -80,6 +81,18 @@ impl Generation {
                 self.maker.seed = seed;
                 Err(error)
             }
+        }
+    }
+
+    /// Takes an event back that was played: the next body is made in its memory.
+    pub fn take_back(&mut self, event: ScriptEvent)
+        ensures { self.new ≡ self.old }
+    {
+        match event {
+            ScriptEvent::Cast(_, body) => self.maker.spare = body.into_vec(),
+            ScriptEvent::Send(_, _, body) => self.maker.spare = body.into_vec(),
+            ScriptEvent::Raw(_, bytes) => self.maker.spare = bytes.into_vec(),
+            _ => {}
         }
     }
 }

@@ -9,15 +9,17 @@ use crate::datagram::{body, datagram};
 use crate::seed::Seed;
 use script_mean::ScriptEvent;
 use std::alloc::{AllocError, Global};
+use std::mem;
 
 /// How far a script is made: whether it has datagrams, how many members, the seed, and for each member
-/// the number of the packet that it was given last.
+/// the number of the packet that it was given last. Beside these, memory for the next body.
 #[derive(Drop)]
 pub(crate) struct Maker {
     pub raw: bool,
     pub members: u8,
     pub seed: Seed,
     pub cursors: Vec<u32>,
+    pub spare: Vec<u8>,
 }
 
 impl Maker {
@@ -38,13 +40,16 @@ impl Maker {
         let choice = self.seed.below(16);
         let member = self.seed.below(u32::from(self.members)) as u8;
         if choice < 2 {
-            cast(alloc, &mut self.seed, number, member)
+            let memory = take_out(alloc, &mut self.spare);
+            cast(memory, &mut self.seed, number, member)
         } else if choice == 2 {
-            send(alloc, &mut self.seed, self.members, number, member)
+            let memory = take_out(alloc, &mut self.spare);
+            send(memory, &mut self.seed, self.members, number, member)
         } else if choice == 3 {
             Ok(ScriptEvent::Tick(member, number / 16))
         } else if self.raw && choice == 15 {
-            datagram(alloc, &mut self.seed, self.members, member)
+            let memory = take_out(alloc, &mut self.spare);
+            datagram(memory, &mut self.seed, self.members, member)
         } else {
             Ok(self.give(number, member))
         }
@@ -83,16 +88,26 @@ fn given(way: u32, cursor: u32) -> (u32, u32)
     }
 }
 
-fn cast(alloc: Global, seed: &mut Seed, number: u32, member: u8) -> Result<ScriptEvent, AllocError>
+/// The bytes of a vector, which has none then.
+fn take_out(alloc: Global, spare: &mut Vec<u8>) -> Vec<u8> {
+    mem::replace(spare, Vec::new(alloc))
+}
+
+fn cast(
+    memory: Vec<u8>,
+    seed: &mut Seed,
+    number: u32,
+    member: u8,
+) -> Result<ScriptEvent, AllocError>
     ensures made { Makes (spec.a_cast number member seed.old.value) result seed.new.value }
     ensures of_member { IfOk result (λ event. member_of event ≡ member) }
 {
-    Ok(ScriptEvent::Cast(member, body(alloc, seed, number)?))
+    Ok(ScriptEvent::Cast(member, body(memory, seed, number)?))
 }
 
 /// A send to any of the members.
 fn send(
-    alloc: Global,
+    memory: Vec<u8>,
     seed: &mut Seed,
     members: u8,
     number: u32,
@@ -103,5 +118,5 @@ fn send(
     ensures of_member { IfOk result (λ event. member_of event ≡ member) }
 {
     let rank = seed.below(u32::from(members));
-    Ok(ScriptEvent::Send(member, rank, body(alloc, seed, number)?))
+    Ok(ScriptEvent::Send(member, rank, body(memory, seed, number)?))
 }

@@ -110,6 +110,7 @@ fn count_events(
     for _ in 0..workload.events {
         let event = script.next(alloc)?;
         count_event(stack, plans, run, &event, counts)?;
+        script.take_back(event);
     }
     Ok(())
 }

@@ -23,9 +23,9 @@ count_event-requires-clause-events c =
     omega (arith, counted, few, c.loop-test.true)
 
 pub loop-preserved : goal.loop-preserved
-loop-preserved c = next_counted (stack_tree c.args.stack.now) (plans_tree c.args.plans.now) c.args.workload c.loop.counter c.loop.run c.loop.counts
-    c.loop.script c.loop.invariant c.next.new.self c.in_ok-event.event c.in_ok-event.ensures _ _ c.in_ok-count_event.ensures.kept
-    (c.in_ok-count_event.ensures.counted _ c.loop.invariant.counted.stands.world)
+loop-preserved c = rw c.take_back.ensures (next_counted (stack_tree c.args.stack.now) (plans_tree c.args.plans.now) c.args.workload c.loop.counter
+    c.loop.run c.loop.counts c.loop.script c.loop.invariant c.next.new.self c.in_ok-event.event c.in_ok-event.ensures _ _
+    c.in_ok-count_event.ensures.kept (c.in_ok-count_event.ensures.counted _ c.loop.invariant.counted.stands.world))
 
 pub returns : goal.returns
 returns c = all_counted (stack_tree c.args.stack.now) (plans_tree c.args.plans.now) c.args.workload c.loop.counter c.loop.run c.loop.counts c.loop.script
