@@ -17,7 +17,7 @@ use Rattle.step_laws.proofs.Numbered.{inputs_are_in_range}
 use Rattle.file_layer.specs.Making.{Making}
 use Rattle.bypass_member.specs.Judged.{entry_meant}
 use Rattle.bypass_member.specs.Making.{IsOpening}
-use Rattle.bypass_member.specs.Placing.{IsMember}
+use Rattle.bypass_member.specs.Placing.{placed, IsMember, IsRankIn}
 use Rattle.bypass_member.specs.Viewing.{HasMembers, IsIn, IsAt}
 use Rattle.bypass_member.specs.declared.entry.Entry.{Entry}
 use Rattle.bypass_member.specs.declared.member.Member.TheInside.{Inside}
@@ -40,6 +40,16 @@ use Rattle.bypass_member.specs.Working.{states_in, IsReady}
 use Rattle.bypass_member.specs.declared.ground.Ground.{Ground}
 use Rattle.bypass_member.specs.declared.ground.Took.{Took}
 use Rattle.bypass_member.specs.declared.works.Works.{Works}
+
+-- a member has its rank in its view, and stands there
+pub ranked : (m : Inside) (view : View) → IsMember m → m.view ≡ Some view → IsRankIn (Some view) m.id m.rank
+ranked m view is at = subst (λ (v : Option View). IsRankIn v m.id m.rank) at is.rank_is
+
+abbrev pub here_at : Inside → View → Here
+here_at m view = record { group = m.group; stamp = m.stamp; view = view; rank = m.rank }
+
+pub stands : (m : Inside) (view : View) → IsMember m → m.view ≡ Some view → here_at m view ≡ here_in (placed m) view
+stands m view is at = ap (λ (r : ℕ). record { group = m.group; stamp = m.stamp; view = view; rank = r }) (ranked m view is at).0
 
 -- a member in no view refuses all
 pub refused_out : (p : Placed) (input : Input) → p.member ≡ out → step_of p input ≡ Err (refusal_meant reasons.Out)

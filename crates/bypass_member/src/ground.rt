@@ -1,9 +1,11 @@
 //! What a step works over, and what it comes to.
 
-ghost use Rattle.std.specs.Prelude.{◌≡◌, ◌^◌, ◌<◌};
+ghost use Rattle.std.specs.Prelude.{◌≡◌, ◌<◌, Some};
 ghost use Rattle.std.specs.Option.{option_map_or};
 ghost use Rattle.msg_core.specs.View as members;
+ghost use Rattle.msg_core.specs.declared.packet.View.{View};
 ghost use Rattle.bypass_member.specs.Behind.{view_behind};
+ghost use Rattle.bypass_member.specs.Placing.{IsRankIn};
 
 use entry_shapes::EntryShapes;
 use event_graph::Stack;
@@ -33,22 +35,26 @@ pub(crate) struct Took {
     pub(crate) change: Option<Change>,
 }
 
-/// Where a member of a group stands in a view.
-pub(crate) fn here_of(group: u32, stamp: u32, view: View, id: u8) -> Here
-    ensures here { result ≡ record { group = group; stamp = stamp; view = view; rank = option_map_or (λ r. r) (members.rank view id) 0 } }
-    ensures numbers { (group < 2 ^ 32) × (stamp < 2 ^ 32) }
-    ensures few { result.rank < members.most_members }
+/// The rank of a member in a view; 0 where it isn't in it.
+pub(crate) fn rank_in(view: View, id: u8) -> u8
+    ensures rank { result ≡ option_map_or (λ r. r) (members.rank view id) 0 }
+    ensures few { result < members.most_members }
 {
     let _members = member_count(view);
-    let rank = match rank(view, id) {
+    match rank(view, id) {
         Some(rank) => rank,
         None => 0,
-    };
-    Here {
-        group,
-        stamp,
-        view,
-        rank,
+    }
+}
+
+/// The rank that a member has behind a change of its view.
+pub(crate) fn rank_after(rank: u8, id: u8, change: Option<Change>) -> u8
+    ensures { (view : View) → IsRankIn (Some view) id rank → IsRankIn (view_behind view change) id result }
+{
+    match change {
+        Some(Change::Into(next)) => rank_in(next, id),
+        Some(Change::Out) => rank,
+        None => rank,
     }
 }
 

@@ -2,7 +2,7 @@
 
 use crate::entry::judge;
 use crate::error::OpenError;
-use crate::ground::{Ground, Took, here_of, view_after};
+use crate::ground::{Ground, Took, rank_after, rank_in, view_after};
 use crate::opening::Opening;
 use crate::opens::{close_works, open_works};
 use crate::steps::take;
@@ -13,6 +13,7 @@ use file_layer::Maker;
 use member_shown::Shown;
 use msg_core::{Headers, View};
 use packet_full::{Scan, member_count};
+use packet_mean::Here;
 use packet_plans::Plans;
 use std::alloc::Global;
 use std::marker::Model;
@@ -33,8 +34,9 @@ pub struct Member {
     id: u8,
     /// How many members its first view had.
     most: u8,
-    /// The view that it is in, if it is in one.
+    /// The view that it is in, if it is in one, and its rank in it.
     view: Option<View>,
+    rank: u8,
     /// What the last datagram said.
     scan: Scan,
     /// No headers.
@@ -101,6 +103,7 @@ impl Member {
             id,
             most,
             view: Some(view),
+            rank: rank_in(view, id),
             scan: Scan::none(),
             bare: Headers::none(),
             works,
@@ -119,7 +122,13 @@ impl Member {
         let Some(view) = self.view else {
             return Stepped::Refused(Refusal::Out)
         };
-        let here = here_of(self.group, self.stamp, view, self.id);
+        let id = self.id;
+        let here = Here {
+            group: self.group,
+            stamp: self.stamp,
+            view,
+            rank: self.rank,
+        };
         let entry = match judge(&self.stack, &self.plans, &here, input, &mut self.scan) {
             Ok(entry) => entry,
             Err(reason) => return Stepped::Refused(reason),
@@ -130,11 +139,12 @@ impl Member {
             entries: &self.entries,
             bare: &self.bare,
             here,
-            id: self.id,
+            id,
             most: self.most,
         };
         let Took { common, change } = take(&mut self.works, &ground, entry, out, visits);
         self.view = view_after(view, change);
+        self.rank = rank_after(here.rank, id, change);
         Stepped::Taken { common, change }
     }
 
@@ -156,6 +166,7 @@ impl Member {
             id: _,
             most: _,
             view: _,
+            rank: _,
             scan: _,
             bare: _,
             works,

@@ -18,6 +18,7 @@ invariant_of-result c =
       typed = search rules;
       plans_are = search rules;
       entries_are = search rules;
+      rank_is = (c.rank_in.ensures.rank, c.rank_in.ensures.few);
       bare = search rules;
       ready = subst (λ (s : Stack). IsReady (stack_tree s) c.member_count-most.result c.in_ok-works.works) its both.0;
       at = subst (λ (s : Stack). IsIn (stack_tree s) c.member_count-most.result c.args.view (states_in c.in_ok-works.works)) its both.1;

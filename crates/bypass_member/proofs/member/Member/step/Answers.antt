@@ -1,26 +1,24 @@
-use Rattle.std.proofs.Common.{◌≡◌, ◌∙◌, Option, Err, refl, sym, ap, subst, arith}
+use Rattle.std.proofs.Common.{◌≡◌, Option, Err, refl, sym, ap, subst, arith}
 use Rattle.std.specs.Rc.{rc_value}
 use Rattle.msg_core.specs.declared.packet.View.{View}
-use Rattle.packet_mean.specs.declared.here.Here.{Here}
 use Rattle.event_graph.specs.Answer.{stack_tree}
 use Rattle.packet_plans.specs.Trees.{plans_tree}
 use Rattle.step_outputs.specs.Gathered.{Gathered}
 use Rattle.view_core.specs.Refusals.{refusal_meant}
 use Rattle.view_core.specs.Steps.{input_meant}
 use Rattle.member_shown.specs.Shown.{member_in}
-use Rattle.bypass_member.specs.Behind.{view_behind}
 use Rattle.bypass_member.specs.Judged.{entry_meant}
 use Rattle.bypass_member.specs.Placed.{Placed, here_in, step_of, Takes}
 use Rattle.bypass_member.specs.Placing.{placed}
 use Rattle.bypass_member.specs.Working.{states_in}
-use Rattle.bypass_member.proofs.Placing.{ground_is, entered_is, entered_same, refused_in, takes}
+use Rattle.bypass_member.proofs.Placing.{ground_is, entered_is, entered_same, here_at, ranked, refused_in, stands, takes}
 use Rattle.bypass_member.proofs.member.Member.step.Goals as goal
 
 pub returns-in-Err-clause-step : goal.returns-in-Err-clause-step
 returns-in-Err-clause-step c =
-    let not = entered_same c.deref.result.now (rc_value c.self.inside.stack) c.deref-2.result.now (rc_value c.self.inside.plans) c.here_of-here.result
+    let not = entered_same c.deref.result.now (rc_value c.self.inside.stack) c.deref-2.result.now (rc_value c.self.inside.plans) (here_at c.self.inside c.in-Some.view)
     (here_in (placed c.self.inside) c.in-Some.view) (input_meant c.args.input) (Err (refusal_meant c.in-Err.reason)) c.deref.ensures c.deref-2.ensures
-    c.here_of-here.ensures.here c.in-Err.ensures.judged in record {
+    (stands c.self.inside c.in-Some.view c.self.invariant c.in-Some.is) c.in-Err.ensures.judged in record {
       why = subst (λ (p : Placed). step_of p (input_meant c.args.input) ≡ Err (refusal_meant c.in-Err.reason)) c.self.view_is
           (refused_in (placed c.self.inside) c.in-Some.view (states_in c.self.inside.works) (input_meant c.args.input)
           (ap (λ (v : Option View). member_in v (states_in c.self.inside.works)) c.in-Some.is) c.in-Err.reason not);
@@ -31,33 +29,30 @@ returns-in-Err-clause-step c =
 
 pub take-common-requires-clause-ground : goal.take-common-requires-clause-ground
 take-common-requires-clause-ground c =
-    let here = c.here_of-here.ensures.here in
-    let group = ap (λ (h : Here). h.group) here in let stamp = ap (λ (h : Here). h.stamp) here in
     ground_is c.self.inside _ c.in-Some.view c.self.invariant c.in-Some.is c.deref-3.ensures c.deref-4.ensures c.deref-5.ensures refl
-    (ap (λ (h : Here). h.view) here) (omega (arith, group, c.here_of-here.ensures.numbers.0)) (omega (arith, stamp, c.here_of-here.ensures.numbers.1))
-    c.here_of-here.ensures.few
+    refl (omega arith) (omega arith) (ranked c.self.inside c.in-Some.view c.self.invariant c.in-Some.is).1
 
 pub take-common-requires-clause-entered : goal.take-common-requires-clause-entered
 take-common-requires-clause-entered c =
-    entered_is c.self.inside c.deref.result.now c.deref-3.result.now c.deref-2.result.now c.here_of-here.result (input_meant c.args.input)
-    c.in-Ok.entry
+    entered_is c.self.inside c.deref.result.now c.deref-3.result.now c.deref-2.result.now (here_at c.self.inside c.in-Some.view)
+    (input_meant c.args.input) c.in-Ok.entry
     c.self.invariant c.deref.ensures c.deref-3.ensures c.deref-2.ensures c.in-Ok.ensures.input c.in-Ok.ensures.judged
 
 pub returns-clause-step : goal.returns-clause-step
 returns-clause-step c =
-    let here = c.here_of-here.ensures.here in
+    let here = stands c.self.inside c.in-Some.view c.self.invariant c.in-Some.is in
     let enters = entered_same c.deref.result.now (rc_value c.self.inside.stack) c.deref-2.result.now (rc_value c.self.inside.plans)
-    c.here_of-here.result
+    (here_at c.self.inside c.in-Some.view)
     (here_in (placed c.self.inside) c.in-Some.view) (input_meant c.args.input) _ c.deref.ensures c.deref-2.ensures here c.in-Ok.ensures.judged in
     subst (λ (p : Placed). Takes p (input_meant c.args.input)
-    (placed (record c.self.inside { view = c.view_after-self-inside.result; works = c.take-common.new.works }))
+    (placed (record c.self.inside { view = c.view_after-self-inside.result; rank = c.rank_after-self-inside.result; works = c.take-common.new.works }))
     c.take-common.new.out.outputs c.args.visits.now c.take-common.new.visits c.take-common.result.common c.take-common.result.change)
     c.self.view_is
     (takes (placed c.self.inside) c.in-Some.view (states_in c.self.inside.works) (input_meant c.args.input)
-    (ap (λ (v : Option View). member_in v (states_in c.self.inside.works)) c.in-Some.is) _ (entry_meant c.here_of-here.result c.in-Ok.entry)
+    (ap (λ (v : Option View). member_in v (states_in c.self.inside.works)) c.in-Some.is) _ (entry_meant (here_at c.self.inside c.in-Some.view) c.in-Ok.entry)
     c.take-common.new.works c.take-common.new.out c.args.visits.now c.take-common.new.visits c.take-common.result
-    (placed (record c.self.inside { view = c.view_after-self-inside.result; works = c.take-common.new.works }))
+    (placed (record c.self.inside { view = c.view_after-self-inside.result; rank = c.rank_after-self-inside.result; works = c.take-common.new.works }))
     (ap stack_tree c.deref-3.ensures) (ap plans_tree c.deref-4.ensures) here refl enters c.take-common.ensures.taken
     (ap (λ (v : Option View). member_in v (states_in c.take-common.new.works))
-    (c.view_after-self-inside.ensures ∙ ap (λ (h : Here). view_behind h.view c.take-common.result.change) (sym here)))
+    c.view_after-self-inside.ensures)
     (record { stack = refl; plans = refl; group = refl; stamp = refl; id = refl; most = refl }))

@@ -1,6 +1,6 @@
 use Rattle.std.proofs.Common.{◌∙◌, sym, arith}
 use Rattle.bypass_member.proofs.Viewing.{rank_below}
-use Rattle.bypass_member.proofs.ground.here_of.Goals as goal
+use Rattle.bypass_member.proofs.ground.rank_in.Goals as goal
 
 pub returns-in-Some-clause-few : goal.returns-in-Some-clause-few
 returns-in-Some-clause-few c =
