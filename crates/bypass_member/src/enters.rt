@@ -24,6 +24,7 @@ use slot_pool::Pool;
 use stack_queue::{BareTask, Tasks};
 
 /// A task with a message of these headers and a copy of these bytes, in a pool that isn't full, becomes the last.
+#[inline(always)]
 fn carry(task: BareTask, headers: &Headers, body: &[u8], tasks: &mut Tasks, pool: &mut Pool)
     requires fits { length body.now ≤ longest_body }
     requires room { IsFull pool.old → ⊥ }
@@ -117,6 +118,7 @@ fn ticking(moment: u32) -> BareTask
 }
 
 /// A cast or a send of the application becomes the last task, at the top, without a header.
+#[inline(always)]
 fn enter_above(
     envelope: Envelope,
     body: &[u8],

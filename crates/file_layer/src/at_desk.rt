@@ -160,6 +160,7 @@ impl Desk for FileDesk {
         takes::take::<K>(self, pool, cell, index, taken)
     }
 
+    #[inline(always)]
     fn send<K: Start>(
         &mut self,
         pool: &Pool,

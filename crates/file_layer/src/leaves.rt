@@ -13,6 +13,7 @@ use layer_desk::Start;
 use slot_pool::Pool;
 
 /// Gives all messages of the scope back.
+#[inline(always)]
 pub(crate) fn forget_messages<K: Start>(desk: &mut FileDesk, pool: &mut Pool)
     requires { IsReady K.begun pool.old desk.old }
     ensures ready { IsReady K.begun pool.new desk.new }
@@ -35,6 +36,7 @@ pub(crate) fn forget_rest<K: Start>(desk: &mut FileDesk, pool: &mut Pool)
     desk.tray.drop_arrived(pool);
 }
 
+#[inline(always)]
 pub(crate) fn leave<K: Start>(desk: &mut FileDesk, pool: &mut Pool)
     requires { IsReady K.begun pool.old desk.old }
     ensures ready { IsReady K.begun pool.new desk.new }

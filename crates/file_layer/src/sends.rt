@@ -47,6 +47,7 @@ fn put_behind(direction: Dir, header: Header, tray: &mut Tray)
     }
 }
 
+#[inline(always)]
 pub(crate) fn send<K: Start>(
     desk: &mut FileDesk,
     pool: &Pool,

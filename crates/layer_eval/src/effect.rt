@@ -69,7 +69,6 @@ fn run_all<K: Start, D: Desk>(
 
 /// Runs a statement that has none beside it, or none that is run in the same way.
 #[cycle(effect)]
-#[inline(never)]
 pub fn run_alone<K: Start, D: Desk>(
     place: u8,
     statement: &Statement,
@@ -268,7 +267,6 @@ fn emit<K: Start, D: Desk>(
 }
 
 /// Sends an event, and lets go what the visit leaves; with that a message of the scope goes on.
-#[inline(never)]
 pub fn emit_last<K: Start, D: Desk>(
     place: u8,
     emission: &Emission,

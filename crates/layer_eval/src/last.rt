@@ -103,7 +103,6 @@ fn run_last<K: Start, D: Desk>(
 }
 
 /// Runs a statement behind which there is nothing to be done but to let go what the visit leaves.
-#[inline(never)]
 fn run_end<K: Start, D: Desk>(
     place: u8,
     statement: &Statement,
@@ -124,7 +123,6 @@ fn run_end<K: Start, D: Desk>(
 }
 
 /// Runs statements that have others behind them.
-#[inline(never)]
 fn run_front<K: Start, D: Desk>(
     place: u8,
     statements: &[Statement],

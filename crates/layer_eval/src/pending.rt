@@ -69,7 +69,6 @@ impl Owed {
     }
 
     /// Evaluates an emission that is put off, as those of messages of the scope are and no others, where nothing was owed; says whether it is.
-    #[inline(never)]
     pub fn put_off<K: Start, D: Desk>(
         &mut self,
         place: u8,

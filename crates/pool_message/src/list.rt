@@ -128,6 +128,7 @@ impl List {
     }
 
     /// Puts an event with this envelope and with what lies in a place, behind the others. The place is empty then.
+    #[inline(always)]
     pub fn push_from(&mut self, direction: Dir, envelope: Envelope, message: &mut Place)
         requires { length self.old.items < self.old.capacity }
         ensures pushed { self.new ≡ buffer (self.old.items ++ (direction, pool_event envelope message.old) ∷ []) self.old.capacity }
@@ -183,6 +184,7 @@ impl List {
 
     /// Puts an event with this envelope and with a message of these headers and a copy of these bytes, behind the others: the
     /// bytes in a slot that was unused, and the headers where the event stands. False where the pool is full, and then nothing has changed.
+    #[inline(always)]
     pub fn push_put(
         &mut self,
         direction: Dir,
@@ -208,6 +210,7 @@ impl List {
     }
 
     /// Puts an event with this envelope and with a message of these headers before this body, behind the others.
+    #[inline(always)]
     fn push_made(&mut self, direction: Dir, envelope: Envelope, headers: &Headers, body: Part)
         requires { length self.old.items < self.old.capacity }
         ensures { self.new ≡ buffer (self.old.items ++ (direction, pool_event envelope (Some (record { headers = headers.now; body = Some body }))) ∷ []) self.old.capacity }

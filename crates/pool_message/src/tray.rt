@@ -250,6 +250,7 @@ impl Tray {
     }
 
     /// Lets the messages of the scope go, and gives their references back.
+    #[inline(always)]
     pub fn clear_messages(&mut self, pool: &mut Pool)
         requires { Covers pool.old (pile_refs self.old.messages.items) }
         ensures empty { self.new ≡ record self.old { messages = buffer [] self.old.messages.capacity } }

@@ -58,6 +58,7 @@ impl Pool {
     }
 
     /// A first reference to a copy of `bytes`, in a slot that was unused.
+    #[inline(always)]
     pub fn put(&mut self, bytes: &[u8]) -> Option<Slot>
         requires { length bytes.now ≤ LONGEST }
         ensures full { IsNone result ↔ IsFull self.old }

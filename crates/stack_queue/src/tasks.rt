@@ -89,6 +89,7 @@ impl Tasks {
 
     /// A task whose event has a message of these headers and a copy of these bytes becomes the last: the bytes are in a slot that was unused, and
     /// the headers where the event stands. False where the pool is full, and then nothing has changed.
+    #[inline(always)]
     pub fn push_put(
         &mut self,
         task: BareTask,

@@ -77,7 +77,9 @@ pub(crate) fn keep_bytes(body: &[u8], bytes: &mut Vec<u8>) -> Span
     ensures capacity { vec_capacity bytes.old ≤ vec_capacity bytes.new }
 {
     let from = bytes.len();
-    put_body(body, bytes);
+    if !body.is_empty() {
+        put_body(body, bytes);
+    }
     Span {
         from,
         len: body.len(),

@@ -101,6 +101,7 @@ impl Packets {
     }
 
     /// Puts a packet that a member sends behind the others.
+    #[inline(always)]
     fn put(&mut self, here: &Here, packet: &PacketView<'_>) -> Result<(), Memory>
         ensures { OnOk result (self.new ≡ self.old
             ++ full_bytes (sent_packet here.now packet.now.dest packet.now.headers.now packet.now.body.now) ∷ []) }
@@ -120,6 +121,7 @@ impl Packets {
     }
 
     /// Puts an output of a step behind the others if it is a packet.
+    #[inline(always)]
     fn put_output(&mut self, here: &Here, output: &OutputView<'_>) -> Result<(), Memory>
         ensures { OnOk result (self.new ≡ self.old ++ spelled_of (output_meant here.now output.now ∷ [])) }
     {
@@ -130,6 +132,7 @@ impl Packets {
     }
 
     /// Puts the packets among the outputs of a step behind the others, in order.
+    #[inline(always)]
     pub fn keep(&mut self, out: &Outputs) -> Result<(), Memory>
         ensures { OnOk result (self.new ≡ self.old ++ spelled_of out.now.outputs) }
     {

@@ -103,6 +103,7 @@ impl World {
     }
 
     /// A member is given an input.
+    #[inline(always)]
     fn step(
         &mut self,
         id: u8,
@@ -128,6 +129,7 @@ impl World {
     }
 
     /// Packet `number` reaches a member, as a datagram.
+    #[inline(always)]
     fn give(
         &mut self,
         number: u32,
@@ -181,6 +183,7 @@ impl World {
 impl Feed for World {
     ghost group = { λ w. w };
 
+    #[inline(always)]
     #[tactic(auto, unfolding(run_mean::specs::World::happens))]
     fn feed(
         &mut self,
