@@ -54,6 +54,14 @@ impl Headers {
         MOST_HEADERS as u32 - u32::from(self.first)
     }
 
+    /// All of them, where they lie.
+    pub fn slice(&self) -> &[Header]
+        ensures { result.now ≡ self.now }
+    {
+        let places = &self.places[..];
+        &places[usize::from(self.first)..]
+    }
+
     /// The header number `k`, the lowest layer's being 0.
     pub fn at(&self, k: u32) -> Option<Header>
         ensures { result ≡ slice_get self.now k }

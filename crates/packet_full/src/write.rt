@@ -107,11 +107,8 @@ fn put_headers_of(headers: &Headers, into: &mut Vec<u8>)
     ensures len { vec_len into.new ≤ vec_len into.old + 17 * length headers.now }
     ensures capacity { vec_capacity into.new ≡ vec_capacity into.old }
 {
-    for k in 0..headers.len() {
-        match headers.at(k) {
-            Some(header) => put_header(&header, into),
-            None => unreachable!(),
-        }
+    for header in headers.slice() {
+        put_header(header, into);
     }
 }
 

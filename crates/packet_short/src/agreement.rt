@@ -46,10 +46,10 @@ fn behind_at<'a>(
     requires { number < length (headers_in headers.now) }
     ensures { (d : Header) → option_map (λ rest. rest.now) result ≡ behind planned.now (slice_index_or (headers_in headers.now) number d).fields }
 {
-    if headers.at(number).fields.len() == 0 {
+    let header = headers.at(number);
+    if header.fields.len() == 0 {
         return Some(planned);
     }
-    let header = headers.at(number);
     behind(planned, &header.fields)
 }
 

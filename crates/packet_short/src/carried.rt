@@ -24,25 +24,13 @@ impl<'a> Carried<'a> {
     }
 
     /// The header of a number, the lowest layer's being 0.
-    pub(crate) fn at(&self, number: usize) -> Header
+    pub(crate) fn at(&self, number: usize) -> &Header
         requires { number < length (headers_in self.now) }
-        ensures { result ≡ slice_index_or (headers_in self.now) number result }
+        ensures { result.now ≡ slice_index_or (headers_in self.now) number result.now }
     {
         match self {
-            Carried::Message(message) => message.header_at(number).copy(),
-            Carried::Place(headers) => header_in(headers, number),
+            Carried::Message(message) => message.header_at(number),
+            Carried::Place(headers) => &headers.slice()[number],
         }
-    }
-}
-
-/// The header of a number among headers in place.
-fn header_in(headers: &Headers, number: usize) -> Header
-    requires { number < length headers.now }
-    ensures { result ≡ slice_index_or headers.now number result }
-{
-    let _count = headers.len();
-    match headers.at(number as u32) {
-        Some(header) => header,
-        None => unreachable!(),
     }
 }

@@ -7,7 +7,7 @@ use Rattle.packet_short.proofs.agreement.behind_at.Goals as goal
 
 pub returns-then-len-eq0 : goal.returns-then-len-eq0
 returns-then-len-eq0 c =
-    λ d. all_behind c.args.planned.now (headers_in c.args.headers.now) c.args.number _ d c.requires c.at.ensures (sym c.len.ensures.count ∙ c.if-len-eq0.true)
+    λ d. all_behind c.args.planned.now (headers_in c.args.headers.now) c.args.number _ d c.requires c.at-header.ensures (sym c.len.ensures.count ∙ c.if-len-eq0.true)
 
 pub returns : goal.returns
 returns c =

@@ -9,15 +9,15 @@ pub returns-in_default : goal.returns-in_default
 returns-in_default c =
     sym (sym c.loop-place.invariant
     ∙ disagrees (drop c.loop-place.place c.as_slice-tags.result.now) c.loop-place.fields.now (headers_in c.args.headers.now) c.loop-place.place
-    c.at.result (omega (arith, c.len-count.ensures, c.loop-place-test.true)) c.at.ensures
-    (c.in_default.ensures c.at.result ∙ ap (λ (h : Header). behind c.loop-place.fields.now h.fields) (sym c.at.ensures)))
+    c.at.result.now (omega (arith, c.len-count.ensures, c.loop-place-test.true)) c.at.ensures
+    (c.in_default.ensures c.at.result.now ∙ ap (λ (h : Header). behind c.loop-place.fields.now h.fields) (sym c.at.ensures)))
 
 pub loop-place-preserved : goal.loop-place-preserved
 loop-place-preserved c =
-    goes_on c.as_slice-tags.result.now c.loop-place.fields.now c.in-Some.rest.now (headers_in c.args.headers.now) c.loop-place.place c.at.result
+    goes_on c.as_slice-tags.result.now c.loop-place.fields.now c.in-Some.rest.now (headers_in c.args.headers.now) c.loop-place.place c.at.result.now
     (omega (arith, c.if-tags-count.false, c.loop-place-test.true)) (omega (arith, c.len-count.ensures, c.loop-place-test.true)) c.at.ensures
     c.if-tags-place.false
-    (c.in-Some.ensures c.at.result ∙ ap (λ (h : Header). behind c.loop-place.fields.now h.fields) (sym c.at.ensures))
+    (c.in-Some.ensures c.at.result.now ∙ ap (λ (h : Header). behind c.loop-place.fields.now h.fields) (sym c.at.ensures))
     ∙ c.loop-place.invariant
 
 pub returns : goal.returns
