@@ -100,6 +100,14 @@ impl List {
         Some((sent.0, &sent.1))
     }
 
+    /// The first one, of those that there are.
+    pub fn front(&self) -> &(Dir, PoolEvent)
+        requires { 0 < length self.now.items }
+        ensures { result.now ≡ first_sent self.now.items }
+    {
+        &self.slots[self.first as usize]
+    }
+
     /// The first one, to be changed where it lies.
     pub fn first_mut(&mut self) -> &mut (Dir, PoolEvent)
         requires { 0 < length self.old.items }
@@ -170,6 +178,7 @@ impl List {
 
     /// Puts an event with this envelope and with the last of some messages, if there is one, behind the others. That message is
     /// taken out.
+    #[inline(always)]
     pub fn push_last(&mut self, direction: Dir, envelope: Envelope, messages: &mut Messages)
         requires { length self.old.items < self.old.capacity }
         ensures pushed { self.new ≡ buffer (self.old.items ++ (direction, pool_event envelope (last_item messages.old.items)) ∷ []) self.old.capacity }

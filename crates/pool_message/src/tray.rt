@@ -436,10 +436,8 @@ fn way_of(events: &Events) -> (Dir, Envelope)
     requires { 0 < length events.now.items }
     ensures { result ≡ ((first_sent events.now.items).0, envelope_of (first_sent events.now.items).1) }
 {
-    match events.first() {
-        Some((direction, event)) => (direction, event.envelope()),
-        None => unreachable!(),
-    }
+    let sent = events.front();
+    (sent.0, sent.1.envelope())
 }
 
 /// The first event goes on as the last, in this direction, with this envelope and with its message.
@@ -528,10 +526,7 @@ fn message_of(events: &Events) -> Option<&PoolMessage>
     requires { 0 < length events.now.items }
     ensures { option_copied result ≡ first_message events.now.items }
 {
-    match events.first() {
-        Some((_direction, event)) => event.message.get(),
-        None => unreachable!(),
-    }
+    events.front().1.message.get()
 }
 
 /// Message number `k` of some, which there is, goes once more, and down behind a header.

@@ -73,10 +73,7 @@ pub(crate) fn first_way(events: &Events) -> Dir
     requires { 0 < length events.now.items }
     ensures { result ≡ (first_sent events.now.items).0 }
 {
-    match events.first() {
-        Some((direction, _event)) => direction,
-        None => unreachable!(),
-    }
+    events.front().0
 }
 
 /// The neighbour in a direction.
