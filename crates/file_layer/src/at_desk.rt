@@ -97,6 +97,7 @@ impl Desk for FileDesk {
         writes::assign_square::<K>(self, pool, cell, row, column, value);
     }
 
+    #[inline(always)]
     fn lift<K: Start>(&mut self, pool: &mut Pool, slot: u8) -> Result<(), NoRoom> {
         lifts::lift::<K>(self, pool, slot)
     }

@@ -23,6 +23,7 @@ pub(crate) fn take_last(hand: &mut Messages) -> Option<PoolMessage>
     hand.pop()
 }
 
+#[inline(always)]
 pub(crate) fn lift<K: Start>(desk: &mut FileDesk, pool: &mut Pool, slot: u8) -> Result<(), NoRoom>
     requires { IsReady K.begun pool.old desk.old }
     ensures ready { IsReady K.begun pool.new desk.new }

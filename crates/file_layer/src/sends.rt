@@ -102,6 +102,7 @@ fn nothing_behind(direction: Dir, header: Header) -> PoolMessage
 }
 
 /// Sends an event with a message without bytes, going down behind a header.
+#[inline(never)]
 fn send_nothing(tray: &mut Tray, direction: Dir, envelope: Envelope, header: Header)
     requires { length tray.old.sent.items < tray.old.sent.capacity }
     ensures { tray.new ≡ also_sent direction envelope (Some (sent_behind direction header (bodiless []))) tray.old }

@@ -248,7 +248,7 @@ fn push<K: Start, D: Desk>(
 }
 
 /// Sends an event, whose arguments are evaluated at once.
-#[inline(never)]
+#[inline(always)]
 fn emit<K: Start, D: Desk>(
     place: u8,
     emission: &Emission,

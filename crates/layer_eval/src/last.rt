@@ -123,6 +123,7 @@ fn run_end<K: Start, D: Desk>(
 }
 
 /// Runs statements that have others behind them.
+#[inline(always)]
 fn run_front<K: Start, D: Desk>(
     place: u8,
     statements: &[Statement],

@@ -112,6 +112,7 @@ impl Tasks {
     }
 
     /// A task whose event has no message becomes the last.
+    #[inline(always)]
     pub fn push_bare(&mut self, task: BareTask)
         requires { length self.old.items < self.old.capacity }
         ensures { self.new ≡ buffer (self.old.items ++ task_with task None ∷ []) self.old.capacity }
