@@ -214,8 +214,8 @@ impl Desk for FileDesk {
         fields: &Fields,
         numbers: u8,
         messages: u8,
-    ) -> Result<(), NoRoom> {
-        enters::enter::<K>(self, pool, envelope, fields, numbers, messages)
+    ) {
+        enters::enter::<K>(self, pool, envelope, fields, numbers, messages);
     }
 
     fn pass_on<K: Start>(

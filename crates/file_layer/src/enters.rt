@@ -1,20 +1,19 @@
 //! Blocks that are entered.
 
-ghost use Rattle.std.specs.Prelude.{◌≡◌, ◌+◌, ◌≤◌, [], ◌++◌, None, length, OnOk, vec_capacity};
+ghost use Rattle.std.specs.Prelude.{◌≡◌, ◌+◌, ◌≤◌, [], ◌++◌, None, length, vec_capacity};
 ghost use Rattle.layer_mean.specs.Event.{arguments};
 ghost use Rattle.layer_desk.specs.Laid.{event_in, enters};
 ghost use Rattle.layer_desk.specs.Need.{entry_need};
-ghost use Rattle.layer_desk.specs.Spent.{Spent};
+ghost use Rattle.layer_desk.specs.Spent.{SpentAtMost, Suffices};
 ghost use Rattle.file_layer.specs.Entered.{entry_numbers, with_numbers, with_arrived, with_bare};
 ghost use Rattle.file_layer.specs.Fits.{most_bound, IsShortIf};
 ghost use Rattle.file_layer.specs.Ready.{stock_of, room_of, IsReady};
 ghost use Rattle.file_layer.specs.Stock.{laid};
 
-use crate::desk::{FileDesk, MOST_ABOVE, MOST_BOUND};
+use crate::desk::FileDesk;
 use crate::leaves::forget_messages;
-use crate::sends::arrived_headers;
 use layer_ast::Kind;
-use layer_desk::{Envelope, NoRoom, Start};
+use layer_desk::{Envelope, Start};
 use msg_core::Fields;
 use slot_pool::Pool;
 
@@ -112,25 +111,16 @@ pub(crate) fn enter<K: Start>(
     fields: &Fields,
     numbers: u8,
     messages: u8,
-) -> Result<(), NoRoom>
-    requires { IsReady K.begun pool.old desk.old }
+)
+    requires ready { IsReady K.begun pool.old desk.old }
+    requires room { Suffices (room_of pool.old desk.old) (entry_need K.begun.layout numbers messages (laid pool.old (stock_of desk.old)).arrived) }
     ensures ready { IsReady K.begun pool.new desk.new }
-    ensures shown { OnOk result (laid pool.new (stock_of desk.new) ≡ enters envelope fields.now numbers messages (laid pool.old (stock_of desk.old))) }
-    ensures spent { Spent (room_of pool.old desk.old) (room_of pool.new desk.new)
-        (entry_need K.begun.layout numbers messages (laid pool.old (stock_of desk.old)).arrived) result }
+    ensures shown { laid pool.new (stock_of desk.new) ≡ enters envelope fields.now numbers messages (laid pool.old (stock_of desk.old)) }
+    ensures spent { SpentAtMost (room_of pool.old desk.old) (room_of pool.new desk.new)
+        (entry_need K.begun.layout numbers messages (laid pool.old (stock_of desk.old)).arrived) }
 {
-    if desk.numbers.capacity() - MOST_BOUND < usize::from(numbers) {
-        return Err(NoRoom::Misfit);
-    }
-    if desk.tray.messages_places() - 1 < usize::from(messages) {
-        return Err(NoRoom::Misfit);
-    }
-    if arrived_headers(desk, pool) > MOST_ABOVE {
-        return Err(NoRoom::Headers);
-    }
     forget_messages::<K>(desk, pool);
     bind_numbers::<K>(desk, pool, envelope, fields, numbers);
     bind_arrived::<K>(desk, pool);
     bind_bare::<K>(desk, pool, messages);
-    Ok(())
 }

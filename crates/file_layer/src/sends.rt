@@ -231,7 +231,7 @@ pub(crate) fn pop_header<K: Start>(desk: &mut FileDesk, pool: &Pool, fields: &mu
 }
 
 /// How many headers the message has that arrived.
-pub(crate) fn arrived_headers(desk: &FileDesk, pool: &Pool) -> u32
+fn arrived_headers(desk: &FileDesk, pool: &Pool) -> u32
     ensures { result ≡ headers_of (seen_if pool.now desk.now.tray.arrived) }
 {
     match desk.tray.arrived() {

@@ -12,7 +12,7 @@ ghost use Rattle.layer_mean.specs.Effect.{sent_as};
 ghost use Rattle.typed_layer.specs.View.{carried_tree, taken_tree};
 ghost use Rattle.layer_desk.specs.Laid.{Laid, bound, assigned, assigned_square, lifted, changed, joined, queued, queued_first, is_found, taken_row, event_in, sends, sends_first, first_header, header_popped, enters, passes_on, left, said_tag, said_fields};
 ghost use Rattle.layer_desk.specs.Need.{Layout, Room, nothing_needed, one_slot, one_place, one_in_hand, held_need, room_need, taken_need, entry_need, passing_need};
-ghost use Rattle.layer_desk.specs.Spent.{Begun, SpentAtMost, Spent, Lifted};
+ghost use Rattle.layer_desk.specs.Spent.{Begun, SpentAtMost, Spent, Lifted, Suffices};
 
 use crate::envelope::Envelope;
 use crate::no_room::NoRoom;
@@ -309,7 +309,7 @@ pub trait Desk {
         ensures free { free pool.now self.new ≡ free pool.now self.old };
 
     /// Makes the scope in which a block is entered: the event's numbers, the fields of the popped header and the message that arrived, and
-    /// behind these so many numbers and messages more. A scope that was there is let go.
+    /// behind these so many numbers and messages more, for which there is room. A scope that was there is let go.
     fn enter<K: Start>(
         &mut self,
         pool: &mut Pool,
@@ -317,12 +317,13 @@ pub trait Desk {
         fields: &Fields,
         numbers: u8,
         messages: u8,
-    ) -> Result<(), NoRoom>
-        requires { ready K.begun pool.old self.old }
+    )
+        requires ready { ready K.begun pool.old self.old }
+        requires room { Suffices (free pool.old self.old) (entry_need K.begun.layout numbers messages (shown pool.old self.old).arrived) }
         ensures ready { ready K.begun pool.new self.new }
-        ensures shown { OnOk result (shown pool.new self.new ≡ enters envelope fields.now numbers messages (shown pool.old self.old)) }
-        ensures spent { Spent (free pool.old self.old) (free pool.new self.new)
-            (entry_need K.begun.layout numbers messages (shown pool.old self.old).arrived) result };
+        ensures shown { shown pool.new self.new ≡ enters envelope fields.now numbers messages (shown pool.old self.old) }
+        ensures spent { SpentAtMost (free pool.old self.old) (free pool.new self.new)
+            (entry_need K.begun.layout numbers messages (shown pool.old self.old).arrived) };
 
     /// Sends an event with the message that arrived, if one did, going down behind a header.
     fn pass_on<K: Start>(

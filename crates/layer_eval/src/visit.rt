@@ -54,7 +54,7 @@ pub fn take_event<D: Desk>(
     }
 }
 
-/// The same where room may be wanting.
+/// The same, with what is wanting where the block of a handler wants room.
 fn take_from<K: Start, D: Desk>(
     place: u8,
     layer: &TypedLayer,
@@ -63,7 +63,9 @@ fn take_from<K: Start, D: Desk>(
     desk: &mut D,
     pool: &mut Pool,
 ) -> Result<Predicted, NoRoom>
-    requires { D.ready K.begun pool.old desk.old }
+    requires ready { D.ready K.begun pool.old desk.old }
+    requires room { Suffices (D.free pool.old desk.old)
+        (needed K.begun.layout (layer_tree layer.now) direction envelope (D.shown pool.old desk.old)) }
     ensures ready { D.ready K.begun pool.new desk.new }
     ensures visited { IfOk result (Visits (visited place (layer_tree layer.now) direction envelope (D.shown pool.old desk.old))
         (D.shown pool.old desk.old) (D.shown pool.new desk.new)) }
@@ -95,7 +97,7 @@ fn meet<K: Start, D: Desk>(direction: Dir, desk: &mut D, pool: &Pool, fields: &m
     }
 }
 
-/// Enters a handler's block and runs it.
+/// Enters a handler's block, for which there is room, and runs it.
 #[tactic(auto, using(crate::proofs::Acts::both_turned))]
 fn run_handler<K: Start, D: Desk>(
     place: u8,
@@ -105,14 +107,16 @@ fn run_handler<K: Start, D: Desk>(
     desk: &mut D,
     pool: &mut Pool,
 ) -> Result<Predicted, NoRoom>
-    requires { D.ready K.begun pool.old desk.old }
+    requires ready { D.ready K.begun pool.old desk.old }
+    requires room { Suffices (D.free pool.old desk.old)
+        (handler_need K.begun.layout (handler_tree handler.now) (D.shown pool.old desk.old).arrived) }
     ensures ready { D.ready K.begun pool.new desk.new }
     ensures visited { IfOk result (Visits (handler_visited place (handler_tree handler.now) envelope fields.now (D.shown pool.old desk.old))
         (D.shown pool.old desk.old) (D.shown pool.new desk.new)) }
     ensures spent { Spent (D.free pool.old desk.old) (D.free pool.new desk.new)
         (handler_need K.begun.layout (handler_tree handler.now) (D.shown pool.old desk.old).arrived) result }
 {
-    desk.enter::<K>(pool, envelope, fields, handler.numbers, handler.messages)?;
+    desk.enter::<K>(pool, envelope, fields, handler.numbers, handler.messages);
     let mut predicted = expect::<K, D>(&handler.expected, desk, pool);
     let mut owed = Owed::nothing();
     run_last_block::<K, D>(place, &handler.block, &mut owed, desk, pool, &mut predicted)?;
