@@ -474,7 +474,7 @@ class Parser:
 def library():
     texts = {}
     top = os.path.dirname(os.path.dirname(os.path.abspath(__file__)))
-    for path in glob.glob(os.path.join(top, "crates", "layer_lib", "src", "*.rt")):
+    for path in glob.glob(os.path.join(top, "crates", "file_library", "src", "*.rt")):
         with open(path, encoding="utf-8") as file:
             for text in re.findall(r'b"(layer [^"]*)"', file.read()):
                 texts[text.split()[1]] = text.encode()

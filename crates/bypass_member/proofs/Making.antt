@@ -13,7 +13,7 @@ use Rattle.msg_core.specs.View.{member_count, rank}
 use Rattle.msg_core.specs.declared.packet.View.{View}
 use Rattle.run_mean.specs.Member.{inside}
 use Rattle.stack_mean.specs.Acceptance.{rows_of, most_rows}
-use Rattle.row_laws.specs.Room.{slots_beyond}
+use Rattle.pool_laws.specs.Room.{slots_beyond}
 use Rattle.slot_pool.proofs.Times.{times-append}
 use Rattle.layer_mean.specs.Tree.{LayerTree, no_layer}
 use Rattle.layer_mean.specs.State.{State}

@@ -32,7 +32,7 @@ use Rattle.view_core.specs.Refusals.{refusal_meant}
 use Rattle.view_core.specs.Steps.{changed}
 use Rattle.view_core.specs.declared.refusal.Refusal as refusal
 use Rattle.view_core.specs.declared.refusal.Refusal.TheVariants as reasons
-use Rattle.member_shown.specs.Shown.{member_in}
+use Rattle.member_reads.specs.Shown.{member_in}
 use Rattle.bypass_member.specs.Behind.{view_behind}
 use Rattle.bypass_member.specs.Placed.{Placed, here_in, step_in, step_at, step_of, member_after, SamePlace, Takes}
 use Rattle.bypass_member.specs.Stepping.{stack_of, plans_in, IsGround, step_over, HasTaken}

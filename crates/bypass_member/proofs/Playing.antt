@@ -46,10 +46,10 @@ use Rattle.stack_queue.specs.Pending.{task_seen}
 use Rattle.stack_queue.specs.Stages.{Stand}
 use Rattle.stack_queue.specs.declared.tasks.PoolTask.{PoolTask}
 use Rattle.stack_queue.proofs.Entries.{entries_fit}
-use Rattle.row_laws.specs.Room.{IsPoolFor}
-use Rattle.row_laws.proofs.Counts.{runs_keep_counts}
-use Rattle.row_laws.proofs.Room.{not_full}
-use Rattle.row_laws.proofs.Stages.{own_pool_is_made}
+use Rattle.pool_laws.specs.Room.{IsPoolFor}
+use Rattle.pool_laws.proofs.Counts.{runs_keep_counts}
+use Rattle.pool_laws.proofs.Room.{not_full}
+use Rattle.pool_laws.proofs.Stages.{own_pool_is_made}
 use Rattle.file_layer.specs.Layer.{place_of, tree_of, refs_of, IsInOrder, state_in}
 use Rattle.file_layer.specs.Staged.{layer_keeps}
 use Rattle.file_layer.specs.declared.layer.FileLayer.{FileLayer}

@@ -11,7 +11,7 @@ use Rattle.pool_message.specs.Seen.{body_refs, refs_if, event_refs}
 use Rattle.pool_message.specs.declared.event.PoolEvent.{PoolEvent}
 use Rattle.pool_message.specs.declared.message.PoolMessage.{PoolMessage}
 use Rattle.pool_message.specs.declared.part.Part.{Part}
-use Rattle.row_laws.specs.Room.{IsPoolFor}
+use Rattle.pool_laws.specs.Room.{IsPoolFor}
 
 -- an event has one reference at most
 body_few : (body : Option Part) → length (body_refs body) ≤ 1

@@ -16,7 +16,7 @@ use Rattle.step_outputs.specs.Gathered.{Gathered}
 use Rattle.view_core.specs.Steps.{changed}
 use Rattle.view_core.specs.declared.step.Change.{Change}
 use Rattle.view_core.specs.declared.step.Change.TheVariants.{Into, Out}
-use Rattle.member_shown.specs.Shown.{member_in}
+use Rattle.member_reads.specs.Shown.{member_in}
 use Rattle.bypass_member.specs.Behind.{view_behind}
 use Rattle.bypass_member.specs.Stepping.{stack_of, plans_in, in_full, IsGround, step_over, HasPlayed, HasTaken}
 use Rattle.bypass_member.specs.Viewing.{HasMembers, IsAt, Changes}

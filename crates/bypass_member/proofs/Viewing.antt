@@ -13,7 +13,7 @@ use Rattle.layer_mean.specs.Visit.{fresh}
 use Rattle.run_mean.specs.View.{next_view}
 use Rattle.run_mean.specs.Member.{inside, out, opened}
 use Rattle.chain_laws.proofs.Lists.{each_so}
-use Rattle.row_laws.proofs.Views.{views_shrink}
+use Rattle.pool_laws.proofs.Views.{views_shrink}
 use Rattle.bypass_member.specs.Viewing.{AreOf, HasMembers, Anew, ComesInto}
 use Rattle.bypass_member.specs.Working.{states_in, refs_in, IsReady}
 use Rattle.bypass_member.specs.declared.works.Works.{Works}

@@ -7,8 +7,8 @@ use Rattle.layer_ast.specs.contracts.tokens.Kind as kind
 use Rattle.layer_mean.specs.Tree.{LayerTree}
 use Rattle.stack_mean.specs.Plan.{Plan}
 use Rattle.run_mean.specs.Member.{Member}
-use Rattle.tree_codes.specs.Codes.{stack_code}
-use Rattle.member_shown.specs.Codes.{member_code}
+use Rattle.layer_mean.specs.Codes.{stack_code}
+use Rattle.member_reads.specs.Codes.{member_code}
 use Rattle.bypass_member.specs.Placed.{Placed}
 
 abbrev plan_code : Coded Plan

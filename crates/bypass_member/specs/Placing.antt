@@ -9,7 +9,7 @@ use Rattle.chain_laws.specs.Runs.{TypedStack}
 use Rattle.event_graph.specs.Answer.{stack_tree}
 use Rattle.packet_plans.specs.Trees.{plans_tree}
 use Rattle.entry_shapes.specs.Shapes.{short_shapes}
-use Rattle.member_shown.specs.Shown.{member_in}
+use Rattle.member_reads.specs.Shown.{member_in}
 use Rattle.bypass_member.specs.Placed.{Placed}
 use Rattle.bypass_member.specs.Viewing.{IsAt}
 use Rattle.bypass_member.specs.Working.{states_in, refs_in, IsReady}

@@ -16,7 +16,7 @@ use Rattle.layer_eval.specs.Did.{as_predicted}
 use Rattle.layer_eval.specs.declared.predicted.Predicted.{Predicted}
 use Rattle.step_outputs.specs.Gathered.{Gathered}
 use Rattle.view_core.specs.Steps.{changed}
-use Rattle.member_shown.specs.Shown.{member_in}
+use Rattle.member_reads.specs.Shown.{member_in}
 use Rattle.bypass_member.specs.Behind.{view_behind}
 use Rattle.bypass_member.specs.Viewing.{HasMembers, IsAt}
 use Rattle.bypass_member.specs.Working.{states_in, IsReady}

@@ -23,7 +23,7 @@ use Rattle.stack_queue.specs.Pending.{task_seen}
 use Rattle.stack_queue.specs.Stages.{Stand, most_at_first}
 use Rattle.stack_queue.specs.declared.tasks.PoolTask.{PoolTask}
 use Rattle.run_mean.specs.Member.{Output, output_of, most_turns}
-use Rattle.row_laws.specs.Room.{slots_beyond}
+use Rattle.pool_laws.specs.Room.{slots_beyond}
 use Rattle.file_layer.specs.Layer.{place_of, tree_of, refs_of, IsInOrder, state_in}
 use Rattle.bypass_member.specs.declared.works.Works.{Works}
 

@@ -10,7 +10,7 @@ use crate::works::Works;
 use entry_shapes::EntryShapes;
 use event_graph::Stack;
 use file_layer::Maker;
-use member_shown::Shown;
+use member_reads::Shown;
 use msg_core::{Headers, View};
 use packet_full::{Scan, member_count};
 use packet_mean::Here;

@@ -9,7 +9,7 @@ ghost use Rattle.bypass_member.specs.Working.{CanRun, HasRun};
 use crate::works::Works;
 use event_graph::Stack;
 use layer_eval::Predicted;
-use row_laws::accepted_is_light;
+use pool_laws::accepted_is_light;
 use stack_queue::{entries_fit, run};
 
 /// Runs the layers from the only task that is pending. What comes out is kept until it is gathered.

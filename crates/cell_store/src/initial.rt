@@ -4,8 +4,7 @@ ghost use Rattle.std.specs.Prelude.{◌≡◌};
 ghost use Rattle.typed_layer.specs.View.{expression_tree};
 ghost use Rattle.cell_store.specs.Fresh.{initial_value};
 
-use operators::{applied, applied_to};
-use typed_layer::Expression;
+use typed_layer::{Expression, applied, applied_to};
 
 /// What an initial expression is worth at the member of rank `me` of `count`. There are no cells and no scope yet, whose numbers and
 /// sizes are read as 0.

@@ -5,3 +5,4 @@ pub mod Values
 pub mod Statements
 pub mod Visits
 pub mod Runs
+pub mod Orderly

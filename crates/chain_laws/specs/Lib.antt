@@ -1,3 +1,4 @@
 pub mod Typed
 pub mod Visits
 pub mod Runs
+pub mod Orderly

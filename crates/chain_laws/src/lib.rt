@@ -1,8 +1,10 @@
-//! Laws of chained messages, each the contract of a function that does nothing: what keeps them chained.
+//! Laws of chained messages, each the contract of a function that does nothing: what keeps them chained, and that so kept they are
+//! what the laws of weights ask for.
 #![tactic(auto)]
 
 ghost use Rattle.chain_laws.specs.Runs.{ChainsAreShort, RunFromATask, RunsKeepChains, TurnsKeepChains};
 ghost use Rattle.chain_laws.specs.Visits.{FreshIsChained, VisitsKeepChains};
+ghost use Rattle.chain_laws.specs.Orderly.{ChainedIsKnown, TypedIsOrderly};
 
 /// A visit of a typed layer keeps states and messages chained.
 pub fn visits_keep_chains()
@@ -32,4 +34,14 @@ pub fn run_from_a_task()
 /// A message has at most one header for each layer.
 pub fn chains_are_short()
     ensures { ChainsAreShort }
+{}
+
+/// A typed stack sends only what its graph tells.
+pub fn typed_is_orderly()
+    ensures { TypedIsOrderly }
+{}
+
+/// A chained task is at one of the nodes of its stack.
+pub fn chained_is_known()
+    ensures { ChainedIsKnown }
 {}

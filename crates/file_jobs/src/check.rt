@@ -1,12 +1,12 @@
 //! The job `check`.
-#![tactic(auto, using(sink_lines::proofs::Gaining::begins_none))]
+#![tactic(auto, using(outside::proofs::Gaining::begins_none))]
 
 ghost use Rattle.std.specs.Prelude.{◌≡◌, [], ◌∷◌, codes, ◌++◌, length};
 ghost use Rattle.event_graph.specs.Answer.{stack_tree};
 ghost use Rattle.std.specs.Fmt.{decimal};
 ghost use Rattle.job_mean.specs.Job as job;
 ghost use Rattle.job_mean.specs.Status.{done};
-ghost use Rattle.sink_lines.specs.Tells.{tells_of};
+ghost use Rattle.outside.specs.Tells.{tells_of};
 ghost use Rattle.job_ends.specs.Comes.{Comes, Writes, around};
 ghost use Rattle.job_ends.specs.Shown.{shown};
 

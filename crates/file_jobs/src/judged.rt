@@ -5,11 +5,10 @@ ghost use Rattle.std.specs.String.{string_bytes};
 ghost use Rattle.job_mean.specs.Status.{breached, done};
 ghost use Rattle.job_ends.specs.Comes.{Writes};
 ghost use Rattle.job_ends.specs.Shown.{shown};
-ghost use Rattle.sink_lines.specs.Tells.{tells_of};
+ghost use Rattle.outside.specs.Tells.{tells_of};
 
 use job_ends::Ending;
-use outside::{Sink, SinkError};
-use sink_lines::put_line;
+use outside::{Sink, SinkError, put_line};
 
 /// The output of a job, and whether it is a breach of a law.
 #[derive(Drop)]

@@ -2,7 +2,7 @@
 use Rattle.std.proofs.Common.{ℕ, List, subst, sym}
 use Rattle.layer_mean.specs.Tree.{LayerTree}
 use Rattle.weight_laws.specs.Orderly.{IsOrderly}
-use Rattle.orderly_laws.proofs.Orderly.{typed_is_orderly}
+use Rattle.chain_laws.proofs.Orderly.{typed_is_orderly}
 use Rattle.file_mean.specs.Stack.{stack_of}
 use Rattle.file_laws.proofs.Texts.{texts_are_typed}
 use Rattle.file_judge.specs.Answer.{IsStackOf}

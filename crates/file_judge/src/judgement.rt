@@ -4,17 +4,17 @@ ghost use Rattle.std.specs.Prelude.{◌≡◌, ◌≤◌, length, Err};
 ghost use Rattle.layer_ast.specs.Spells.{longest_file};
 ghost use Rattle.layer_ast.specs.View.{file_tree};
 ghost use Rattle.file_mean.specs.Library.{IsFile};
-ghost use Rattle.layer_parse.specs.Answers.{Answers};
+ghost use Rattle.file_parse.specs.Answers.{Answers};
 ghost use Rattle.typed_layer.specs.Places.{typed_tree};
-ghost use Rattle.layer_names.specs.Answer.{resolved_tree};
+ghost use Rattle.file_names.specs.Answer.{resolved_tree};
 ghost use Rattle.file_judge.specs.Answer.{Judges, IsStackOf};
 
 use crate::error::FileError;
 use event_graph::{Stack, StackError, accept};
+use file_names::{NameError, Resolved, resolve};
+use file_parse::{ParseError, parse};
+use file_types::{TypeError, check};
 use layer_ast::File;
-use layer_names::{NameError, Resolved, resolve};
-use layer_parse::{ParseError, parse};
-use layer_typing::{TypeError, check};
 use std::alloc::Global;
 use typed_layer::Typed;
 

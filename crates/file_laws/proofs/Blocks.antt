@@ -4,13 +4,13 @@ use Rattle.std.specs.List.{AllByRecursion}
 use Rattle.layer_ast.specs.declared.names.Name.{Name}
 use Rattle.layer_ast.specs.declared.syntax.Sort.{Sort}
 use Rattle.layer_ast.specs.Tree as ast
-use Rattle.file_faults.specs.Declared.{names_in}
-use Rattle.file_faults.specs.ExpressionFaults.{arguments_faults}
-use Rattle.file_faults.specs.Forms.{row_of, queue_name}
-use Rattle.file_faults.specs.NameFaults.{uses_faults, twice_among, statement_name_faults}
-use Rattle.file_faults.specs.Scope.{Local, Scope, Standing, locals_as, visible, standing_in}
-use Rattle.file_faults.specs.TypeFaults.{row_type_faults, row_sorts, statement_type_faults}
-use Rattle.file_faults.specs.Uses.{arguments_in, statement_uses}
+use Rattle.fault_mean.specs.Declared.{names_in}
+use Rattle.fault_mean.specs.ExpressionFaults.{arguments_faults}
+use Rattle.fault_mean.specs.Forms.{row_of, queue_name}
+use Rattle.fault_mean.specs.NameFaults.{uses_faults, twice_among, statement_name_faults}
+use Rattle.fault_mean.specs.Scope.{Local, Scope, Standing, locals_as, visible, standing_in}
+use Rattle.fault_mean.specs.TypeFaults.{row_type_faults, row_sorts, statement_type_faults}
+use Rattle.fault_mean.specs.Uses.{arguments_in, statement_uses}
 use Rattle.file_mean.specs.Names.{Names, with_numbers}
 use Rattle.file_mean.specs.Statements.{with_taken, after_block, behind, behind_all, statements_of}
 use Rattle.file_mean.specs.Layers.{layer_of}

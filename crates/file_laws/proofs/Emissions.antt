@@ -16,16 +16,16 @@ use Rattle.layer_ast.specs.Tree as ast
 use Rattle.layer_mean.specs.Event.{carries}
 use Rattle.layer_mean.specs.Headers.{declared}
 use Rattle.layer_mean.specs.Tree.{Carried, part, whole}
-use Rattle.file_faults.specs.Declared.{is_header}
-use Rattle.file_faults.specs.Earliest.{unless}
-use Rattle.file_faults.specs.Faults.{kind, arity, direction, header}
-use Rattle.file_faults.specs.Forms.{declared_as, is_end, items_of, fields_of, queue_name}
-use Rattle.file_faults.specs.Kinds.{allows, a_number, a_message, arguments_of}
-use Rattle.file_faults.specs.Scope.{Local, Scope}
-use Rattle.file_faults.specs.Sorts.{argument_sort}
-use Rattle.file_faults.specs.Uses.{arguments_in}
-use Rattle.file_faults.specs.ExpressionFaults.{queue_faults, argument_faults, arguments_faults}
-use Rattle.file_faults.specs.TypeFaults.{pushes, suits, with_faults, pushed_faults, ends_with, sent_sort, emission_faults, row_type_faults, row_sorts}
+use Rattle.fault_mean.specs.Declared.{is_header}
+use Rattle.fault_mean.specs.Earliest.{unless}
+use Rattle.fault_mean.specs.Faults.{kind, arity, direction, header}
+use Rattle.fault_mean.specs.Forms.{declared_as, is_end, items_of, fields_of, queue_name}
+use Rattle.fault_mean.specs.Kinds.{allows, a_number, a_message, arguments_of}
+use Rattle.fault_mean.specs.Scope.{Local, Scope}
+use Rattle.fault_mean.specs.Sorts.{argument_sort}
+use Rattle.fault_mean.specs.Uses.{arguments_in}
+use Rattle.fault_mean.specs.ExpressionFaults.{queue_faults, argument_faults, arguments_faults}
+use Rattle.fault_mean.specs.TypeFaults.{pushes, suits, with_faults, pushed_faults, ends_with, sent_sort, emission_faults, row_type_faults, row_sorts}
 use Rattle.file_mean.specs.Names.{Names, capacity_declared, capacity_of, carried_in, message_among, numbers_among, tag_of}
 use Rattle.file_mean.specs.Values.{queue_row, queue_carries, queue_cell, argument_number, argument_message}
 use Rattle.file_mean.specs.Statements.{pushed_tag, pushed_fields, emission_of, pushed_row}

@@ -9,12 +9,12 @@ use Rattle.layer_ast.specs.declared.names.At.{At}
 use Rattle.layer_ast.specs.Tree as ast
 use Rattle.layer_mean.specs.Tree.{LayerTree}
 use Rattle.layer_mean.specs.Visit.{none_header}
-use Rattle.file_faults.specs.Faults.{unknown, of_names, of_types, name_key, type_key, name_fault_at, type_fault_at, too_many}
-use Rattle.file_faults.specs.FileFault.{file_fault}
-use Rattle.file_faults.specs.NameFaults.{twice_among, too_many_of, layer_name_faults, place_faults, name_faults, name_fault, place_faults_in}
-use Rattle.file_faults.specs.Places.{layer_among, layer_at, written, called, called_at, judged_layers, faults_of_judged, faults_of_layers, param_value}
-use Rattle.file_faults.specs.TypeFaults.{layer_type_faults, type_fault}
-use Rattle.file_faults.proofs.Earliest as earliest
+use Rattle.fault_mean.specs.Faults.{unknown, of_names, of_types, name_key, type_key, name_fault_at, type_fault_at, too_many}
+use Rattle.fault_mean.specs.FileFault.{file_fault}
+use Rattle.fault_mean.specs.NameFaults.{twice_among, too_many_of, layer_name_faults, place_faults, name_faults, name_fault, place_faults_in}
+use Rattle.fault_mean.specs.Places.{layer_among, layer_at, written, called, called_at, judged_layers, faults_of_judged, faults_of_layers, param_value}
+use Rattle.fault_mean.specs.TypeFaults.{layer_type_faults, type_fault}
+use Rattle.fault_mean.proofs.Earliest as earliest
 use Rattle.file_mean.specs.Names.{Placed}
 use Rattle.file_mean.specs.Stack.{blank_above, placed_layer, stack_of}
 use Rattle.chain_laws.specs.Typed.{TypedLayer}
@@ -23,10 +23,10 @@ use Rattle.chain_laws.proofs.Lists.{Where, each_so, where_is}
 use Rattle.file_laws.specs.Literals.{LiteralLayer, LiteralPlace, LiteralFile}
 use Rattle.file_laws.specs.Files.{FilesAreTyped}
 use Rattle.file_laws.proofs.Lists.{nils, each_nil, map_nil, each_parts, find_where, unless_nil}
-use Rattle.file_faults.specs.Limits.{LimitedSize, is_within, is_within_at, sizes_in}
-use Rattle.file_faults.specs.Earliest.{unless}
-use Rattle.file_faults.specs.Declared.{is_param}
-use Rattle.file_faults.specs.Forms.{declared_as}
+use Rattle.fault_mean.specs.Limits.{LimitedSize, is_within, is_within_at, sizes_in}
+use Rattle.fault_mean.specs.Earliest.{unless}
+use Rattle.fault_mean.specs.Declared.{is_param}
+use Rattle.fault_mean.specs.Forms.{declared_as}
 use Rattle.file_laws.specs.Named.{NamedStack, FilesAreNamed}
 use Rattle.file_laws.proofs.Handlers.{layer_typed}
 use Rattle.file_laws.proofs.NamedLayers.{layer_named, given_within}

@@ -8,7 +8,7 @@ use Rattle.layer_ast.specs.declared.names.Name.{Name}
 use Rattle.layer_ast.specs.declared.names.Word.{Word}
 use Rattle.layer_ast.specs.declared.syntax.Sort.{Sort}
 use Rattle.layer_ast.specs.declared.syntax.Sort.TheVariants.{Int, Msg, Part}
-use Rattle.file_faults.specs.Scope.{Local, locals_as}
+use Rattle.fault_mean.specs.Scope.{Local, locals_as}
 use Rattle.file_mean.specs.Names.{Names, in_slots, numbers_among, with_numbers}
 use Rattle.chain_laws.proofs.Lists.{each_append, each_so}
 

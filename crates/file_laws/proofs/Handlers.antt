@@ -17,16 +17,16 @@ use Rattle.layer_ast.specs.Tree as ast
 use Rattle.layer_mean.specs.Event.{carries}
 use Rattle.layer_mean.specs.Tree.{CellTree}
 use Rattle.layer_mean.specs.Visit.{with_room}
-use Rattle.file_faults.specs.Declared.{is_header, declares, declaration_of, names_in, declared_name, is_cell, is_param}
-use Rattle.file_faults.specs.Earliest.{unless}
-use Rattle.file_faults.specs.Faults.{arity, direction, kind, twice, too_many}
-use Rattle.file_faults.specs.Forms.{declared_as, is_end, items_of, labels_of, fields_of}
-use Rattle.file_faults.specs.Kinds.{allows, arguments_of}
-use Rattle.file_faults.specs.Limits.{capacity_in, messages_inside, numbers_beyond}
-use Rattle.file_faults.specs.NameFaults as naming
-use Rattle.file_faults.specs.Scope.{Local, Standing, layer_scope, visible, locals_as, popped_names, sort_behind, head_names, argument_sorts, head_scope, handler_statements, handler_names as all_names}
-use Rattle.file_faults.specs.Uses as using
-use Rattle.file_faults.specs.TypeFaults.{pushes, with_faults, statement_type_faults, expected_type_faults, takes_off, handler_type_faults, declaration_type_faults, layer_type_faults}
+use Rattle.fault_mean.specs.Declared.{is_header, declares, declaration_of, names_in, declared_name, is_cell, is_param}
+use Rattle.fault_mean.specs.Earliest.{unless}
+use Rattle.fault_mean.specs.Faults.{arity, direction, kind, twice, too_many}
+use Rattle.fault_mean.specs.Forms.{declared_as, is_end, items_of, labels_of, fields_of}
+use Rattle.fault_mean.specs.Kinds.{allows, arguments_of}
+use Rattle.fault_mean.specs.Limits.{capacity_in, messages_inside, numbers_beyond}
+use Rattle.fault_mean.specs.NameFaults as naming
+use Rattle.fault_mean.specs.Scope.{Local, Standing, layer_scope, visible, locals_as, popped_names, sort_behind, head_names, argument_sorts, head_scope, handler_statements, handler_names as all_names}
+use Rattle.fault_mean.specs.Uses as using
+use Rattle.fault_mean.specs.TypeFaults.{pushes, with_faults, statement_type_faults, expected_type_faults, takes_off, handler_type_faults, declaration_type_faults, layer_type_faults}
 use Rattle.file_mean.specs.Names.{Placed, own_names, tag_of}
 use Rattle.file_mean.specs.Statements.{behind_all, statements_of}
 use Rattle.file_mean.specs.Layers.{popped_tag, handler_names, handler_of, cell_in, layer_of}

@@ -14,3 +14,7 @@ pub mod NamedValues
 pub mod NamedBlocks
 pub mod NamedLayers
 pub mod SmallFiles
+pub mod HeldCounts
+pub mod HeldBlocks
+pub mod HeldLayers
+pub mod HeldHeaders

@@ -3,7 +3,7 @@ use Rattle.std.proofs.Common.{◌≡◌, ◌∙◌, ℕ, suc, ◌+◌, ◌<◌, 
 use Rattle.std.specs.Prelude.{flat_map, is_some, if◌then◌else◌, slice_get, zip, option_map}
 use Rattle.std.specs.List.{AllByRecursion, AllZip, cons_option, filter, filter_map, find, last_or, position, position_or_len}
 use Rattle.std.proofs.lemmas.Bool.{lt-ltb}
-use Rattle.file_faults.specs.Earliest.{unless}
+use Rattle.fault_mean.specs.Earliest.{unless}
 use Rattle.chain_laws.proofs.Lists.{Where}
 
 pub nils : {A : Type 0} (xs ys : List A) → xs ++ ys ≡ [] → (xs ≡ []) × (ys ≡ [])

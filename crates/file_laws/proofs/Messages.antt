@@ -12,14 +12,14 @@ use Rattle.layer_ast.specs.declared.syntax.Sort.{Sort}
 use Rattle.layer_ast.specs.declared.syntax.Sort.TheVariants.{Int, Msg, Part}
 use Rattle.layer_ast.specs.Tree as ast
 use Rattle.layer_mean.specs.Tree.{Carried, part, whole}
-use Rattle.file_faults.specs.Earliest.{unless}
-use Rattle.file_faults.specs.Faults.{kind}
-use Rattle.file_faults.specs.Forms.{declared_as, is_queue, is_queue_array, items_of, row_of, queue_name}
-use Rattle.file_faults.specs.Kinds.{allows, a_number, a_message, a_msg, a_part}
-use Rattle.file_faults.specs.Limits.{messages_inside}
-use Rattle.file_faults.specs.Scope.{Local, Scope}
-use Rattle.file_faults.specs.Sorts.{is_number, name_sort, held_sort, built_sort, message_sort, argument_sort, expression_at, argument_at, message_at}
-use Rattle.file_faults.specs.ExpressionFaults.{may_be, must_be, number_faults, queue_faults, message_faults, built_faults, argument_faults}
+use Rattle.fault_mean.specs.Earliest.{unless}
+use Rattle.fault_mean.specs.Faults.{kind}
+use Rattle.fault_mean.specs.Forms.{declared_as, is_queue, is_queue_array, items_of, row_of, queue_name}
+use Rattle.fault_mean.specs.Kinds.{allows, a_number, a_message, a_msg, a_part}
+use Rattle.fault_mean.specs.Limits.{messages_inside}
+use Rattle.fault_mean.specs.Scope.{Local, Scope}
+use Rattle.fault_mean.specs.Sorts.{is_number, name_sort, held_sort, built_sort, message_sort, argument_sort, expression_at, argument_at, message_at}
+use Rattle.fault_mean.specs.ExpressionFaults.{may_be, must_be, number_faults, queue_faults, message_faults, built_faults, argument_faults}
 use Rattle.file_mean.specs.Names.{Placed, Names, capacity_declared, carried_as, carried_in, message_slot}
 use Rattle.file_mean.specs.Values.{queue_row, queue_cell, message_of, built_of, argument_message}
 use Rattle.file_mean.specs.Layers.{row_items, layer_of}

@@ -14,14 +14,14 @@ use Rattle.layer_ast.specs.declared.tokens.Kind.{Kind}
 use Rattle.layer_ast.specs.declared.tokens.Kind.TheVariants as kinds
 use Rattle.layer_ast.specs.Tree as ast
 use Rattle.layer_mean.specs.Event.{carries}
-use Rattle.file_faults.specs.Earliest.{unless}
-use Rattle.file_faults.specs.Faults.{arity, header}
-use Rattle.file_faults.specs.Kinds.{allows, a_number, a_message, arguments_of}
-use Rattle.file_faults.specs.Limits.{messages_inside}
-use Rattle.file_faults.specs.Scope.{Local, Scope}
-use Rattle.file_faults.specs.Uses.{arguments_in}
-use Rattle.file_faults.specs.ExpressionFaults.{argument_faults, arguments_faults}
-use Rattle.file_faults.specs.TypeFaults.{pushes, suits, ends_with, sent_sort, with_faults, pushed_faults, emission_faults, row_sorts}
+use Rattle.fault_mean.specs.Earliest.{unless}
+use Rattle.fault_mean.specs.Faults.{arity, header}
+use Rattle.fault_mean.specs.Kinds.{allows, a_number, a_message, arguments_of}
+use Rattle.fault_mean.specs.Limits.{messages_inside}
+use Rattle.fault_mean.specs.Scope.{Local, Scope}
+use Rattle.fault_mean.specs.Uses.{arguments_in}
+use Rattle.fault_mean.specs.ExpressionFaults.{argument_faults, arguments_faults}
+use Rattle.fault_mean.specs.TypeFaults.{pushes, suits, ends_with, sent_sort, with_faults, pushed_faults, emission_faults, row_sorts}
 use Rattle.file_mean.specs.Names.{Names, Placed, carried_as, carried_in, numbers_among, message_among}
 use Rattle.file_mean.specs.Values.{queue_row, queue_carries, argument_number, argument_message}
 use Rattle.file_mean.specs.Statements.{pushed_tag, pushed_fields, emission_of, pushed_row}

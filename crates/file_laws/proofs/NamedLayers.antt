@@ -16,24 +16,24 @@ use Rattle.layer_ast.specs.Tree as ast
 use Rattle.layer_mean.specs.Event.{carries}
 use Rattle.layer_mean.specs.Headers.{declared}
 use Rattle.layer_mean.specs.Tree.{CellTree, no_layer}
-use Rattle.file_faults.specs.Declared.{declaration_of, is_header, is_param, names_in, declared_name, is_cell}
-use Rattle.file_faults.specs.Earliest.{unless}
-use Rattle.file_faults.specs.Faults.{kind, arity, direction, initial, twice, too_many}
-use Rattle.file_faults.specs.Forms.{declared_as, is_numbers, is_end, fields_of, queue_name, items_of, labels_of}
-use Rattle.file_faults.specs.Kinds.{allows, arguments_of}
-use Rattle.file_faults.specs.NameFaults as naming
-use Rattle.file_faults.specs.Scope.{Local, Scope, Standing, layer_scope, locals_as, popped_names, sort_behind, argument_sorts, head_scope, handler_statements, standing_in, visible, brought as brought_by, head_names, handler_names as all_names, layer_statements}
-use Rattle.file_faults.specs.Sorts.{is_initial, expression_at, size_at}
-use Rattle.file_faults.specs.Uses.{arguments_in, of_name, statement_uses}
-use Rattle.file_faults.specs.ExpressionFaults.{number_faults, queue_faults, arguments_faults}
-use Rattle.file_faults.specs.TypeFaults.{with_faults, row_type_faults, row_sorts, size_type_faults, statement_type_faults, expected_type_faults, takes_off, handler_type_faults, declaration_type_faults, layer_type_faults}
+use Rattle.fault_mean.specs.Declared.{declaration_of, is_header, is_param, names_in, declared_name, is_cell}
+use Rattle.fault_mean.specs.Earliest.{unless}
+use Rattle.fault_mean.specs.Faults.{kind, arity, direction, initial, twice, too_many}
+use Rattle.fault_mean.specs.Forms.{declared_as, is_numbers, is_end, fields_of, queue_name, items_of, labels_of}
+use Rattle.fault_mean.specs.Kinds.{allows, arguments_of}
+use Rattle.fault_mean.specs.NameFaults as naming
+use Rattle.fault_mean.specs.Scope.{Local, Scope, Standing, layer_scope, locals_as, popped_names, sort_behind, argument_sorts, head_scope, handler_statements, standing_in, visible, brought as brought_by, head_names, handler_names as all_names, layer_statements}
+use Rattle.fault_mean.specs.Sorts.{is_initial, expression_at, size_at}
+use Rattle.fault_mean.specs.Uses.{arguments_in, of_name, statement_uses}
+use Rattle.fault_mean.specs.ExpressionFaults.{number_faults, queue_faults, arguments_faults}
+use Rattle.fault_mean.specs.TypeFaults.{with_faults, row_type_faults, row_sorts, size_type_faults, statement_type_faults, expected_type_faults, takes_off, handler_type_faults, declaration_type_faults, layer_type_faults}
 use Rattle.file_mean.specs.Names.{Names, Placed, own_names, in_slots, numbers_among, with_numbers, size_value}
 use Rattle.file_mean.specs.Values.{queue_row, queue_carries, number_of}
 use Rattle.file_mean.specs.Statements.{with_taken, after_block, behind, behind_all, statements_of}
 use Rattle.file_mean.specs.Layers.{popped_tag, expected_of, handler_names, handler_of, cell_in, layer_of}
 use Rattle.layer_ast.specs.declared.names.At.{At}
-use Rattle.file_faults.specs.Limits.{LimitedSize, capacity_in, is_within, maximum_in, number_outside, sizes_in}
-use Rattle.file_faults.specs.Places.{param_value}
+use Rattle.fault_mean.specs.Limits.{LimitedSize, capacity_in, is_within, maximum_in, number_outside, sizes_in}
+use Rattle.fault_mean.specs.Places.{param_value}
 use Rattle.file_laws.specs.Named.{Named, NamedAll, NamedExpected, brought, slots_of, NamedHandler, NamedForm, NamedLayer, IsSize}
 use Rattle.file_laws.proofs.Lists.{nils, each_nil, each_parts, unless_nil, filter_map_each, each_both, map_nil}
 use Rattle.file_laws.proofs.Own.{declares_it, headed}

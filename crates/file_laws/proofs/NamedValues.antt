@@ -18,15 +18,15 @@ use Rattle.layer_ast.specs.declared.syntax.Sort.{Sort}
 use Rattle.layer_ast.specs.declared.syntax.Sort.TheVariants.{Int, Msg, Part}
 use Rattle.layer_ast.specs.Tree as ast
 use Rattle.layer_mean.specs.Tree.{number, local, element, Form, CellTree}
-use Rattle.file_faults.specs.Declared.{declaration_of, is_cell, is_param}
-use Rattle.file_faults.specs.Earliest.{unless}
-use Rattle.file_faults.specs.Faults.{kind}
-use Rattle.file_faults.specs.Forms.{declared_as, is_numbers, is_queue, is_queue_array, row_of}
-use Rattle.file_faults.specs.Kinds.{allows, a_number, a_msg, a_part}
-use Rattle.file_faults.specs.Places.{param_value}
-use Rattle.file_faults.specs.Scope.{Local, Scope}
-use Rattle.file_faults.specs.Sorts.{is_number, name_sort, held_sort, message_sort, message_at, argument_sort, argument_at, expression_at}
-use Rattle.file_faults.specs.ExpressionFaults.{may_be, must_be, reads_number, number_faults, queue_faults, message_faults, built_faults, argument_faults}
+use Rattle.fault_mean.specs.Declared.{declaration_of, is_cell, is_param}
+use Rattle.fault_mean.specs.Earliest.{unless}
+use Rattle.fault_mean.specs.Faults.{kind}
+use Rattle.fault_mean.specs.Forms.{declared_as, is_numbers, is_queue, is_queue_array, row_of}
+use Rattle.fault_mean.specs.Kinds.{allows, a_number, a_msg, a_part}
+use Rattle.fault_mean.specs.Places.{param_value}
+use Rattle.fault_mean.specs.Scope.{Local, Scope}
+use Rattle.fault_mean.specs.Sorts.{is_number, name_sort, held_sort, message_sort, message_at, argument_sort, argument_at, expression_at}
+use Rattle.fault_mean.specs.ExpressionFaults.{may_be, must_be, reads_number, number_faults, queue_faults, message_faults, built_faults, argument_faults}
 use Rattle.file_mean.specs.Names.{Names, Placed, cell_of, carried_as, carried_in, numbers_among, number_slot}
 use Rattle.file_mean.specs.Values.{named_number, queue_row, queue_cell, number_of, queue_index, message_of, built_of, argument_number, argument_message}
 use Rattle.file_mean.specs.Layers.{row_items, cell_in, layer_of}

@@ -8,8 +8,8 @@ use Rattle.layer_ast.specs.declared.names.Word.{Word}
 use Rattle.layer_ast.specs.Tree as ast
 use Rattle.layer_mean.specs.Headers.{declared}
 use Rattle.layer_mean.specs.Tree.{CellTree, HeaderTree}
-use Rattle.file_faults.specs.Declared.{declares, declaration_of, is_cell, is_header, cells_of, headers_of}
-use Rattle.file_faults.specs.Forms.{declared_as, is_queue, is_queue_array, is_end, items_of, fields_of}
+use Rattle.fault_mean.specs.Declared.{declares, declaration_of, is_cell, is_header, cells_of, headers_of}
+use Rattle.fault_mean.specs.Forms.{declared_as, is_queue, is_queue_array, is_end, items_of, fields_of}
 use Rattle.file_mean.specs.Names.{Placed, cell_of, tag_of, capacity_declared}
 use Rattle.file_mean.specs.Layers.{row_items, cell_in, header_in, layer_of}
 use Rattle.chain_laws.specs.Typed.{queue_at}

@@ -8,7 +8,7 @@ use Rattle.layer_ast.specs.declared.names.Name.{Name}
 use Rattle.layer_ast.specs.declared.names.Word.{Word}
 use Rattle.layer_ast.specs.declared.syntax.Sort.{Sort}
 use Rattle.layer_ast.specs.declared.syntax.Sort.TheVariants.{Int, Msg, Part}
-use Rattle.file_faults.specs.Scope.{Local, locals_as}
+use Rattle.fault_mean.specs.Scope.{Local, locals_as}
 use Rattle.file_laws.proofs.Messages.{sort_among, slot_among, Slot, Agree}
 
 -- further locals are looked at behind the others

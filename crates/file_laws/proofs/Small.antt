@@ -7,8 +7,8 @@ use Rattle.layer_ast.specs.declared.names.Word.{Word}
 use Rattle.layer_ast.specs.Tree as ast
 use Rattle.layer_mean.specs.Tree.{local, number, element}
 use Rattle.packet_mean.specs.ChainedState.{IsNumber}
-use Rattle.file_faults.specs.Declared.{declares, declaration_of}
-use Rattle.file_faults.specs.Places.{declared_value, given_value, param_value}
+use Rattle.fault_mean.specs.Declared.{declares, declaration_of}
+use Rattle.fault_mean.specs.Places.{declared_value, given_value, param_value}
 use Rattle.file_mean.specs.Names.{Placed, Names, cell_of, size_value, numbers_among, number_slot}
 use Rattle.file_mean.specs.Values.{number_of, argument_number}
 use Rattle.chain_laws.specs.Typed.{Small}

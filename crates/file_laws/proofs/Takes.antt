@@ -12,16 +12,16 @@ use Rattle.layer_ast.specs.declared.syntax.Sort.{Sort}
 use Rattle.layer_ast.specs.declared.syntax.Sort.TheVariants.{Int, Msg, Part}
 use Rattle.layer_ast.specs.Tree as ast
 use Rattle.layer_mean.specs.Tree.{Carried}
-use Rattle.file_faults.specs.Declared.{declared_name}
-use Rattle.file_faults.specs.Earliest.{unless}
-use Rattle.file_faults.specs.Faults.{arity, twice}
-use Rattle.file_faults.specs.Forms.{queue_name}
-use Rattle.file_faults.specs.Kinds.{allows, a_number, a_message}
-use Rattle.file_faults.specs.Limits.{messages_inside}
-use Rattle.file_faults.specs.NameFaults.{repeated, same_word, twice_among}
-use Rattle.file_faults.specs.Scope.{Local, Scope, locals_as, visible}
-use Rattle.file_faults.specs.ExpressionFaults.{queue_faults}
-use Rattle.file_faults.specs.TypeFaults.{row_type_faults}
+use Rattle.fault_mean.specs.Declared.{declared_name}
+use Rattle.fault_mean.specs.Earliest.{unless}
+use Rattle.fault_mean.specs.Faults.{arity, twice}
+use Rattle.fault_mean.specs.Forms.{queue_name}
+use Rattle.fault_mean.specs.Kinds.{allows, a_number, a_message}
+use Rattle.fault_mean.specs.Limits.{messages_inside}
+use Rattle.fault_mean.specs.NameFaults.{repeated, same_word, twice_among}
+use Rattle.fault_mean.specs.Scope.{Local, Scope, locals_as, visible}
+use Rattle.fault_mean.specs.ExpressionFaults.{queue_faults}
+use Rattle.fault_mean.specs.TypeFaults.{row_type_faults}
 use Rattle.file_mean.specs.Names.{Placed, Names, carried_as, carried_in}
 use Rattle.file_mean.specs.Values.{queue_row, queue_carries, queue_cell}
 use Rattle.file_mean.specs.Statements.{with_taken, taken_row}

@@ -24,8 +24,8 @@ use Rattle.layer_ast.specs.Spells.{Fits}
 use Rattle.layer_ast.specs.Tree as tree
 use Rattle.layer_ast.specs.Tree.{ExpressionTree, QueueTree, MessageTree, BuiltTree, ArgumentTree, NamesTree, ArgumentsTree, PoppedTree, PushedTree, SizeTree, StatementTree, StatementTrees, Expected, HandlerTree, ItemTree, ItemsTree, DeclarationTree, LayerTree, GivenTree, PlaceTree, FileTree}
 use Rattle.packet_mean.specs.ChainedState.{IsNumber}
-use Rattle.file_faults.specs.Scope.{Scope, Standing, head_scope, scope_behind, taken_scope, with_locals, locals_as, standing_inside, standing_in}
-use Rattle.file_faults.specs.Uses.{arguments_in}
+use Rattle.fault_mean.specs.Scope.{Scope, Standing, head_scope, scope_behind, taken_scope, with_locals, locals_as, standing_inside, standing_in}
+use Rattle.fault_mean.specs.Uses.{arguments_in}
 use Rattle.file_mean.specs.Library.{SpellsLayer}
 use Rattle.chain_laws.proofs.Lists.{each_append}
 use Rattle.file_laws.specs.Literals.{Literal, LiteralQueue, LiteralMessage, LiteralBuilt, LiteralArgument, LiteralSize, LiteralOption, LiteralPushed, LiteralStatement, LiteralExpected, LiteralHandler, LiteralDeclaration, LiteralLayer, LiteralPlace}

@@ -1,7 +1,7 @@
 -- Files without faults mean typed stacks.
 use Rattle.std.specs.Prelude.{◌≡◌, None}
 use Rattle.layer_ast.specs.Tree.{FileTree}
-use Rattle.file_faults.specs.FileFault.{file_fault}
+use Rattle.fault_mean.specs.FileFault.{file_fault}
 use Rattle.file_mean.specs.Stack.{stack_of}
 use Rattle.chain_laws.specs.Runs.{TypedStack}
 use Rattle.file_laws.specs.Literals.{LiteralFile}

@@ -3,8 +3,8 @@ use Rattle.std.specs.Prelude.{Option, Some, None}
 use Rattle.std.specs.List.{AllByRecursion}
 use Rattle.layer_ast.specs.Tree.{ExpressionTree, number, element, square, rows, item, size, binary, apply, pick, QueueTree, queue, queue_at, MessageTree, bare, built, BuiltTree, nothing, held, cut, tail, join, ArgumentTree, value, content, SizeTree, fixed, sized, StatementTree, bind, set, set_square, push, take, when, choose, each, emit, Expected, common, HandlerTree, DeclarationTree, param, int, rows_cell, rows_array, LayerTree, PlaceTree, FileTree, PushedTree}
 use Rattle.packet_mean.specs.ChainedState.{IsNumber}
-use Rattle.file_faults.specs.Scope.{handler_statements}
-use Rattle.file_faults.specs.Uses.{arguments_in}
+use Rattle.fault_mean.specs.Scope.{handler_statements}
+use Rattle.fault_mean.specs.Uses.{arguments_in}
 
 abbrev mutual
   -- The numbers that are written in an expression, the mention of a queue, a message.

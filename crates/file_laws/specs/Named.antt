@@ -10,10 +10,10 @@ use Rattle.layer_ast.specs.declared.tokens.Kind.TheVariants.{Stable, Ack}
 use Rattle.layer_ast.specs.Tree.{FileTree}
 use Rattle.layer_mean.specs.Headers.{declared}
 use Rattle.layer_mean.specs.Tree.{ExpressionTree, number, local, element, square, rows, item, size, binary, apply, pick, MessageTree, held, cut, tail, join, ContentTree, ItemsTree, Form, numbers, queue, queues, StatementTree, bind, assign, assign_square, push, take, branch, each, emit, StatementTrees, none, more, Expected, common, HandlerTree, LayerTree, no_layer}
-use Rattle.file_faults.specs.FileFault.{file_fault}
+use Rattle.fault_mean.specs.FileFault.{file_fault}
 use Rattle.file_mean.specs.Library.{IsFile}
 use Rattle.file_mean.specs.Stack.{stack_of}
-use Rattle.file_faults.specs.Limits.{longest_loop, largest_capacity}
+use Rattle.fault_mean.specs.Limits.{longest_loop, largest_capacity}
 
 -- What a cell is of a form: numbers of a shape, a queue that is alone, queues of an array.
 abbrev pub shape_in : Form → Option Shape

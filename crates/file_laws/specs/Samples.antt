@@ -7,7 +7,7 @@ use Rattle.layer_mean.specs.declared.run.Event.{Event}
 use Rattle.layer_mean.specs.Event.{event_of}
 use Rattle.layer_mean.specs.Visit.{fresh}
 use Rattle.layer_mean.specs.Queue.{Task, run}
-use Rattle.file_faults.specs.FileFault.{file_fault}
+use Rattle.fault_mean.specs.FileFault.{file_fault}
 use Rattle.file_mean.specs.CounterFile as counter
 use Rattle.file_mean.specs.QueuesFile as queues
 use Rattle.chain_laws.specs.Runs.{TypedStack, IsChainedTask, IsChainedLine}

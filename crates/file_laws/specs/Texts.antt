@@ -1,7 +1,7 @@
 -- The numbers that a text writes are below 2^32, so a text that is a file without faults means a typed stack.
 use Rattle.std.specs.Prelude.{◌≡◌, ℕ, List, None}
 use Rattle.layer_ast.specs.Tree.{FileTree}
-use Rattle.file_faults.specs.FileFault.{file_fault}
+use Rattle.fault_mean.specs.FileFault.{file_fault}
 use Rattle.file_mean.specs.Library.{IsFile}
 use Rattle.file_mean.specs.Stack.{stack_of}
 use Rattle.chain_laws.specs.Runs.{TypedStack}

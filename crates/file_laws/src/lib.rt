@@ -1,4 +1,5 @@
-//! Laws of files without faults, each the contract of a function that does nothing.
+//! Laws of files without faults, each the contract of a function that does nothing: they mean typed stacks, of layers within the bounds
+//! of what members keep.
 #![tactic(auto)]
 
 pub mod samples;
@@ -6,6 +7,8 @@ pub mod samples;
 ghost use Rattle.file_laws.specs.Files.{FilesAreTyped};
 ghost use Rattle.file_laws.specs.Named.{FilesAreNamed, TextsAreNamed};
 ghost use Rattle.file_laws.specs.Texts.{TextsAreLiteral, TextsAreTyped};
+ghost use Rattle.file_laws.specs.Bounds.{FilesAreHeld};
+ghost use Rattle.file_laws.specs.Headers.{StacksHaveFewHeaders, TypedHaveFewHeaders};
 
 /// A file with no fault of names or types means a typed stack.
 pub fn files_are_typed()
@@ -30,4 +33,20 @@ pub fn files_are_named()
 /// So it is with the layers of a text that is such a file.
 pub fn texts_are_named()
     ensures { TextsAreNamed }
+{}
+
+/// A file with a place and no fault of names or types means layers that members can run: each number that they keep in a byte fits
+/// there, and no list is longer than they keep.
+pub fn files_are_held()
+    ensures { FilesAreHeld }
+{}
+
+/// Each layer of the stack that a file within the bounds means declares at most seven headers.
+pub fn stacks_have_few_headers()
+    ensures { StacksHaveFewHeaders }
+{}
+
+/// So does each of the typed layers that are this stack.
+pub fn typed_have_few_headers()
+    ensures { TypedHaveFewHeaders }
 {}

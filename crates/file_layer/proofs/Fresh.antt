@@ -8,7 +8,7 @@ use Rattle.layer_ast.specs.declared.syntax.Shape.{Shape}
 use Rattle.layer_ast.specs.declared.tokens.Dir.{Dir}
 use Rattle.layer_mean.specs.Tree as tree
 use Rattle.layer_mean.specs.Tree.{CellTree, LayerTree}
-use Rattle.layer_room.specs.Layouts as room
+use Rattle.desk_needs.specs.Layouts as room
 use Rattle.cell_store.specs.Kept.{KeptCell, numbers, queues, Kept, capacity_of, state_of}
 use Rattle.cell_store.specs.Fresh.{kept_first, kept_fresh, kept_form, tree_form, IsFor}
 use Rattle.cell_store.proofs.Seen.{fresh_seen, fresh_for}

@@ -2,7 +2,7 @@
 use Rattle.std.proofs.Common.{◌≡◌, ℕ, ◌+◌, ◌*◌, ◌<◌, List, [], ◌∷◌, ◌++◌, map, take, length, slice_index_or, ap, ◌∙◌, arith}
 use Rattle.std.proofs.lemmas.List.{map-append}
 use Rattle.layer_mean.specs.Tree.{CellTree}
-use Rattle.layer_room.specs.Layouts.{rows_kept}
+use Rattle.desk_needs.specs.Layouts.{rows_kept}
 use Rattle.typed_layer.specs.View.{cell_tree, form_tree}
 use Rattle.typed_layer.specs.declared.tree.Cell.{Cell}
 use Rattle.cell_store.proofs.Begun.{one_more}

@@ -7,8 +7,8 @@ use Rattle.layer_mean.specs.Tree.{LayerTree, no_layer}
 use Rattle.chain_laws.specs.Runs.{blanks, TypedLayers, TypedStack}
 use Rattle.chain_laws.specs.Typed.{TypedLayer}
 use Rattle.layer_desk.specs.Need.{are_above}
-use Rattle.layer_room.specs.Layouts.{layout_of}
-use Rattle.layer_room.proofs.Fits.{typed_layers_fit}
+use Rattle.desk_needs.specs.Layouts.{layout_of}
+use Rattle.desk_needs.proofs.Fits.{typed_layers_fit}
 use Rattle.file_layer.specs.Rest.{IsMadeFor}
 
 both : (a b : Bool) → a ≡ true → b ≡ true → (a && b) ≡ true

@@ -4,9 +4,9 @@ use Rattle.circular_buffer.specs.Buffer.{buffer}
 use Rattle.slot_pool.specs.Held.{Held}
 use Rattle.layer_mean.specs.Tree.{LayerTree}
 use Rattle.layer_mean.specs.Visit.{fresh}
-use Rattle.layer_room.specs.Layouts as room
-use Rattle.layer_room.specs.Reserved.{reserved}
-use Rattle.layer_room.specs.declared.reserve.Reserve.{Reserve}
+use Rattle.desk_needs.specs.Layouts as room
+use Rattle.desk_needs.specs.Reserved.{reserved}
+use Rattle.desk_needs.specs.declared.reserve.Reserve.{Reserve}
 use Rattle.cell_store.specs.Kept.{state_of}
 use Rattle.cell_store.specs.Fresh.{kept_fresh}
 use Rattle.pool_message.specs.Seen.{row_seen}

@@ -3,8 +3,8 @@
 ghost use Rattle.std.specs.Prelude.{◌≡◌, ◌+◌, ◌≤◌, [], None, map, IfOk, IfSome};
 ghost use Rattle.circular_buffer.specs.Buffer.{buffer};
 ghost use Rattle.slot_pool.specs.References.{Covers};
-ghost use Rattle.layer_room.specs.Layouts as room;
-ghost use Rattle.layer_room.specs.Layouts.{rows_kept};
+ghost use Rattle.desk_needs.specs.Layouts as room;
+ghost use Rattle.desk_needs.specs.Layouts.{rows_kept};
 ghost use Rattle.layer_stage.specs.Room.{most_kept};
 ghost use Rattle.typed_layer.specs.View.{cell_tree, form_tree, layer_tree};
 ghost use Rattle.cell_store.specs.Kept.{rows_in, emptied};
@@ -17,7 +17,7 @@ ghost use Rattle.msg_core.specs.View.{most_members};
 
 use crate::desk::{FileDesk, MOST_BOUND, MOST_DESK_ROWS, MOST_OWN};
 use cell_store::Cells;
-use layer_room::{Reserve, reserve_for};
+use desk_needs::{Reserve, reserve_for};
 use msg_core::MOST_MEMBERS;
 use pool_message::{Messages, PoolRow, Tray};
 use slot_pool::{Memory, Pool};

@@ -4,9 +4,9 @@ use Rattle.std.specs.Option.{option_map_or, option_zip}
 use Rattle.layer_ast.specs.Tree as ast
 use Rattle.layer_mean.specs.Event.{carries}
 use Rattle.layer_mean.specs.Tree.{number, Expected, always, common, rare, HandlerTree, ItemsTree, numbers, queue, queues, CellTree, HeaderTree, LayerTree}
-use Rattle.file_faults.specs.Declared.{items_in, names_in}
-use Rattle.file_faults.specs.Forms.{is_end}
-use Rattle.file_faults.specs.Scope.{popped_names}
+use Rattle.fault_mean.specs.Declared.{items_in, names_in}
+use Rattle.fault_mean.specs.Forms.{is_end}
+use Rattle.fault_mean.specs.Scope.{popped_names}
 use Rattle.file_mean.specs.Names.{Placed, Names, own_names, with_numbers, with_messages, tag_of, size_value, numbers_among, message_among, carried_in}
 use Rattle.file_mean.specs.Values.{number_of}
 use Rattle.file_mean.specs.Statements.{behind_all, statements_of}

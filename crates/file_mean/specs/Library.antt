@@ -6,7 +6,7 @@ use Rattle.layer_ast.specs.Cut.{cut}
 use Rattle.layer_ast.specs.Print as printed
 use Rattle.layer_ast.specs.Spells.{Fits, Spells}
 use Rattle.layer_ast.specs.Tree.{LayerTree, FileTree}
-use Rattle.layer_lib.specs.Library.{library_text}
+use Rattle.file_library.specs.Library.{library_text}
 
 -- A text spells a layer: it has no bad token, and its tokens are the layer's and stand where the layer says.
 pub record SpellsLayer (text : List ℕ) (layer : LayerTree) : Type 0 where

@@ -10,8 +10,8 @@ use Rattle.layer_ast.specs.declared.syntax.Sort.{Sort}
 use Rattle.layer_ast.specs.declared.syntax.Sort.TheVariants.{Int, Msg, Part}
 use Rattle.layer_ast.specs.Tree.{DeclarationTree, rows_cell, rows_array, ItemTree, LayerTree, GivenTree, SizeTree, fixed, sized}
 use Rattle.layer_mean.specs.Tree.{Carried, part, whole}
-use Rattle.file_faults.specs.Declared.{declaration_of, cell_number, header_tag}
-use Rattle.file_faults.specs.Places.{param_value}
+use Rattle.fault_mean.specs.Declared.{declaration_of, cell_number, header_tag}
+use Rattle.fault_mean.specs.Places.{param_value}
 
 -- A layer at a place of a stack, with the params that the place gives and the header `none` of each place above, lowest first.
 pub record Placed : Type 0 where

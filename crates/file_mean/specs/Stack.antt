@@ -6,7 +6,7 @@ use Rattle.msg_core.specs.declared.message.Header.{Header}
 use Rattle.layer_ast.specs.Tree as ast
 use Rattle.layer_mean.specs.Tree.{LayerTree, no_layer}
 use Rattle.layer_mean.specs.Visit.{none_header}
-use Rattle.file_faults.specs.Places.{layer_at}
+use Rattle.fault_mean.specs.Places.{layer_at}
 use Rattle.file_mean.specs.Layers.{layer_of}
 
 -- The header `none` of each place above the one of this number, of so many places, the lowest first.

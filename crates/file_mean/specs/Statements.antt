@@ -8,9 +8,9 @@ use Rattle.layer_ast.specs.declared.tokens.Kind.{Kind}
 use Rattle.layer_ast.specs.Tree as ast
 use Rattle.layer_mean.specs.Event.{carries}
 use Rattle.layer_mean.specs.Tree.{ExpressionTree, number, EmissionTree, RowTree, TakenTree, StatementTree, bind, assign, assign_square, push, take, branch, each, emit, StatementTrees, none, more}
-use Rattle.file_faults.specs.Declared.{names_in}
-use Rattle.file_faults.specs.Forms.{queue_name}
-use Rattle.file_faults.specs.Uses.{arguments_in}
+use Rattle.fault_mean.specs.Declared.{names_in}
+use Rattle.fault_mean.specs.Forms.{queue_name}
+use Rattle.fault_mean.specs.Uses.{arguments_in}
 use Rattle.file_mean.specs.Names.{Names, cell_of, tag_of, capacity_of, size_value, numbers_among, message_among, with_numbers, with_messages}
 use Rattle.file_mean.specs.Values.{number_of, queue_carries, queue_cell, queue_index, argument_number, argument_message}
 

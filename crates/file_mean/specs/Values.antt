@@ -4,8 +4,8 @@ use Rattle.std.specs.Option.{option_or}
 use Rattle.layer_ast.specs.declared.names.Name.{Name}
 use Rattle.layer_ast.specs.Tree as ast
 use Rattle.layer_mean.specs.Tree.{Carried, part, ExpressionTree, number, me, count, ltime, local, element, square, rows, item, size, binary, apply, pick, MessageTree, message, nothing, held, cut, tail, join}
-use Rattle.file_faults.specs.Forms.{queue_name, row_of}
-use Rattle.file_faults.specs.Places.{param_value}
+use Rattle.fault_mean.specs.Forms.{queue_name, row_of}
+use Rattle.fault_mean.specs.Places.{param_value}
 use Rattle.file_mean.specs.Names.{Names, cell_of, carried_in, item_number, number_slot, message_slot}
 
 -- The number of a name: one that the handler declares, the value of a param, or a cell of one number.

@@ -11,8 +11,8 @@ use Rattle.audit_mean.specs.declared.law.Finding.TheVariants.{Holds, Breach}
 use Rattle.job_mean.specs.Job.{Job, check, synth, replay, load, node, audit, job_of_words}
 use Rattle.job_mean.specs.Status.{Ended, done, breached, file_refused, report_refused, words_refused, second_refused, read_failed, write_failed, link_failed, no_memory, status_number}
 use Rattle.program_mean.specs.Headline.{IsNoReport, end_found, whole_end, second_for}
-use Rattle.sink_lines.specs.Lines.{Gains}
-use Rattle.sink_lines.specs.Said.{Errors, SaysLine, whole, failed, no_memory as wanted}
+use Rattle.outside.specs.Lines.{Gains}
+use Rattle.outside.specs.Said.{Errors, SaysLine, whole, failed, no_memory as wanted}
 use Rattle.program_laws.specs.OneEnd.{IsAlone}
 use Rattle.program_laws.proofs.Ends.{words_are_due, files_are_due, reports_are_due, seconds_are_due, misses_are_due, second_misses_are_due, good_are_due}
 use Rattle.job_ends.specs.Comes.{Around, Finds, Beside, IsOutput, Good, BadReport, Unfound, Whole, Comes}

@@ -15,10 +15,10 @@ use Rattle.program_mean.specs.Judged.{IsGood}
 use Rattle.program_mean.specs.Headline.{second_for, OfJob, ReadsStack, IsNoReport, whole_end, WritesOf, WritesWhole, WroteNothing, Began, Ends, Says, whole, cut_off, out_of_memory}
 use Rattle.program_mean.specs.Judged.{Means}
 use Rattle.program_mean.specs.Second.{second_fault}
-use Rattle.sink_lines.specs.Tells.{Tells}
-use Rattle.sink_lines.specs.Said.{Errors, SaysLine}
-use Rattle.sink_lines.specs.Said as said
-use Rattle.sink_lines.proofs.Gaining.{fails_part, begins_part}
+use Rattle.outside.specs.Tells.{Tells}
+use Rattle.outside.specs.Said.{Errors, SaysLine}
+use Rattle.outside.specs.Said as said
+use Rattle.outside.proofs.Gaining.{fails_part, begins_part}
 use Rattle.job_ends.specs.Comes.{Around, Finds, Beside, Good, Unfound, Whole, Comes, NoJob}
 use Rattle.job_ends.specs.Shown.{Said}
 use Rattle.job_ends.specs.Seen.{run_of, Seen}

@@ -23,8 +23,8 @@ use Rattle.program_mean.specs.Judged.{Means, Refuses}
 use Rattle.program_mean.specs.Output.{HasRoom, finding_line}
 use Rattle.program_mean.specs.Second.{second_fault}
 use Rattle.program_mean.specs.Headline.{ReadsStack, IsNoReport, whole_end}
-use Rattle.sink_lines.specs.Tells.{Tells, tells_of}
-use Rattle.sink_lines.specs.Lines.{Begins, Gains, Fails}
+use Rattle.outside.specs.Tells.{Tells, tells_of}
+use Rattle.outside.specs.Lines.{Begins, Gains, Fails}
 
 -- What a job began with and what it left: what the shelf told, its count of faults before and after, and
 -- what the output told before and after.

@@ -5,7 +5,7 @@ use Rattle.outside.specs.Shelf.{Shelved}
 use Rattle.job_mean.specs.Job.{Job}
 use Rattle.job_mean.specs.Status.{Ended, done, breached, file_refused, report_refused, second_refused, read_failed, status_number}
 use Rattle.program_mean.specs.Headline.{whole_end}
-use Rattle.sink_lines.specs.Lines.{Gains}
+use Rattle.outside.specs.Lines.{Gains}
 use Rattle.job_ends.specs.Comes.{Around, Good, BadFile, BadReport, BadSecond, Unfound}
 
 -- The status that is due came, or memory ran out.

@@ -5,7 +5,7 @@ use Rattle.clap.specs.Walk.{Text}
 use Rattle.layer_mean.specs.Tree.{LayerTree}
 use Rattle.job_mean.specs.Job.{Job}
 use Rattle.program_mean.specs.Headline.{Counted, Run, second_for, Ran}
-use Rattle.sink_lines.specs.Said.{Errors}
+use Rattle.outside.specs.Said.{Errors}
 use Rattle.job_ends.specs.Comes.{Around, Finds, Beside}
 
 abbrev pub counted : ℕ → ℕ → Counted

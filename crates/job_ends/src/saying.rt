@@ -4,15 +4,14 @@ ghost use Rattle.std.specs.Prelude.{◌≡◌};
 ghost use Rattle.script_mean.specs.Script.{bad_line, no_member};
 ghost use Rattle.audit_mean.specs.Finding as report;
 ghost use Rattle.job_mean.specs.Status.{misspelled, report_refused, second_refused, status_number};
-ghost use Rattle.sink_lines.specs.Said.{errors};
-ghost use Rattle.sink_lines.specs.Tells.{tells_of};
+ghost use Rattle.outside.specs.Said.{errors};
+ghost use Rattle.outside.specs.Tells.{tells_of};
 ghost use Rattle.job_ends.specs.Shown.{Said, file_end, shown};
 
 use crate::ending::Ending;
 use crate::lines::{file_line, report_line, second_line, second_member};
 use file_judge::FileError;
-use outside::Sink;
-use sink_lines::say_line;
+use outside::{Sink, say_line};
 use std::alloc::Global;
 
 /// The status where a file is refused.

@@ -8,3 +8,4 @@ pub mod Visit
 pub mod Queue
 pub mod Marked
 pub mod Way
+pub mod Codes

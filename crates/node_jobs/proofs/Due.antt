@@ -21,7 +21,7 @@ use Rattle.program_mean.specs.Output.{IsNode, failures}
 use Rattle.program_mean.specs.Second.{after_plan, crowded}
 use Rattle.program_laws.proofs.Files.{one_meaning, good_or_refused}
 use Rattle.program_laws.proofs.Ends.{files_are_due, seconds_are_due, misses_are_due, second_misses_are_due}
-use Rattle.sink_lines.specs.Said.{Errors}
+use Rattle.outside.specs.Said.{Errors}
 use Rattle.job_ends.specs.Comes.{Around, Finds, Beside, BadFile, BadSecond, Unfound}
 use Rattle.job_ends.specs.Due.{Due, NoPutFailed}
 use Rattle.job_ends.specs.Shown.{Said}

@@ -16,8 +16,8 @@ use Rattle.program_mean.specs.Headline.{Run, OfJob, ReadsStack, second_for, whol
 use Rattle.program_mean.specs.Output.{Surroundings, NodeWords, failed, noted, played, handed_by}
 use Rattle.program_mean.specs.Judged.{Means, IsGood}
 use Rattle.program_mean.specs.Second.{second_fault}
-use Rattle.sink_lines.specs.Said.{Errors}
-use Rattle.sink_lines.proofs.Gaining.{fails_part, begins_part}
+use Rattle.outside.specs.Said.{Errors}
+use Rattle.outside.proofs.Gaining.{fails_part, begins_part}
 use Rattle.job_ends.specs.Comes.{Around, Finds, Beside, Unfound, Comes}
 use Rattle.job_ends.specs.Seen as other
 use Rattle.job_ends.specs.Shown.{Said}

@@ -7,7 +7,7 @@ use Rattle.run_mean.specs.Journal.{Handed}
 use Rattle.program_mean.specs.Headline.{Run}
 use Rattle.program_mean.specs.Headline as program
 use Rattle.program_mean.specs.Output.{Surroundings}
-use Rattle.sink_lines.specs.Said.{Errors}
+use Rattle.outside.specs.Said.{Errors}
 use Rattle.job_ends.specs.Comes.{Around, Finds, Beside}
 use Rattle.job_ends.specs.Seen.{counted}
 use Rattle.node_laws.specs.Network.{Tells}

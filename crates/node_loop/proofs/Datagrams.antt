@@ -16,8 +16,8 @@ use Rattle.msg_core.specs.declared.packet.Dest.{Dest}
 use Rattle.msg_core.specs.declared.packet.Dest.TheVariants.{All, Rank}
 use Rattle.msg_core.specs.View.{ids}
 use Rattle.run_mean.specs.Journal.{Handed, receivers}
-use Rattle.sink_lines.specs.Lines.{Gains, Wrote}
-use Rattle.sink_lines.proofs.Gaining.{gains_none}
+use Rattle.outside.specs.Lines.{Gains, Wrote}
+use Rattle.outside.proofs.Gaining.{gains_none}
 use Rattle.node_laws.specs.Acts.{Act, puts, sends, lost_acts, sending_acts}
 use Rattle.node_laws.specs.Losses.{lost_line}
 use Rattle.node_laws.specs.Network.{Tells, sent_as}

@@ -19,9 +19,9 @@ use Rattle.stack_mean.specs.Plans.{plans_of}
 use Rattle.run_mean.specs.Member.{opened}
 use Rattle.run_mean.specs.Report.{end_line}
 use Rattle.run_mean.specs.View.{first_view}
-use Rattle.sink_lines.specs.Lines.{Wrote}
-use Rattle.sink_lines.specs.Tells as output
-use Rattle.sink_lines.proofs.Gaining.{gains_none}
+use Rattle.outside.specs.Lines.{Wrote}
+use Rattle.outside.specs.Tells as output
+use Rattle.outside.proofs.Gaining.{gains_none}
 use Rattle.world_core.specs.Standing.{Peopled, Stands}
 use Rattle.node_laws.specs.Doings.{doings_from}
 use Rattle.node_laws.specs.Network.{Goes, Tells}

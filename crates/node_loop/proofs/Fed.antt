@@ -24,7 +24,7 @@ use Rattle.run_mean.specs.Member.{Input, Member, Output, inside, out, cast, send
 use Rattle.run_mean.specs.Report.{installed_line}
 use Rattle.run_mean.specs.World as world
 use Rattle.run_mean.specs.World.{World, here_of, happens, member_at, stepped_inside, stepped_of}
-use Rattle.sink_lines.specs.Lines.{Gains}
+use Rattle.outside.specs.Lines.{Gains}
 use Rattle.view_core.specs.Happenings.{DidIs}
 use Rattle.view_core.specs.declared.step.Did.{Did}
 use Rattle.view_core.specs.declared.step.Did.TheVariants as did

@@ -14,7 +14,7 @@ use Rattle.stack_mean.specs.Plan.{Plan}
 use Rattle.run_mean.specs.Journal.{Handed, handed_output, receivers}
 use Rattle.run_mean.specs.Member.{Output, deliver_cast, deliver_send, block, announce, packet, nowhere, timer, quiet}
 use Rattle.run_mean.specs.Report.{number_behind, output_lines}
-use Rattle.sink_lines.specs.Lines.{Wrote}
+use Rattle.outside.specs.Lines.{Wrote}
 use Rattle.step_outputs.specs.Views.{output_meant}
 use Rattle.step_outputs.specs.declared.view.OutputView.{OutputView}
 use Rattle.step_outputs.specs.declared.view.OutputView.TheVariants.{Cast, Send, Block, Announce, Timer, Packet, Nowhere, Quiet}

@@ -8,9 +8,9 @@ use Rattle.outside.specs.Links.{Network}
 use Rattle.outside.specs.declared.sink.SinkError.{SinkError}
 use Rattle.outside.specs.declared.sink.SinkError.TheVariants as sink
 use Rattle.run_mean.specs.Journal.{Handed}
-use Rattle.sink_lines.specs.Lines.{Begins, Gains, Wrote}
-use Rattle.sink_lines.specs.Tells as output
-use Rattle.sink_lines.proofs.Gaining.{begins_none, gains_none, gains_then, cut_short}
+use Rattle.outside.specs.Lines.{Begins, Gains, Wrote}
+use Rattle.outside.specs.Tells as output
+use Rattle.outside.proofs.Gaining.{begins_none, gains_none, gains_then, cut_short}
 use Rattle.node_laws.specs.Acts.{Act, puts, sends, lines_in, sends_in}
 use Rattle.node_laws.specs.Losses.{failures_in}
 use Rattle.node_laws.specs.Network.{Tells, after_sends, fates_of, sent_as}

@@ -17,9 +17,9 @@ use Rattle.run_mean.specs.Journal.{failure, handed, node_lines, node_run, note_l
 use Rattle.run_mean.specs.Report.{end_line, moments}
 use Rattle.run_mean.specs.World.{World, happens}
 use Rattle.program_mean.specs.Output.{NodeWords, Surroundings, failures, handed_by, noted, played}
-use Rattle.sink_lines.specs.Lines.{Gains, Wrote}
-use Rattle.sink_lines.specs.Tells as output
-use Rattle.sink_lines.proofs.Gaining.{gains_then}
+use Rattle.outside.specs.Lines.{Gains, Wrote}
+use Rattle.outside.specs.Tells as output
+use Rattle.outside.proofs.Gaining.{gains_then}
 use Rattle.node_laws.specs.Acts.{puts, acts_of, lines_in, sends_in}
 use Rattle.node_laws.specs.Doings.{Doing, doings_of, events_of, note_in}
 use Rattle.node_laws.specs.Losses.{lost_of, sends_of, written_of}

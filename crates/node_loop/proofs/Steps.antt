@@ -13,8 +13,8 @@ use Rattle.run_mean.specs.Journal.{Heard}
 use Rattle.run_mean.specs.Report.{end_line}
 use Rattle.run_mean.specs.World.{happens}
 use Rattle.program_mean.specs.Output.{failures}
-use Rattle.sink_lines.specs.Lines.{Gains, Wrote}
-use Rattle.sink_lines.proofs.Gaining.{gains_then}
+use Rattle.outside.specs.Lines.{Gains, Wrote}
+use Rattle.outside.proofs.Gaining.{gains_then}
 use Rattle.world_core.specs.Standing.{Peopled}
 use Rattle.node_laws.specs.Doings.{Doing, does, asks, bears, doings_of, events_of, heard_in}
 use Rattle.node_laws.specs.Losses.{behind, deaf_line, event_lines, event_losses, event_sends, failures_in, lost_of, sends_of, written_of}

@@ -6,8 +6,8 @@ use Rattle.outside.specs.Count.{last_count, next_count}
 use Rattle.outside.specs.Links.{Network}
 use Rattle.outside.specs.declared.links.Links as links
 use Rattle.outside.specs.declared.sink.Sink as outputs
-use Rattle.sink_lines.specs.Tells as sink
-use Rattle.sink_lines.specs.Tells.{tells_of}
+use Rattle.outside.specs.Tells as sink
+use Rattle.outside.specs.Tells.{tells_of}
 
 -- What the output tells; how many listens and receives failed, and how many sends; and what the network tells.
 pub record Around : Type 0 where

@@ -11,7 +11,7 @@ use Rattle.run_mean.specs.Journal.{Heard, failure}
 use Rattle.run_mean.specs.Report.{end_line}
 use Rattle.run_mean.specs.World.{World}
 use Rattle.program_mean.specs.Output.{failures}
-use Rattle.sink_lines.specs.Lines.{Gains}
+use Rattle.outside.specs.Lines.{Gains}
 use Rattle.world_core.specs.Standing.{Peopled}
 use Rattle.node_laws.specs.Acts.{Act, puts, acts_of, sends_in}
 use Rattle.node_laws.specs.Doings.{Doing, does, doings_of, events_of, heard_in}

@@ -4,8 +4,8 @@ use Rattle.outside.specs.Links.{Network}
 use Rattle.outside.specs.declared.sink.SinkError.{SinkError}
 use Rattle.outside.specs.declared.sink.SinkError.TheVariants.{Failed, Memory}
 use Rattle.run_mean.specs.Journal.{Handed, Heard}
-use Rattle.sink_lines.specs.Lines.{Begins, Fails, Gains}
-use Rattle.sink_lines.specs.Tells as sink
+use Rattle.outside.specs.Lines.{Begins, Fails, Gains}
+use Rattle.outside.specs.Tells as sink
 use Rattle.node_laws.specs.Acts.{Act, puts, sends, lines_in, sends_in}
 use Rattle.node_laws.specs.Losses.{failures_in}
 use Rattle.node_laws.specs.Network.{Tells, after_sends, fates_of, met_as, sent_as}

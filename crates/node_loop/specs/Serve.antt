@@ -12,8 +12,8 @@ use Rattle.run_mean.specs.Journal.{Heard, failure, Handed, note_lines, node_line
 use Rattle.run_mean.specs.World.{World, first_world}
 use Rattle.program_mean.specs.Output.{Surroundings, NodeWords, failed, failures, noted, played, handed_by}
 use Rattle.run_mean.specs.Report.{end_line}
-use Rattle.sink_lines.specs.Lines.{Gains, Wrote}
-use Rattle.sink_lines.specs.Tells as sink_lines
+use Rattle.outside.specs.Lines.{Gains, Wrote}
+use Rattle.outside.specs.Tells as sink_lines
 use Rattle.node_laws.specs.Acts.{Act, puts, acts_of, sends_in}
 use Rattle.node_laws.specs.Doings.{Doing, doings_of, events_of}
 use Rattle.node_laws.specs.Losses.{lost_of}

@@ -6,8 +6,8 @@ ghost use Rattle.msg_core.specs.declared.packet.Dest.TheVariants.{All};
 ghost use Rattle.packet_full.specs.Sent.{sent_packet};
 ghost use Rattle.packet_mean.specs.Spelling.{full_bytes};
 ghost use Rattle.run_mean.specs.Journal.{receivers};
-ghost use Rattle.sink_lines.specs.Lines.{Wrote};
-ghost use Rattle.sink_lines.specs.Tells.{tells_of};
+ghost use Rattle.outside.specs.Lines.{Wrote};
+ghost use Rattle.outside.specs.Tells.{tells_of};
 ghost use Rattle.node_laws.specs.Losses as losses;
 ghost use Rattle.node_loop.specs.Around.{around};
 ghost use Rattle.node_loop.specs.Passing.{Handles};
@@ -17,11 +17,10 @@ ghost use Rattle.node_loop.specs.Sending.{MayTake, sent_to};
 use crate::receivers::{has, member_at};
 use crate::tools::Tools;
 use msg_core::{Dest, MOST_MEMBERS, Memory, View};
-use outside::{LONGEST_DATAGRAM, LinkError, Links, Sink, SinkError};
+use outside::{LONGEST_DATAGRAM, LinkError, Links, Sink, SinkError, put_line};
 use packet_full::{put_full_of, room_of};
 use packet_mean::Here;
 use report_lines::{Line, lost_line};
-use sink_lines::put_line;
 use step_outputs::PacketView;
 
 /// A datagram on its way out: who sends it, and the number of its packet.

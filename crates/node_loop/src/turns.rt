@@ -5,8 +5,8 @@ ghost use Rattle.std.specs.List.{AllByRecursion};
 ghost use Rattle.script_mean.specs.declared.event.ScriptEvent.TheVariants.{Raw};
 ghost use Rattle.run_mean.specs.Journal.{Heard};
 ghost use Rattle.node_laws.specs.Doings.{Doing};
-ghost use Rattle.sink_lines.specs.Lines.{Wrote};
-ghost use Rattle.sink_lines.specs.Tells.{tells_of};
+ghost use Rattle.outside.specs.Lines.{Wrote};
+ghost use Rattle.outside.specs.Tells.{tells_of};
 ghost use Rattle.node_laws.specs.Losses as losses;
 ghost use Rattle.node_laws.specs.Stages as stages;
 ghost use Rattle.node_laws.specs.Stages.{AreOrdered, own_doing, from_asking, from_planned, from_ticks, from_turn, planned_in};
@@ -21,11 +21,10 @@ use crate::desk::Desk;
 use crate::error::{NodeError, cut};
 use crate::feeding::feed_on;
 use msg_core::Memory;
-use outside::{Clock, LONGEST_DATAGRAM, LinkError, Links, Sink, SinkError};
+use outside::{Clock, LONGEST_DATAGRAM, LinkError, Links, Sink, SinkError, put_line};
 use report_lines::{Line, deaf_line};
 use report_text::member_of;
 use script_mean::{Bytes, ScriptEvent};
-use sink_lines::put_line;
 use world_core::Feed;
 
 /// Feeds a tick of this moment to each own member.

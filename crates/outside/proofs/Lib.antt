@@ -3,3 +3,5 @@ pub mod Appended
 pub mod Found
 pub mod Gathered
 pub mod Waiting
+pub mod Gaining
+pub mod Turns

@@ -7,3 +7,6 @@ pub mod StdSink
 pub mod Links
 pub mod MemLinks
 pub mod Clock
+pub mod Tells
+pub mod Lines
+pub mod Said

@@ -20,6 +20,8 @@
 //!   becomes of the calls to come. Each call's clause gives the network after it as a function of the one before, so a
 //!   series of calls is joined by computing.
 //! - `C.told` is `Some` of the moments to come.
+//!
+//! `put_line` and `say_line` write lines, one put a line; their words are in specs/ (`Tells`, `Lines`, `Said`).
 #![tactic(auto)]
 
 mod clock;
@@ -32,6 +34,7 @@ mod mem_links;
 mod mem_shelf;
 mod mem_sink;
 mod named_file;
+mod puts;
 mod run_clock;
 mod shelf;
 mod sink;
@@ -46,6 +49,7 @@ pub use mem_links::MemLinks;
 pub use mem_shelf::{MemShelf, StillShelf};
 pub use mem_sink::{MemSink, StillSink};
 pub use named_file::NamedFile;
+pub use puts::{put_line, say_line};
 pub use run_clock::RunClock;
 pub use shelf::{Got, Shelf, ShelfError};
 pub use sink::{Sink, SinkError};

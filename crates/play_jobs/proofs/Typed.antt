@@ -2,8 +2,8 @@
 use Rattle.std.proofs.Common.{◌≡◌, refl, subst, Bool, true, false, ℕ, List, Option, Some, None}
 use Rattle.std.specs.Prelude.{Ok, Err, nat_lt, if◌then◌else◌}
 use Rattle.layer_mean.specs.Tree.{LayerTree}
-use Rattle.file_faults.specs.Faults as faults
-use Rattle.file_faults.specs.FileFault.{file_fault}
+use Rattle.fault_mean.specs.Faults as faults
+use Rattle.fault_mean.specs.FileFault.{file_fault}
 use Rattle.file_mean.specs.Stack.{stack_of}
 use Rattle.stack_mean.specs.Graph.{Node, first_on_cycle}
 use Rattle.stack_mean.specs.Acceptance.{too_many, too_many_joins, held_at_most, without_cycle, largest_weight, largest_joins, weight_limit, joins_limit}

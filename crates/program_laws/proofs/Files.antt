@@ -7,11 +7,11 @@ use Rattle.layer_ast.specs.Print as print
 use Rattle.layer_ast.specs.Stops.{StopsInside, StopsAtEnd}
 use Rattle.layer_ast.specs.Tree.{LayerTree, FileTree}
 use Rattle.layer_mean.specs.Tree as run
-use Rattle.layer_laws.proofs.Files.{layer_once}
-use Rattle.layer_laws.proofs.Once.{spelled_once}
-use Rattle.layer_laws.proofs.Together.{fits_together}
-use Rattle.layer_machine.specs.Verdict.{Verdict, a_file, bad, inside, at_end, Holds}
-use Rattle.layer_machine.proofs.Texts.{each_decided}
+use Rattle.grammar_laws.proofs.Files.{layer_once}
+use Rattle.grammar_laws.proofs.Once.{spelled_once}
+use Rattle.grammar_laws.proofs.Together.{fits_together}
+use Rattle.grammar_laws.specs.Verdict.{Verdict, a_file, bad, inside, at_end, Holds}
+use Rattle.grammar_laws.proofs.Texts.{each_decided}
 use Rattle.file_mean.specs.Library.{SpellsLayer, called_for, IsFile}
 use Rattle.job_mean.specs.Status.{FileFault, too_large, bad_token, unexpected, unknown, twice, over_limit, wrong_kind, arity, direction, header, initial, cycle, too_many, too_many_joins}
 use Rattle.layer_ast.specs.Spells.{longest_file}

@@ -4,8 +4,8 @@ use Rattle.layer_ast.specs.Spells.{longest_file}
 use Rattle.layer_ast.specs.Stops.{StopsBad, StopsInside, StopsAtEnd}
 use Rattle.layer_ast.specs.Tree.{FileTree}
 use Rattle.layer_mean.specs.Tree.{LayerTree}
-use Rattle.file_faults.specs.Faults as faults
-use Rattle.file_faults.specs.FileFault.{file_fault}
+use Rattle.fault_mean.specs.Faults as faults
+use Rattle.fault_mean.specs.FileFault.{file_fault}
 use Rattle.file_mean.specs.Library.{IsFile}
 use Rattle.file_mean.specs.Stack.{stack_of}
 use Rattle.stack_mean.specs.Acceptance as acceptance

@@ -2,7 +2,7 @@
 use Rattle.std.specs.Prelude.{ℕ, List, ◌++◌, codes, true, false}
 use Rattle.job_mean.specs.Job.{layered, bypass}
 use Rattle.file_mean.specs.CounterFile as counter
-use Rattle.library_trees.specs.WholeStack as whole
+use Rattle.library_rows.specs.WholeStack as whole
 use Rattle.audit_mean.specs.declared.law.Law.TheVariants.{Sender, Total}
 use Rattle.program_mean.specs.Output.{Checks, Replays, Audits}
 use Rattle.program_rows.specs.FlipFile as flip

@@ -7,9 +7,9 @@ use Rattle.layer_mean.specs.Tree.{LayerTree}
 use Rattle.outside.specs.declared.sink.SinkError.{SinkError}
 use Rattle.run_mean.specs.Member.{Output, deliver_cast, deliver_send, block, announce, packet, nowhere, timer, quiet}
 use Rattle.run_mean.specs.Report.{Annex, lines_of_outputs, output_lines, number_behind}
-use Rattle.sink_lines.specs.Lines.{Gains, Wrote}
-use Rattle.sink_lines.specs.Tells.{Tells}
-use Rattle.sink_lines.proofs.Gaining.{gains_then, cut_short}
+use Rattle.outside.specs.Lines.{Gains, Wrote}
+use Rattle.outside.specs.Tells.{Tells}
+use Rattle.outside.proofs.Gaining.{gains_then, cut_short}
 use Rattle.stack_mean.specs.Plan.{Plan}
 use Rattle.report_text.specs.Numbered.{full_annex, number_after}
 use Rattle.view_core.specs.declared.step.Stepped.{Stepped}

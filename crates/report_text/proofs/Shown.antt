@@ -5,7 +5,7 @@ use Rattle.std.specs.List.{enumerate_from, flat_map}
 use Rattle.layer_mean.specs.State.{State, cell_at, queues_in}
 use Rattle.layer_mean.specs.Tree.{LayerTree, ItemsTree, queue, queues}
 use Rattle.layer_mean.specs.declared.run.Row.{Row}
-use Rattle.member_shown.specs.Shown.{view_shown}
+use Rattle.member_reads.specs.Shown.{view_shown}
 use Rattle.msg_core.specs.declared.packet.View.{View}
 use Rattle.report_lines.specs.Cells.{cell_front}
 use Rattle.std.specs.Fmt.{decimal}

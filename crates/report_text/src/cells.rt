@@ -3,8 +3,8 @@
 ghost use Rattle.std.specs.Prelude.{◌≡◌, ◌++◌, ◌<◌, OnOk, length, slice_index_or, codes};
 ghost use Rattle.event_graph.specs.Answer.{stack_tree};
 ghost use Rattle.layer_mean.specs.State.{cell_at, numbers_in, rows_at};
-ghost use Rattle.member_shown.specs.Rows.{row_meant};
-ghost use Rattle.member_shown.specs.Shown.{state_shown};
+ghost use Rattle.member_reads.specs.Rows.{row_meant};
+ghost use Rattle.member_reads.specs.Shown.{state_shown};
 ghost use Rattle.report_lines.specs.Cells.{cell_front};
 ghost use Rattle.report_lines.specs.Lead.{lead};
 ghost use Rattle.run_mean.specs.Lines.{cell_line, numbers_text};
@@ -13,7 +13,7 @@ ghost use Rattle.typed_layer.specs.View.{layer_tree};
 ghost use Rattle.report_text.specs.Cells.{index_if, no_row, queue_line};
 
 use layer_ast::Word;
-use member_shown::{RowView, Shown};
+use member_reads::{RowView, Shown};
 use msg_core::Memory;
 use report_lines::{
     Line, NamedStack, push_cell, push_index, push_lead, push_message_row, push_numbers_row,

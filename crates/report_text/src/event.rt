@@ -6,8 +6,8 @@ ghost use Rattle.packet_plans.specs.Trees.{plans_tree};
 ghost use Rattle.run_mean.specs.Lines as report;
 ghost use Rattle.run_mean.specs.Report.{end_line, packet_given, visits_line};
 ghost use Rattle.script_mean.specs.Event.{member_of};
-ghost use Rattle.sink_lines.specs.Lines.{Wrote};
-ghost use Rattle.sink_lines.specs.Tells.{tells_of};
+ghost use Rattle.outside.specs.Lines.{Wrote};
+ghost use Rattle.outside.specs.Tells.{tells_of};
 ghost use Rattle.view_core.specs.Refusals.{refusal_meant};
 ghost use Rattle.report_text.specs.Numbered.{full_annex};
 ghost use Rattle.report_text.specs.Told.{AreFull, change_line, change_lines, stepped_lines, taken_lines, told_lines};
@@ -17,10 +17,9 @@ use crate::output::write_outputs;
 use crate::pen::Pen;
 use crate::state::write_member;
 use msg_core::Memory;
-use outside::{Sink, SinkError};
+use outside::{Sink, SinkError, put_line};
 use report_lines::{Line, absent_line, out_line, refused_line, view_line};
 use script_mean::ScriptEvent;
-use sink_lines::put_line;
 use view_core::{Change, Did, Refusal, Stepped};
 
 /// The member that an event names.

@@ -1,6 +1,6 @@
 //! How lines are written, and what of.
 
-use member_shown::Shown;
+use member_reads::Shown;
 use packet_plans::Plans;
 use report_lines::NamedStack;
 use script_mean::ScriptEvent;

@@ -6,22 +6,21 @@ ghost use Rattle.packet_full.specs.Sent.{sent_packet};
 ghost use Rattle.packet_mean.specs.Spelling.{full_bytes};
 ghost use Rattle.run_mean.specs.Lines as report;
 ghost use Rattle.run_mean.specs.Report.{lines_of_outputs, number_behind, output_lines};
-ghost use Rattle.sink_lines.specs.Lines.{Wrote};
-ghost use Rattle.sink_lines.specs.Tells.{tells_of};
+ghost use Rattle.outside.specs.Lines.{Wrote};
+ghost use Rattle.outside.specs.Tells.{tells_of};
 ghost use Rattle.step_outputs.specs.Views.{output_meant};
 ghost use Rattle.report_text.specs.Numbered.{full_annex, line_if};
 
 use crate::manner::{Issue, Manner};
 use crate::pen::Pen;
 use msg_core::Memory;
-use outside::{Sink, SinkError};
+use outside::{Sink, SinkError, put_line};
 use packet_full::{put_full_of, room_of};
 use packet_mean::Here;
 use report_lines::{
     Delivery, Line, NamedStack, announce_line, block_line, deliver_line, packet_line, timer_line,
     wire_line,
 };
-use sink_lines::put_line;
 use step_outputs::{OutputView, PacketView};
 
 /// Builds the line of an output, if it has one: whether it has.

@@ -3,22 +3,21 @@
 ghost use Rattle.std.specs.Prelude.{◌∷◌, [], codes};
 ghost use Rattle.event_graph.specs.Answer.{stack_tree};
 ghost use Rattle.layer_mean.specs.State.{cell_at, rows_at};
-ghost use Rattle.member_shown.specs.Shown.{state_shown};
+ghost use Rattle.member_reads.specs.Shown.{state_shown};
 ghost use Rattle.run_mean.specs.Lines as report;
 ghost use Rattle.run_mean.specs.Report as whole;
-ghost use Rattle.sink_lines.specs.Lines.{Wrote};
-ghost use Rattle.sink_lines.specs.Tells.{tells_of};
+ghost use Rattle.outside.specs.Lines.{Wrote};
+ghost use Rattle.outside.specs.Tells.{tells_of};
 ghost use Rattle.typed_layer.specs.View.{cell_tree, layer_tree};
 ghost use Rattle.report_text.specs.Cells.{cells_shown, layers_shown, numbers_lines, one_queue, queue_lines};
 
 use crate::cells::{Queues, Spot, build_numbers, build_queue};
 use crate::pen::Pen;
 use layer_ast::Word;
-use member_shown::Shown;
+use member_reads::Shown;
 use msg_core::{Memory, View};
-use outside::{Sink, SinkError};
+use outside::{Sink, SinkError, put_line};
 use report_lines::{NamedStack, state_line, state_out_line};
-use sink_lines::put_line;
 use typed_layer::{Cell, Form, TypedLayer};
 
 /// The most cells of a layer that numbers of eight bits name.

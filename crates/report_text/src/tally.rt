@@ -4,18 +4,17 @@ ghost use Rattle.std.specs.Prelude.{◌≡◌, ◌+◌, ◌*◌, ◌^◌, ◌<�
 ghost use Rattle.std.specs.Fmt.{decimal};
 ghost use Rattle.std.specs.List.{fold};
 ghost use Rattle.run_mean.specs.Report.{end_line};
-ghost use Rattle.sink_lines.specs.Lines.{Wrote};
-ghost use Rattle.sink_lines.specs.Tells.{tells_of};
+ghost use Rattle.outside.specs.Lines.{Wrote};
+ghost use Rattle.outside.specs.Tells.{tells_of};
 ghost use Rattle.step_outputs.specs.Views.{output_meant};
 ghost use Rattle.report_text.specs.Counts.{change_counted, counted, kinds_line, lines_counted, no_counts, output_counted, short_line, step_counted, tally_lines, total, count_text};
 
 use crate::counts::Counts;
 use crate::pen::Pen;
 use msg_core::Memory;
-use outside::{Sink, SinkError};
+use outside::{Sink, SinkError, put_line};
 use packet_mean::Here;
 use report_lines::Line;
-use sink_lines::put_line;
 use std::marker::Model;
 use step_outputs::{OutputView, Outputs};
 use view_core::{Change, Did, Stepped};

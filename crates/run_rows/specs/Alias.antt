@@ -3,7 +3,7 @@ use Rattle.std.specs.Prelude.{◌≡◌, ℕ, true, false, List, [], ◌∷◌, 
 use Rattle.script_mean.specs.declared.event.ScriptEvent.{ScriptEvent}
 use Rattle.script_mean.specs.declared.event.ScriptEvent.TheVariants as script
 use Rattle.job_mean.specs.Job.{layered, bypass}
-use Rattle.mean_rows.specs.Alias.{alias}
+use Rattle.layer_rows.specs.Alias.{alias}
 use Rattle.run_rows.specs.Written.{written}
 
 abbrev pub three_casts : List ScriptEvent

@@ -12,7 +12,7 @@ use Rattle.job_mean.specs.Job.{layered, bypass}
 use Rattle.run_mean.specs.Common.{case_of}
 use Rattle.run_mean.specs.Report.{run_of}
 use Rattle.run_mean.specs.World.{Did, taken}
-use Rattle.mean_rows.specs.Fork.{flip}
+use Rattle.layer_rows.specs.Fork.{flip}
 use Rattle.run_rows.specs.Written.{written}
 
 abbrev pub three_casts : List ScriptEvent

@@ -5,9 +5,9 @@ use Rattle.layer_ast.specs.Tree.{FileTree}
 use Rattle.script_mean.specs.declared.event.ScriptEvent.{ScriptEvent}
 use Rattle.script_mean.specs.declared.event.ScriptEvent.TheVariants as script
 use Rattle.file_mean.specs.Stack.{stack_of}
-use Rattle.library_trees.specs.Bottom as bottom
-use Rattle.library_trees.specs.Mnak as mnak
-use Rattle.library_trees.specs.Frag as frag
+use Rattle.library_rows.specs.Bottom as bottom
+use Rattle.library_rows.specs.Mnak as mnak
+use Rattle.library_rows.specs.Frag as frag
 use Rattle.run_rows.specs.Written.{reported}
 
 -- The file `stack { bottom; mnak; frag(piece = 2); }`.

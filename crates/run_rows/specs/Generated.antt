@@ -6,7 +6,7 @@ use Rattle.script_mean.specs.Generate.{generate}
 use Rattle.stack_mean.specs.Plans.{plans_of}
 use Rattle.job_mean.specs.Job.{Mode, layered, bypass}
 use Rattle.run_mean.specs.Tally.{tally, accepted_lines}
-use Rattle.mean_rows.specs.Counter.{counter}
+use Rattle.layer_rows.specs.Counter.{counter}
 
 -- One event of one member, which gives a packet that there isn't.
 abbrev pub OneEvent : Type 0

@@ -4,8 +4,8 @@ use Rattle.layer_ast.specs.declared.tokens.Dir.TheVariants.{Up, Down}
 use Rattle.layer_ast.specs.declared.tokens.Kind.TheVariants as kind
 use Rattle.layer_mean.specs.Tree.{number, emit, always, LayerTree}
 use Rattle.script_mean.specs.declared.event.ScriptEvent.TheVariants as script
-use Rattle.mean_rows.specs.Keeper.{keeper}
-use Rattle.mean_rows.specs.Words.{handler}
+use Rattle.layer_rows.specs.Keeper.{keeper}
+use Rattle.layer_rows.specs.Words.{handler}
 use Rattle.run_rows.specs.Written.{reported}
 
 abbrev pub quit : LayerTree

@@ -8,7 +8,7 @@ use Rattle.script_mean.specs.declared.plan.NodePlan.{NodePlan}
 use Rattle.stack_mean.specs.Plans.{plans_of}
 use Rattle.job_mean.specs.Job.{bypass}
 use Rattle.run_mean.specs.Journal.{Heard, datagram, silence, failure, Note, fed, deaf, notes_of, journal, handed, node_run, note_lines, node_lines}
-use Rattle.mean_rows.specs.Counter.{counter}
+use Rattle.layer_rows.specs.Counter.{counter}
 
 -- Members 0 and 1 are the node's own. The cast of member 2 is another node's.
 abbrev pub plan : NodePlan

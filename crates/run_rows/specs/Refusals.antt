@@ -1,7 +1,7 @@
 -- What a member of the counter stack refuses.
 use Rattle.std.specs.Prelude.{◌≡◌, ℕ, List, [], ◌∷◌, ◌++◌, codes, map, replicate}
 use Rattle.script_mean.specs.declared.event.ScriptEvent.TheVariants as script
-use Rattle.mean_rows.specs.Counter.{counter}
+use Rattle.layer_rows.specs.Counter.{counter}
 use Rattle.run_rows.specs.Written.{reported}
 
 -- The bytes of a number.

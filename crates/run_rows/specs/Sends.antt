@@ -6,8 +6,8 @@ use Rattle.layer_mean.specs.Tree.{number, local, each, emit, always, LayerTree}
 use Rattle.script_mean.specs.declared.event.ScriptEvent.{ScriptEvent}
 use Rattle.script_mean.specs.declared.event.ScriptEvent.TheVariants as script
 use Rattle.job_mean.specs.Job.{layered, bypass}
-use Rattle.mean_rows.specs.Counter.{counter}
-use Rattle.mean_rows.specs.Words.{cast_down, block, handler}
+use Rattle.layer_rows.specs.Counter.{counter}
+use Rattle.layer_rows.specs.Words.{cast_down, block, handler}
 use Rattle.run_rows.specs.Written.{written}
 
 -- A send to rank 1, given to rank 2 and to rank 1; and two sends that have nobody to go to.

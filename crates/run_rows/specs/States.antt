@@ -2,8 +2,8 @@
 use Rattle.std.specs.Prelude.{[], ◌∷◌}
 use Rattle.layer_mean.specs.Visit.{fresh}
 use Rattle.packet_mean.specs.ChainedState.{IsChainedState}
-use Rattle.mean_rows.specs.Counter.{counter, due}
-use Rattle.mean_rows.specs.Keeper.{keeper, holding}
+use Rattle.layer_rows.specs.Counter.{counter, due}
+use Rattle.layer_rows.specs.Keeper.{keeper, holding}
 
 -- The counter's first state and a later one, and that of a layer whose queue is full.
 abbrev pub AreChained : Type 0

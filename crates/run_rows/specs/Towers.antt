@@ -4,7 +4,7 @@ use Rattle.script_mean.specs.declared.event.ScriptEvent.{ScriptEvent}
 use Rattle.script_mean.specs.declared.event.ScriptEvent.TheVariants as script
 use Rattle.layer_mean.specs.Tree.{LayerTree}
 use Rattle.job_mean.specs.Job.{Mode, layered, bypass}
-use Rattle.mean_rows.specs.Tower.{bottom, counting, loopback, total}
+use Rattle.layer_rows.specs.Tower.{bottom, counting, loopback, total}
 use Rattle.run_rows.specs.Written.{written}
 
 abbrev pub one_cast : List ScriptEvent

@@ -6,11 +6,11 @@ use Rattle.layer_ast.specs.Tree.{FileTree}
 use Rattle.script_mean.specs.declared.event.ScriptEvent.{ScriptEvent}
 use Rattle.script_mean.specs.declared.event.ScriptEvent.TheVariants as script
 use Rattle.file_mean.specs.Stack.{stack_of}
-use Rattle.library_trees.specs.Suspect as suspect
-use Rattle.library_trees.specs.Elect as elect
-use Rattle.library_trees.specs.Sync as sync
-use Rattle.library_trees.specs.Intra as intra
-use Rattle.library_trees.specs.Top as top
+use Rattle.library_rows.specs.Suspect as suspect
+use Rattle.library_rows.specs.Elect as elect
+use Rattle.library_rows.specs.Sync as sync
+use Rattle.library_rows.specs.Intra as intra
+use Rattle.library_rows.specs.Top as top
 use Rattle.run_rows.specs.Written.{reported}
 
 -- The file `stack { suspect; elect; sync; intra; top; }`, and its stack.

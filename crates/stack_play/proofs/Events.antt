@@ -15,9 +15,9 @@ use Rattle.run_mean.specs.Member.{Member, inside, out, Output, Input, cast, send
 use Rattle.run_mean.specs.Report.{mode_if, moment_lines, visits_in}
 use Rattle.run_mean.specs.World as world
 use Rattle.run_mean.specs.World.{World, Happening, happens, here_of, member_at, packet_number, stepped_inside, stepped_of, given}
-use Rattle.sink_lines.specs.Lines.{Wrote}
-use Rattle.sink_lines.specs.Tells.{Tells}
-use Rattle.sink_lines.proofs.Turns.{wrote_as}
+use Rattle.outside.specs.Lines.{Wrote}
+use Rattle.outside.specs.Tells.{Tells}
+use Rattle.outside.proofs.Turns.{wrote_as}
 use Rattle.view_core.specs.Happenings.{DidIs}
 use Rattle.view_core.specs.declared.step.Did.{Did}
 use Rattle.view_core.specs.declared.step.Did.TheVariants.{Stepped, Absent, Shown}

@@ -12,9 +12,9 @@ use Rattle.script_mean.specs.declared.event.ScriptEvent.{ScriptEvent}
 use Rattle.script_mean.specs.declared.script.Script.{Script}
 use Rattle.stack_mean.specs.Plan.{Plan}
 use Rattle.run_mean.specs.Report.{Moment, mode_if, moment_lines, run_of, visits_of}
-use Rattle.sink_lines.specs.Lines.{Gains, Wrote}
-use Rattle.sink_lines.specs.Tells.{Tells}
-use Rattle.sink_lines.proofs.Gaining.{gains_none, gains_then, cut_short}
+use Rattle.outside.specs.Lines.{Gains, Wrote}
+use Rattle.outside.specs.Tells.{Tells}
+use Rattle.outside.proofs.Gaining.{gains_none, gains_then, cut_short}
 use Rattle.run_mean.specs.World.{first_world, happens}
 use Rattle.run_mean.specs.Report.{moments}
 use Rattle.world_core.specs.Standing.{Stands}

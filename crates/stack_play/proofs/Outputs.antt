@@ -10,8 +10,8 @@ use Rattle.program_mean.specs.Output.{HasRoom}
 use Rattle.script_mean.specs.declared.script.Script.{Script}
 use Rattle.stack_mean.specs.Plan.{Plan}
 use Rattle.run_mean.specs.Report.{end_line, output_in, run_of}
-use Rattle.sink_lines.specs.Lines.{Wrote}
-use Rattle.sink_lines.specs.Tells.{Tells}
+use Rattle.outside.specs.Lines.{Wrote}
+use Rattle.outside.specs.Tells.{Tells}
 use Rattle.stack_play.specs.Play.{Plays, cut_short}
 use Rattle.stack_play.specs.Turns.{visits_if}
 use Rattle.stack_play.proofs.Held.{lines_at, visits_at}

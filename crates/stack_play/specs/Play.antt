@@ -4,8 +4,8 @@ use Rattle.std.specs.List.{concat}
 use Rattle.layer_mean.specs.Tree.{LayerTree}
 use Rattle.stack_mean.specs.Acceptance.{rows_of, most_rows}
 use Rattle.program_mean.specs.Output.{HasRoom}
-use Rattle.sink_lines.specs.Tells.{Tells}
-use Rattle.sink_lines.specs.Lines.{Begins, Gains, Fails}
+use Rattle.outside.specs.Tells.{Tells}
+use Rattle.outside.specs.Lines.{Begins, Gains, Fails}
 use Rattle.outside.specs.declared.sink.SinkError.{SinkError}
 use Rattle.outside.specs.declared.sink.SinkError.TheVariants as sink
 use Rattle.stack_play.specs.declared.error.PlayError.{PlayError}

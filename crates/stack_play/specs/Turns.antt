@@ -9,8 +9,8 @@ use Rattle.stack_mean.specs.Plan.{Plan}
 use Rattle.job_mean.specs.Job.{layered}
 use Rattle.run_mean.specs.Report.{Moment, mode_if, moment_lines, visits_in, visits_line}
 use Rattle.run_mean.specs.World.{World, first_world, happens}
-use Rattle.sink_lines.specs.Lines.{Gains, Wrote}
-use Rattle.sink_lines.specs.Tells.{Tells}
+use Rattle.outside.specs.Lines.{Gains, Wrote}
+use Rattle.outside.specs.Tells.{Tells}
 use Rattle.report_text.specs.Counts.{counts_of}
 use Rattle.report_text.specs.declared.counts.Counts.{Counts}
 use Rattle.world_core.specs.Standing.{Stands}

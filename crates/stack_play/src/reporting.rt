@@ -11,8 +11,8 @@ ghost use Rattle.packet_plans.specs.Trees.{plans_tree};
 ghost use Rattle.job_mean.specs.Job.{layered};
 ghost use Rattle.run_mean.specs.Report.{end_line, mode_if, moment_lines, output_in, run_of, visits_of};
 ghost use Rattle.run_mean.specs.World as mean;
-ghost use Rattle.sink_lines.specs.Lines.{Wrote};
-ghost use Rattle.sink_lines.specs.Tells.{tells_of};
+ghost use Rattle.outside.specs.Lines.{Wrote};
+ghost use Rattle.outside.specs.Tells.{tells_of};
 ghost use Rattle.world_core.specs.Standing.{Stands};
 ghost use Rattle.stack_play.specs.Play.{Plays, most_events};
 ghost use Rattle.stack_play.specs.Turns.{IsAtFirst, IsReady, Keeps, SomeWorld, TellsEvent, visits_if};
@@ -86,7 +86,7 @@ fn write_report<O: Sink>(
 }
 
 /// Writes the last lines of a report.
-#[tactic(auto, using(sink_lines::proofs::Turns::part_of, sink_lines::proofs::Turns::wrote_both))]
+#[tactic(auto, using(outside::proofs::Turns::part_of, outside::proofs::Turns::wrote_both))]
 fn write_last<O: Sink>(
     pen: &mut Pen,
     events: u64,

@@ -26,10 +26,10 @@ use Rattle.weight_laws.proofs.Costs.{follows}
 use Rattle.packet_mean.specs.ChainedState.{IsFrom, Brings}
 use Rattle.chain_laws.specs.Runs.{IsChainedTask, task_place}
 use Rattle.chain_laws.proofs.Runs.{chains_are_short}
-use Rattle.orderly_laws.proofs.Orderly.{chained_is_known, typed_is_orderly}
+use Rattle.chain_laws.proofs.Orderly.{chained_is_known, typed_is_orderly}
 use Rattle.layer_desk.specs.Need.{Layout, headers_of, most_above}
-use Rattle.layer_room.specs.Laws.{FitsNode, task_need}
-use Rattle.layer_room.proofs.Nodes.{nodes_cover_needs}
+use Rattle.desk_needs.specs.Laws.{FitsNode, task_need}
+use Rattle.desk_needs.proofs.Nodes.{nodes_cover_needs}
 use Rattle.pool_message.specs.Seen.{body_refs, refs_if, event_refs, event_seen}
 use Rattle.pool_message.specs.Sent.{sent_refs}
 use Rattle.pool_message.specs.declared.event.PoolEvent.{PoolEvent}

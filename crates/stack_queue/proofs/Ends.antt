@@ -18,7 +18,7 @@ use Rattle.weight_laws.proofs.Queue.{run_done}
 use Rattle.weight_laws.proofs.Runs.{runs_end}
 use Rattle.chain_laws.specs.Runs.{TypedStack, AreChainedStates, IsChainedTask, IsChainedLine}
 use Rattle.chain_laws.proofs.Runs.{runs_keep_chains}
-use Rattle.orderly_laws.proofs.Orderly.{chained_is_known, typed_is_orderly}
+use Rattle.chain_laws.proofs.Orderly.{chained_is_known, typed_is_orderly}
 use Rattle.msg_core.specs.Headers.{most_places}
 use Rattle.layer_eval.specs.Did.{as_predicted}
 use Rattle.pool_message.specs.Seen.{event_refs, EventLies}

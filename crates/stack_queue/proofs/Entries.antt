@@ -8,7 +8,7 @@ use Rattle.weight_laws.specs.Nodes.{task_node}
 use Rattle.weight_laws.proofs.Members.{In, in_map}
 use Rattle.weight_laws.proofs.Runs.{entering}
 use Rattle.weight_laws.proofs.Visits.{at_most_largest}
-use Rattle.orderly_laws.proofs.Orderly.{chained_is_known}
+use Rattle.chain_laws.proofs.Orderly.{chained_is_known}
 use Rattle.stack_queue.specs.Laws.{EntriesFit, StacksFit}
 
 pub entries_fit : EntriesFit

@@ -13,7 +13,7 @@ use Rattle.weight_laws.specs.Runs.{pending_weight, pending_joins, turn_joins, Is
 use Rattle.weight_laws.proofs.Runs.{turns_lighten, turns_join_less}
 use Rattle.chain_laws.specs.Runs.{TypedStack, IsChainedTask, IsChainedLine}
 use Rattle.chain_laws.proofs.Runs.{turns_keep_chains}
-use Rattle.orderly_laws.proofs.Orderly.{chained_is_known, typed_is_orderly}
+use Rattle.chain_laws.proofs.Orderly.{chained_is_known, typed_is_orderly}
 use Rattle.stack_queue.proofs.Refs.{all_right, all_as}
 
 module _ (stack : List LayerTree) (typed : TypedStack stack) (off : first_on_cycle stack ≡ None) (w : Work) (t : Task Event) (rest : List (Task Event))

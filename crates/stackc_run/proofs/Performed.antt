@@ -6,8 +6,8 @@ use Rattle.outside.specs.Shelf.{Shelved}
 use Rattle.job_mean.specs.Job.{Job, layered, bypass, check, synth, replay, load, node, audit, job_of_words}
 use Rattle.job_mean.specs.Status.{Ended, words_refused, no_memory}
 use Rattle.program_laws.specs.OneEnd.{IsAlone}
-use Rattle.sink_lines.specs.Said.{Errors}
-use Rattle.sink_lines.specs.Tells.{Tells}
+use Rattle.outside.specs.Said.{Errors}
+use Rattle.outside.specs.Tells.{Tells}
 use Rattle.job_ends.specs.Comes.{Around, surrounding, NoJob}
 use Rattle.job_ends.specs.Due.{Due}
 use Rattle.job_ends.specs.Shown.{Said}

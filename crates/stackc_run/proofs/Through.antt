@@ -6,8 +6,8 @@ use Rattle.outside.proofs.Appended.{appends_keeps}
 use Rattle.outside.specs.Shelf.{Shelved}
 use Rattle.job_mean.specs.Job.{Job, job_of_words}
 use Rattle.job_mean.specs.Status.{Ended, done, breached, file_refused, report_refused, words_refused, second_refused, read_failed, write_failed, link_failed, no_memory}
-use Rattle.sink_lines.specs.Said.{errors}
-use Rattle.sink_lines.specs.Tells.{Tells}
+use Rattle.outside.specs.Said.{errors}
+use Rattle.outside.specs.Tells.{Tells}
 use Rattle.job_ends.specs.Comes.{Around, surrounding, NoJob, Whole, Comes}
 use Rattle.job_ends.proofs.Due.{Finished, well, breach, finished}
 use Rattle.node_loop.specs.Serve.{MadeAllTurns}

@@ -11,8 +11,8 @@ use Rattle.job_mean.specs.Status.{Ended, done, breached, file_refused, report_re
 use Rattle.run_mean.specs.Journal.{node_lines}
 use Rattle.program_mean.specs.Headline.{node_words}
 use Rattle.program_mean.specs.Output.{IsNode, Surroundings, failed, noted, played}
-use Rattle.sink_lines.specs.Said.{errors}
-use Rattle.sink_lines.specs.Tells.{Tells}
+use Rattle.outside.specs.Said.{errors}
+use Rattle.outside.specs.Tells.{Tells}
 use Rattle.job_ends.specs.Comes.{Good, surrounding}
 use Rattle.job_ends.specs.Shown.{Said}
 use Rattle.node_loop.specs.Serve.{MadeAllTurns}

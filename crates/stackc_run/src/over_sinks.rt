@@ -2,8 +2,8 @@
 
 ghost use Rattle.std.specs.Prelude.{map};
 ghost use Rattle.std.specs.String.{string_bytes};
-ghost use Rattle.sink_lines.specs.Said.{errors};
-ghost use Rattle.sink_lines.specs.Tells.{tells_of};
+ghost use Rattle.outside.specs.Said.{errors};
+ghost use Rattle.outside.specs.Tells.{tells_of};
 ghost use Rattle.job_ends.specs.Comes.{around};
 ghost use Rattle.node_jobs.specs.Comes.{beyond};
 ghost use Rattle.stackc_run.specs.Performed.{Does};

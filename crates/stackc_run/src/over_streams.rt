@@ -5,7 +5,7 @@ ghost use Rattle.std.specs.String.{string_bytes};
 ghost use Rattle.outside.specs.Stream.{stream_of};
 ghost use Rattle.job_mean.specs.Job.{job_of_words};
 ghost use Rattle.job_ends.specs.Shown.{shown};
-ghost use Rattle.sink_lines.specs.Tells.{tells};
+ghost use Rattle.outside.specs.Tells.{tells};
 ghost use Rattle.node_jobs.specs.Comes.{beyond};
 ghost use Rattle.stackc_run.specs.Through.{RunsThrough, Delivers, HandsOn, IsWhole, closed, stream};
 

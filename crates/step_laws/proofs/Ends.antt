@@ -16,7 +16,7 @@ use Rattle.chain_laws.proofs.Runs.{turns_keep_chains, runs_keep_chains}
 use Rattle.weight_laws.specs.Nodes.{IsKnown}
 use Rattle.weight_laws.specs.Runs.{StaysKnown, Enters}
 use Rattle.weight_laws.proofs.Runs.{runs_end}
-use Rattle.orderly_laws.proofs.Orderly.{typed_is_orderly, chained_is_known}
+use Rattle.chain_laws.proofs.Orderly.{typed_is_orderly, chained_is_known}
 use Rattle.step_laws.specs.Steps.{ChainedTurns, ChainedLines, StepsEnd}
 use Rattle.step_laws.proofs.Wires.{first_is}
 

@@ -4,3 +4,6 @@ pub mod Ends
 pub mod Numbered
 pub mod Nodes
 pub mod SmallStacks
+pub mod Outputs
+pub mod Lists
+pub mod Fit

@@ -8,7 +8,7 @@ use Rattle.layer_mean.specs.Visit.{step}
 use Rattle.stack_mean.specs.Shape.{drawn_shape, has_second_case}
 use Rattle.file_mean.specs.CounterFile as counter
 use Rattle.run_mean.specs.World.{happens}
-use Rattle.plan_laws.specs.Samples.{first_of_two}
+use Rattle.step_laws.specs.PlanSamples.{first_of_two}
 use Rattle.chain_laws.specs.Runs.{TypedStack}
 use Rattle.file_laws.proofs.SmallFiles.{counter_is_typed}
 use Rattle.member_laws.specs.Members.{IsView}

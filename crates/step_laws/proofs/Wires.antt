@@ -9,8 +9,8 @@ use Rattle.stack_mean.specs.Plan.{Plan}
 use Rattle.stack_mean.specs.Plans.{plans_of}
 use Rattle.run_mean.specs.Common.{plan_behind, with_plans, short_from, as_sent}
 use Rattle.run_mean.specs.Member.{Entered, Output, deliver_cast, deliver_send, block, announce, packet, nowhere, timer, quiet, packet_in, first_task, step_from}
-use Rattle.plan_laws.specs.Law.{WireSpells, IsBare}
-use Rattle.plan_laws.proofs.Fit.{predicted_packets_fit, short_wires_spell}
+use Rattle.step_laws.specs.Fit.{WireSpells, IsBare}
+use Rattle.step_laws.proofs.Fit.{predicted_packets_fit, short_wires_spell}
 use Rattle.chain_laws.specs.Runs.{IsChainedTask}
 use Rattle.member_laws.proofs.Members.{each_of, all_of, first_tasks_are_chained, steps_keep_chains}
 use Rattle.step_laws.specs.Steps.{IsStep, PacketsFit, WireIsSpelled, WiresAreSpelled}

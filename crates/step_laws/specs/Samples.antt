@@ -19,7 +19,7 @@ use Rattle.run_mean.specs.Member.{Entered, app_cast, first_task, Step, step_from
 use Rattle.run_mean.specs.World.{World, first_world, happens}
 use Rattle.run_mean.specs.Report.{moments}
 use Rattle.shape_laws.specs.Parts.{layer_reads_no_part}
-use Rattle.plan_laws.specs.Samples.{first_of_two}
+use Rattle.step_laws.specs.PlanSamples.{first_of_two}
 use Rattle.weight_laws.specs.Visits.{task_weight}
 use Rattle.member_laws.specs.Members.{IsChainedWorld, IsChainedMoment}
 use Rattle.step_laws.specs.Steps.{IsStep}

@@ -17,7 +17,7 @@ use Rattle.run_mean.specs.Common.{as_sent, wire}
 use Rattle.run_mean.specs.Member.{Entered, Output, packet, first_task, most_turns, Step, step_from}
 use Rattle.shape_laws.specs.Bare.{BareRun}
 use Rattle.shape_laws.specs.Law.{run_start}
-use Rattle.plan_laws.specs.Law.{FitsItsPlan}
+use Rattle.step_laws.specs.Fit.{FitsItsPlan}
 use Rattle.chain_laws.specs.Runs.{TypedStack, AreChainedStates, IsChainedTask, IsChainedLine}
 use Rattle.weight_laws.specs.Runs.{run_joins, IsTurn, IsLine}
 use Rattle.weight_laws.specs.Visits.{task_weight, task_joins}

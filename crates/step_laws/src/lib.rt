@@ -7,6 +7,8 @@ pub mod samples;
 ghost use Rattle.step_laws.specs.Nodes.{NodesAreChained};
 ghost use Rattle.step_laws.specs.Plans.{InputsAreInRange, PlansAreNumbered, WorldsAreChained};
 ghost use Rattle.step_laws.specs.Steps.{ChainedLines, ChainedTurns, PacketsFit, StepsEnd, TypedRunsAreBare, WiresAreSpelled};
+ghost use Rattle.step_laws.specs.Fit.{PredictedPacketsFit, ShortWiresSpell};
+ghost use Rattle.step_laws.specs.PlanSamples.{KeptStepIsShort};
 
 /// Parts that a run of a typed stack reads have no headers.
 pub fn typed_runs_are_bare()
@@ -56,4 +58,20 @@ pub fn worlds_are_chained()
 /// The world of a node is chained at each event of its journal.
 pub fn nodes_are_chained()
     ensures { NodesAreChained }
+{}
+
+/// Each packet of a step that is sent short fits the plan under which it is.
+pub fn predicted_packets_fit()
+    ensures { PredictedPacketsFit }
+{}
+
+/// What is sent of a packet that can be spelled spells it, short or in full.
+pub fn short_wires_spell()
+    ensures { ShortWiresSpell }
+{}
+
+/// A cast over four layers whose packet is sent short, by evaluation.
+#[tactic(auto, unfolding(layer_mean::specs::Visit::step, layer_mean::specs::Queue::run, stack_mean::specs::Shape::drawn_shape, stack_mean::specs::Shape::has_second_case))]
+pub fn kept_step_is_short()
+    ensures { KeptStepIsShort }
 {}

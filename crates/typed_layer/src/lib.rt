@@ -4,12 +4,14 @@
 #![tactic(auto)]
 
 mod handlers;
+mod operators;
 #[cfg(test)]
 mod tests;
 mod tree;
 mod typed;
 
 pub use handlers::{Handlers, MOST_HANDLERS};
+pub use operators::{applied, applied_to};
 pub use tree::{
     Blank, Block, Carried, Cell, Content, Emission, Expected, Expression, Form, Handler,
     HeaderForm, ItemMessage, Items, MessageExpression, Numbers, Row, Statement, Taken,

@@ -19,7 +19,7 @@ use crate::packets::Packets;
 use bypass_member::{Member, OpenError, Opening};
 use event_graph::Stack;
 use file_layer::Maker;
-use member_shown::Shown;
+use member_reads::Shown;
 use msg_core::Memory;
 use packet_plans::Plans;
 use script_mean::ScriptEvent;
@@ -43,7 +43,7 @@ impl Model for World {
     ghost use Rattle.std.specs.Prelude.{map};
     ghost use Rattle.std.specs.Coded.{codes};
     ghost use Rattle.std.specs.Rc.{rc_value};
-    ghost use Rattle.tree_codes.specs.Codes.{stack_code};
+    ghost use Rattle.layer_mean.specs.Codes.{stack_code};
     ghost use Rattle.event_graph.specs.Answer.{stack_tree};
     ghost use Rattle.packet_plans.specs.Trees.{plans_tree};
     ghost use Rattle.world_core.specs.Seats.{member_of, AreSeated};

@@ -4,11 +4,11 @@ use lib.Count.{ones, ones_in, count_trailing_zeros}
 use Rattle.hex.proofs.OnLiterals.{hex_on_literals}
 use Rattle.layer_ast.specs.Reader.{file_of}
 use Rattle.layer_ast.proofs.Laid.{fits_laid}
-use Rattle.layer_lib.specs.Library.{library}
-use Rattle.layer_lib.specs.Reliable.{bottom, mnak, pt2pt}
-use Rattle.layer_lib.specs.Flow.{pt2ptw, mflow, frag}
-use Rattle.layer_lib.specs.Order.{collect, stable, local, total}
-use Rattle.layer_lib.specs.Membership.{suspect, elect, sync, intra, top}
+use Rattle.file_library.specs.Library.{library}
+use Rattle.file_library.specs.Reliable.{bottom, mnak, pt2pt}
+use Rattle.file_library.specs.Flow.{pt2ptw, mflow, frag}
+use Rattle.file_library.specs.Order.{collect, stable, local, total}
+use Rattle.file_library.specs.Membership.{suspect, elect, sync, intra, top}
 use Rattle.layer_mean.specs.Visit.{step}
 use Rattle.layer_mean.specs.Queue.{run}
 use Rattle.stack_mean.specs.Shape.{drawn_shape, has_second_case}
@@ -17,22 +17,22 @@ use Rattle.file_mean.specs.Layers.{handler_of, layer_of}
 use Rattle.file_mean.specs.Stack.{stack_of}
 use Rattle.run_mean.specs.World.{happens}
 use Rattle.run_mean.specs.Report.{report_lines, output_in}
-use Rattle.library_trees.proofs.Texts.Bottom as bottom_text
-use Rattle.library_trees.proofs.Texts.Mnak as mnak_text
-use Rattle.library_trees.proofs.Texts.Pt2pt as pt2pt_text
-use Rattle.library_trees.proofs.Texts.Pt2ptw as pt2ptw_text
-use Rattle.library_trees.proofs.Texts.Mflow as mflow_text
-use Rattle.library_trees.proofs.Texts.Frag as frag_text
-use Rattle.library_trees.proofs.Texts.Collect as collect_text
-use Rattle.library_trees.proofs.Texts.Stable as stable_text
-use Rattle.library_trees.proofs.Texts.Local as local_text
-use Rattle.library_trees.proofs.Texts.Total as total_text
-use Rattle.library_trees.proofs.Texts.Suspect as suspect_text
-use Rattle.library_trees.proofs.Texts.Elect as elect_text
-use Rattle.library_trees.proofs.Texts.Sync as sync_text
-use Rattle.library_trees.proofs.Texts.Intra as intra_text
-use Rattle.library_trees.proofs.Texts.Top as top_text
-use Rattle.library_trees.specs.WholeStack as whole
+use Rattle.library_rows.proofs.Texts.Bottom as bottom_text
+use Rattle.library_rows.proofs.Texts.Mnak as mnak_text
+use Rattle.library_rows.proofs.Texts.Pt2pt as pt2pt_text
+use Rattle.library_rows.proofs.Texts.Pt2ptw as pt2ptw_text
+use Rattle.library_rows.proofs.Texts.Mflow as mflow_text
+use Rattle.library_rows.proofs.Texts.Frag as frag_text
+use Rattle.library_rows.proofs.Texts.Collect as collect_text
+use Rattle.library_rows.proofs.Texts.Stable as stable_text
+use Rattle.library_rows.proofs.Texts.Local as local_text
+use Rattle.library_rows.proofs.Texts.Total as total_text
+use Rattle.library_rows.proofs.Texts.Suspect as suspect_text
+use Rattle.library_rows.proofs.Texts.Elect as elect_text
+use Rattle.library_rows.proofs.Texts.Sync as sync_text
+use Rattle.library_rows.proofs.Texts.Intra as intra_text
+use Rattle.library_rows.proofs.Texts.Top as top_text
+use Rattle.library_rows.specs.WholeStack as whole
 use Rattle.program_rows.proofs.checks_library.Goals as goal
 
 pub returns : goal.returns

@@ -5,7 +5,7 @@ use lib.Count.{ones, ones_in, count_trailing_zeros}
 use Rattle.hex.proofs.OnLiterals.{hex_on_literals}
 use Rattle.layer_ast.specs.Reader.{file_of}
 use Rattle.layer_ast.proofs.Laid.{fits_laid}
-use Rattle.layer_lib.specs.Library.{library}
+use Rattle.file_library.specs.Library.{library}
 use Rattle.layer_mean.specs.Visit.{step}
 use Rattle.layer_mean.specs.Queue.{run}
 use Rattle.stack_mean.specs.Shape.{drawn_shape, has_second_case}

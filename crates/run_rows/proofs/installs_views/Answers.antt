@@ -4,7 +4,7 @@ use Rattle.std.specs.Fmt.{digits}
 use lib.Count.{ones, ones_in, count_trailing_zeros}
 use Rattle.hex.proofs.OnLiterals.{hex_on_literals}
 use Rattle.layer_ast.specs.Reader.{file_of}
-use Rattle.layer_lib.specs.Membership.{suspect, elect, sync, intra, top}
+use Rattle.file_library.specs.Membership.{suspect, elect, sync, intra, top}
 use Rattle.layer_mean.specs.Visit.{step}
 use Rattle.layer_mean.specs.Queue.{run}
 use Rattle.stack_mean.specs.Shape.{drawn_shape, has_second_case}

@@ -1,8 +1,8 @@
 use Rattle.std.proofs.Common.{◌≡◌, ◌+◌, min, vec_capacity, rules, arith, ap, ◌∙◌}
 use Rattle.circular_buffer.specs.Buffer.{Buffer}
 use Rattle.typed_layer.specs.View.{layer_tree}
-use Rattle.layer_room.specs.Layouts as room
-use Rattle.layer_room.specs.declared.reserve.Reserve.{Reserve}
+use Rattle.desk_needs.specs.Layouts as room
+use Rattle.desk_needs.specs.declared.reserve.Reserve.{Reserve}
 use Rattle.pool_message.specs.Tray.{OnTray}
 use Rattle.pool_message.specs.declared.message.PoolMessage.{PoolMessage}
 use Rattle.file_layer.specs.declared.desk.FileDesk.{FileDesk}

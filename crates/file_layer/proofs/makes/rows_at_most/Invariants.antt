@@ -1,7 +1,7 @@
 use Rattle.std.proofs.Common.{◌≡◌, ◌≤◌, map, take}
 use Rattle.layer_mean.specs.Tree.{CellTree}
 use Rattle.typed_layer.specs.View.{cell_tree}
-use Rattle.layer_room.specs.Layouts.{rows_kept}
+use Rattle.desk_needs.specs.Layouts.{rows_kept}
 use Rattle.file_layer.specs.Fits.{rows_most}
 use Rattle.file_layer.proofs.makes.rows_at_most.Given as goal
 

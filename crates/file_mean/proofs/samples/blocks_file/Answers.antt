@@ -1,7 +1,7 @@
 use Rattle.std.proofs.Common.{refl}
 use Rattle.layer_ast.specs.Reader.{file_of}
 use Rattle.layer_ast.proofs.Laid.{fits_laid}
-use Rattle.layer_lib.specs.Library.{library}
+use Rattle.file_library.specs.Library.{library}
 use Rattle.file_mean.specs.Layers.{handler_of, layer_of}
 use Rattle.file_mean.specs.Stack.{stack_of}
 use Rattle.file_mean.proofs.samples.blocks_file.Goals as goal

@@ -1,6 +1,6 @@
 use Rattle.event_graph.specs.Answer.{stack_tree}
 use Rattle.layer_mean.specs.State.{rows_at}
-use Rattle.member_shown.specs.Shown.{state_shown}
+use Rattle.member_reads.specs.Shown.{state_shown}
 use Rattle.report_lines.proofs.Rows.{in_other_words}
 use Rattle.run_mean.specs.Text.{rows_text}
 use Rattle.typed_layer.specs.View.{layer_tree}

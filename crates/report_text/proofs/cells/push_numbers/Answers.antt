@@ -1,7 +1,7 @@
 use Rattle.std.proofs.Common.{codes, arith, ◌∙◌}
 use Rattle.std.specs.Fmt.{decimal}
 use Rattle.layer_mean.specs.State.{cell_at, numbers_in}
-use Rattle.member_shown.specs.Shown.{state_shown}
+use Rattle.member_reads.specs.Shown.{state_shown}
 use Rattle.report_lines.proofs.Joined.{line_more}
 use Rattle.report_text.proofs.cells.push_numbers.Goals as goal
 

@@ -2,7 +2,7 @@ use Rattle.std.proofs.Common.{◌≡◌, ◌++◌, take, codes}
 use Rattle.std.specs.List.{join_by}
 use Rattle.std.specs.Fmt.{decimal}
 use Rattle.layer_mean.specs.State.{cell_at, numbers_in}
-use Rattle.member_shown.specs.Shown.{state_shown}
+use Rattle.member_reads.specs.Shown.{state_shown}
 use Rattle.report_text.proofs.cells.push_numbers.Given as goal
 
 abbrev pub invariant-loop-k : goal.invariant-loop-k

@@ -1,7 +1,7 @@
 use Rattle.std.proofs.Common.{codes, arith}
 use Rattle.event_graph.specs.Answer.{stack_tree}
 use Rattle.layer_mean.specs.State.{rows_at}
-use Rattle.member_shown.specs.Shown.{state_shown}
+use Rattle.member_reads.specs.Shown.{state_shown}
 use Rattle.run_mean.specs.Text.{row_text}
 use Rattle.report_lines.proofs.Joined.{line_next}
 use Rattle.report_text.specs.Cells.{no_row}

@@ -2,7 +2,7 @@ use Rattle.std.proofs.Common.{ap, sym, ◌∙◌}
 use Rattle.event_graph.specs.Answer.{stack_tree}
 use Rattle.packet_plans.specs.Trees.{plans_tree}
 use Rattle.script_mean.specs.Event.{member_of}
-use Rattle.sink_lines.proofs.Turns.{wrote_as}
+use Rattle.outside.proofs.Turns.{wrote_as}
 use Rattle.report_text.specs.Numbered.{full_annex}
 use Rattle.report_text.specs.Told.{stepped_lines, told_lines}
 use Rattle.report_text.proofs.Numbered.{full_stepped}

@@ -1,8 +1,8 @@
 use Rattle.std.proofs.Common.{sym, ap, ◌∙◌}
 use Rattle.event_graph.specs.Answer.{stack_tree}
-use Rattle.member_shown.specs.Shown.{state_shown}
+use Rattle.member_reads.specs.Shown.{state_shown}
 use Rattle.run_mean.specs.Report.{cell_lines}
-use Rattle.sink_lines.proofs.Turns.{wrote_as}
+use Rattle.outside.proofs.Turns.{wrote_as}
 use Rattle.typed_layer.specs.View.{form_tree, items_tree, layer_tree}
 use Rattle.report_text.proofs.Shown.{queue_cell, queues_cell}
 use Rattle.report_text.proofs.state.write_cell.Goals as goal

@@ -2,9 +2,9 @@ use Rattle.std.proofs.Common.{arith}
 use Rattle.std.proofs.lemmas.List.{length-map}
 use Rattle.std.proofs.lemmas.Result.{err_from_is_err_and}
 use Rattle.event_graph.specs.Answer.{stack_tree}
-use Rattle.member_shown.specs.Shown.{state_shown}
+use Rattle.member_reads.specs.Shown.{state_shown}
 use Rattle.run_mean.specs.Report.{cell_lines}
-use Rattle.sink_lines.proofs.Turns.{turns_cut, turns_done, turns_more}
+use Rattle.outside.proofs.Turns.{turns_cut, turns_done, turns_more}
 use Rattle.typed_layer.specs.View.{cell_tree, layer_tree}
 use Rattle.report_text.proofs.Shown.{mapped_at}
 use Rattle.report_text.proofs.state.write_layer.Goals as goal

@@ -1,10 +1,10 @@
 use Rattle.std.proofs.Common.{take}
 use Rattle.std.specs.List.{enumerate_from, flat_map}
 use Rattle.event_graph.specs.Answer.{stack_tree}
-use Rattle.member_shown.specs.Shown.{state_shown}
+use Rattle.member_reads.specs.Shown.{state_shown}
 use Rattle.run_mean.specs.Report.{cell_lines}
-use Rattle.sink_lines.specs.Lines.{Gains}
-use Rattle.sink_lines.specs.Tells.{tells_of}
+use Rattle.outside.specs.Lines.{Gains}
+use Rattle.outside.specs.Tells.{tells_of}
 use Rattle.typed_layer.specs.View.{layer_tree}
 use Rattle.report_text.proofs.state.write_layer.Given as goal
 

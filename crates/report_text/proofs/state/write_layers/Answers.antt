@@ -2,7 +2,7 @@ use Rattle.std.proofs.Common.{arith, rules}
 use Rattle.std.proofs.lemmas.Result.{err_from_is_err_and}
 use Rattle.event_graph.specs.Answer.{stack_tree}
 use Rattle.layer_mean.specs.Tree.{no_layer}
-use Rattle.sink_lines.proofs.Turns.{turns_cut, turns_done, turns_more}
+use Rattle.outside.proofs.Turns.{turns_cut, turns_done, turns_more}
 use Rattle.typed_layer.specs.View.{layer_tree}
 use Rattle.report_text.specs.Cells.{layer_shown}
 use Rattle.report_text.proofs.state.write_layers.Goals as goal

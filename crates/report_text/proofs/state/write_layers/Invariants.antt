@@ -1,8 +1,8 @@
 use Rattle.std.proofs.Common.{take}
 use Rattle.std.specs.List.{enumerate_from, flat_map}
 use Rattle.event_graph.specs.Answer.{stack_tree}
-use Rattle.sink_lines.specs.Lines.{Gains}
-use Rattle.sink_lines.specs.Tells.{tells_of}
+use Rattle.outside.specs.Lines.{Gains}
+use Rattle.outside.specs.Tells.{tells_of}
 use Rattle.report_text.specs.Cells.{layer_shown}
 use Rattle.report_text.proofs.state.write_layers.Given as goal
 

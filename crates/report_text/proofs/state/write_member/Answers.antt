@@ -1,7 +1,7 @@
 use Rattle.std.proofs.Common.{sym}
 use Rattle.std.proofs.lemmas.Result.{err_from_is_err_and}
 use Rattle.event_graph.specs.Answer.{stack_tree}
-use Rattle.sink_lines.proofs.Turns.{part_of, wrote_as, wrote_both}
+use Rattle.outside.proofs.Turns.{part_of, wrote_as, wrote_both}
 use Rattle.report_text.specs.Cells.{layers_shown}
 use Rattle.report_text.proofs.Shown.{member_inside, member_out}
 use Rattle.report_text.proofs.state.write_member.Goals as goal

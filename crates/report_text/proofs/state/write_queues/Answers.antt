@@ -2,8 +2,8 @@ use Rattle.std.proofs.Common.{[], arith, refl}
 use Rattle.std.proofs.lemmas.Result.{err_from_is_err_and}
 use Rattle.event_graph.specs.Answer.{stack_tree}
 use Rattle.layer_mean.specs.State.{cell_at, queues_in, rows_at}
-use Rattle.member_shown.specs.Shown.{state_shown}
-use Rattle.sink_lines.proofs.Turns.{turns_cut, turns_done, turns_more}
+use Rattle.member_reads.specs.Shown.{state_shown}
+use Rattle.outside.proofs.Turns.{turns_cut, turns_done, turns_more}
 use Rattle.typed_layer.specs.View.{layer_tree}
 use Rattle.report_text.specs.Cells.{one_queue}
 use Rattle.report_text.proofs.state.write_queues.Goals as goal

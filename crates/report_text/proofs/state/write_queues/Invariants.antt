@@ -2,9 +2,9 @@ use Rattle.std.proofs.Common.{take}
 use Rattle.std.specs.List.{enumerate_from, flat_map}
 use Rattle.event_graph.specs.Answer.{stack_tree}
 use Rattle.layer_mean.specs.State.{cell_at, queues_in}
-use Rattle.member_shown.specs.Shown.{state_shown}
-use Rattle.sink_lines.specs.Lines.{Gains}
-use Rattle.sink_lines.specs.Tells.{tells_of}
+use Rattle.member_reads.specs.Shown.{state_shown}
+use Rattle.outside.specs.Lines.{Gains}
+use Rattle.outside.specs.Tells.{tells_of}
 use Rattle.typed_layer.specs.View.{layer_tree}
 use Rattle.report_text.specs.Cells.{one_queue}
 use Rattle.report_text.proofs.state.write_queues.Given as goal

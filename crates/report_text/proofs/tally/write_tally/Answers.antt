@@ -1,6 +1,6 @@
 use Rattle.std.proofs.Common.{◌∷◌, [], refl}
 use Rattle.std.proofs.lemmas.Result.{err_from_is_err_and}
-use Rattle.sink_lines.proofs.Turns.{part_of, wrote_both}
+use Rattle.outside.proofs.Turns.{part_of, wrote_both}
 use Rattle.report_text.specs.Counts.{kinds_line, short_line}
 use Rattle.report_text.proofs.tally.write_tally.Goals as goal
 

@@ -3,7 +3,7 @@ use Rattle.event_graph.specs.Answer.{stack_tree}
 use Rattle.packet_plans.specs.Trees.{plans_tree}
 use Rattle.report_text.proofs.Gained.{counted_tally}
 use Rattle.report_text.specs.Counts.{tally_lines}
-use Rattle.sink_lines.proofs.Turns.{wrote_as}
+use Rattle.outside.proofs.Turns.{wrote_as}
 use Rattle.script_text.specs.Course.{script_for}
 use Rattle.stack_play.proofs.counting.write_counts.Goals as goal
 

@@ -1,6 +1,6 @@
 use Rattle.event_graph.specs.Answer.{stack_tree}
 use Rattle.packet_plans.specs.Trees.{plans_tree}
-use Rattle.sink_lines.specs.Tells.{tells_of}
+use Rattle.outside.specs.Tells.{tells_of}
 use Rattle.stack_play.proofs.Held.{Held}
 use Rattle.stack_play.proofs.reporting.write_events.Given as goal
 

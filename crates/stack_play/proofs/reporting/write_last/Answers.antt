@@ -1,7 +1,7 @@
 use Rattle.std.proofs.Common.{refl, [], ◌∷◌}
 use Rattle.std.proofs.lemmas.Result.{err_from_is_err_and}
 use Rattle.run_mean.specs.Report.{end_line, visits_line}
-use Rattle.sink_lines.proofs.Turns.{part_of, wrote_both}
+use Rattle.outside.proofs.Turns.{part_of, wrote_both}
 use Rattle.stack_play.specs.Turns.{visits_if}
 use Rattle.stack_play.proofs.reporting.write_last.Goals as goal
 

@@ -3,9 +3,9 @@ use Rattle.std.proofs.lemmas.Result.{err_from_is_err_and}
 use Rattle.event_graph.specs.Answer.{stack_tree}
 use Rattle.packet_plans.specs.Trees.{plans_tree}
 use Rattle.run_mean.specs.Report.{end_line}
-use Rattle.sink_lines.specs.Lines.{Wrote}
-use Rattle.sink_lines.specs.Tells.{tells_of}
-use Rattle.sink_lines.proofs.Turns.{part_of, wrote_as, wrote_both}
+use Rattle.outside.specs.Lines.{Wrote}
+use Rattle.outside.specs.Tells.{tells_of}
+use Rattle.outside.proofs.Turns.{part_of, wrote_as, wrote_both}
 use Rattle.stack_play.specs.Turns.{visits_if}
 use Rattle.stack_play.proofs.Outputs.{output_is}
 use Rattle.stack_play.proofs.reporting.write_report.Goals as goal

@@ -2,8 +2,8 @@ use Rattle.std.proofs.Common.{None, subst, refl, map}
 use Rattle.std.specs.String.{string_bytes}
 use Rattle.outside.specs.StdSink.{gathered}
 use Rattle.job_mean.specs.Job.{job_of_words}
-use Rattle.sink_lines.specs.Said.{errors}
-use Rattle.sink_lines.specs.Tells.{tells}
+use Rattle.outside.specs.Said.{errors}
+use Rattle.outside.specs.Tells.{tells}
 use Rattle.job_ends.specs.Comes.{surrounding}
 use Rattle.job_ends.specs.Shown.{shown, Said}
 use Rattle.node_jobs.specs.Comes.{beyond}

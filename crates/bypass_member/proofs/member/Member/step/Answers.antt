@@ -6,7 +6,7 @@ use Rattle.packet_plans.specs.Trees.{plans_tree}
 use Rattle.step_outputs.specs.Gathered.{Gathered}
 use Rattle.view_core.specs.Refusals.{refusal_meant}
 use Rattle.view_core.specs.Steps.{input_meant}
-use Rattle.member_shown.specs.Shown.{member_in}
+use Rattle.member_reads.specs.Shown.{member_in}
 use Rattle.bypass_member.specs.Judged.{entry_meant}
 use Rattle.bypass_member.specs.Placed.{Placed, here_in, step_of, Takes}
 use Rattle.bypass_member.specs.Placing.{placed}

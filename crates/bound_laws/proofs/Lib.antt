@@ -1,4 +1,0 @@
-pub mod Counts
-pub mod Blocks
-pub mod Layers
-pub mod Headers

@@ -1,5 +1,0 @@
-use Rattle.bound_laws.proofs.Headers.{stacks_have_few_headers}
-use Rattle.bound_laws.proofs.stacks_have_few_headers.Goals as goal
-
-pub returns : goal.returns
-returns c = stacks_have_few_headers

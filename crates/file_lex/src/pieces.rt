@@ -1,0 +1,193 @@
+//! The pieces of a text: gaps and tokens.
+ghost use Rattle.std.specs.Prelude.{◌≡◌, ℕ, List, ◌+◌, ◌<◌, ◌≤◌, ◌∷◌, true, false, length, MatchOption, suc, take, not, nat_eq};
+ghost use Rattle.std.specs.Char.{is_ascii_digit};
+ghost use Rattle.std.specs.List.{prefix_len};
+ghost use Rattle.layer_ast.specs.Cut.{piece as piece_of, word_piece, number_piece, symbol_piece};
+ghost use Rattle.layer_ast.specs.Spelling.{number_of, is_blank as is_gap, is_word_byte as goes_on_word};
+ghost use Rattle.file_lex.specs.Pieces.{found, more_of, is_flat, IsFront};
+
+use layer_ast::{LONGEST_WORD, Sign};
+
+/// What a text begins with, and how many bytes of it stand behind its first.
+#[derive(Clone, Copy)]
+pub enum Piece {
+    Gap { behind: usize },
+    Word { behind: usize },
+    Number { value: u32, behind: usize },
+    Symbol { sign: Sign, behind: usize },
+    Bad,
+}
+
+/// The piece that a text begins with, given also as its first byte, which is no blank, and the bytes behind that. It stands in one line.
+#[tactic(auto, unfolding(layer_ast::specs::Cut::piece), using(crate::proofs::Flat::line_flat))]
+pub fn piece_at(behind_number: bool, first: u8, behind: &[u8], text: &[u8]) -> Piece
+    requires text { text.now ≡ first ∷ behind.now }
+    requires no_blank { is_gap first ≡ false }
+    ensures piece { found text.now result ≡ piece_of behind_number first behind.now }
+    ensures front { IsFront text.now result }
+    ensures within { more_of (found text.now result) ≤ length behind.now }
+    ensures flat { is_flat (take (more_of (found text.now result)) behind.now) ≡ true }
+{
+    if first == b'#' {
+        return Piece::Gap {
+            behind: line_length(behind),
+        };
+    }
+    if first.is_ascii_alphabetic() {
+        return if behind_number {
+            Piece::Bad
+        } else {
+            word(first, behind, text)
+        };
+    }
+    if first.is_ascii_digit() {
+        return number(first, behind, text);
+    }
+    symbol(first, behind)
+}
+
+pub fn is_blank(byte: u8) -> bool
+    ensures { result ≡ is_gap byte }
+{
+    matches!(byte, b' ' | b'\t' | b'\r' | b'\n')
+}
+
+fn is_word_byte(byte: u8) -> bool
+    ensures { result ≡ goes_on_word byte }
+{
+    byte.is_ascii_alphanumeric() || byte == b'_'
+}
+
+fn is_in_line(byte: u8) -> bool
+    ensures { result ≡ not (nat_eq byte 10) }
+{
+    byte != b'\n'
+}
+
+/// How many bytes of a line are at the front.
+fn line_length(bytes: &[u8]) -> usize
+    ensures count { result ≡ prefix_len (λ c. not (nat_eq c 10)) bytes.now }
+    ensures within { result ≤ length bytes.now }
+{
+    bytes.iter().take_while(|byte| is_in_line(**byte)).count()
+}
+
+/// How many bytes that go on a word are at the front.
+fn word_length(bytes: &[u8]) -> usize
+    ensures count { result ≡ prefix_len goes_on_word bytes.now }
+    ensures within { result ≤ length bytes.now }
+{
+    bytes.iter().take_while(|byte| is_word_byte(**byte)).count()
+}
+
+/// How many digits are at the front.
+fn digits_length(bytes: &[u8]) -> usize
+    ensures count { result ≡ prefix_len is_ascii_digit bytes.now }
+    ensures within { result ≤ length bytes.now }
+{
+    bytes
+        .iter()
+        .take_while(|byte| byte.is_ascii_digit())
+        .count()
+}
+
+/// The first byte of a text and so many behind it.
+pub fn front(text: &[u8], more: usize) -> &[u8]
+    requires { more < length text.now }
+    ensures { result.now ≡ take (suc more) text.now }
+{
+    &text[..more + 1]
+}
+
+#[tactic(auto, using(crate::proofs::Flat::word_flat))]
+fn word(first: u8, behind: &[u8], text: &[u8]) -> Piece
+    requires { text.now ≡ first ∷ behind.now }
+    ensures piece { found text.now result ≡ word_piece first behind.now }
+    ensures front { IsFront text.now result }
+    ensures within { more_of (found text.now result) ≤ length behind.now }
+    ensures flat { is_flat (take (more_of (found text.now result)) behind.now) ≡ true }
+{
+    let more = word_length(behind);
+    if more >= LONGEST_WORD {
+        return Piece::Bad;
+    }
+    Piece::Word { behind: more }
+}
+
+#[tactic(auto, using(crate::proofs::Flat::number_flat))]
+fn number(first: u8, behind: &[u8], text: &[u8]) -> Piece
+    requires { text.now ≡ first ∷ behind.now }
+    ensures piece { found text.now result ≡ number_piece first behind.now }
+    ensures front { IsFront text.now result }
+    ensures within { more_of (found text.now result) ≤ length behind.now }
+    ensures flat { is_flat (take (more_of (found text.now result)) behind.now) ≡ true }
+{
+    let more = digits_length(behind);
+    if first == b'0' && more > 0 {
+        return Piece::Bad;
+    }
+    match value(front(text, more)) {
+        Some(value) => Piece::Number {
+            value,
+            behind: more,
+        },
+        None => Piece::Bad,
+    }
+}
+
+/// The number that decimal digits spell, where it has 32 bits.
+fn value(digits: &[u8]) -> Option<u32>
+    ensures { MatchOption result (4294967295 < number_of digits.now) (λ n. n ≡ number_of digits.now) }
+{
+    let mut value = 0u32;
+    for digit in digits {
+        let next = 10 * u64::from(value) + u64::from(digit.saturating_sub(b'0'));
+        if next > u64::from(u32::MAX) {
+            return None;
+        }
+        value = next as u32;
+    }
+    Some(value)
+}
+
+#[tactic(auto, unfolding(layer_ast::specs::Spelling::symbol_at, layer_ast::specs::Spelling::symbols))]
+fn symbol(first: u8, behind: &[u8]) -> Piece
+    ensures piece { (text : List ℕ) → found text result ≡ symbol_piece (first ∷ behind.now) }
+    ensures front { (text : List ℕ) → IsFront text result }
+    ensures within { (text : List ℕ) → more_of (found text result) ≤ length behind.now }
+    ensures flat { (text : List ℕ) → is_flat (take (more_of (found text result)) behind.now) ≡ true }
+{
+    let doubled = behind.starts_with(b"=");
+    match first {
+        b'=' if doubled => symbol_of(Sign::Equal, 1),
+        b'!' if doubled => symbol_of(Sign::NotEqual, 1),
+        b'<' if doubled => symbol_of(Sign::LessEqual, 1),
+        b'>' if doubled => symbol_of(Sign::GreaterEqual, 1),
+        b'{' => symbol_of(Sign::LeftBrace, 0),
+        b'}' => symbol_of(Sign::RightBrace, 0),
+        b'(' => symbol_of(Sign::LeftParen, 0),
+        b')' => symbol_of(Sign::RightParen, 0),
+        b'[' => symbol_of(Sign::LeftBracket, 0),
+        b']' => symbol_of(Sign::RightBracket, 0),
+        b',' => symbol_of(Sign::Comma, 0),
+        b';' => symbol_of(Sign::Semicolon, 0),
+        b':' => symbol_of(Sign::Colon, 0),
+        b'.' => symbol_of(Sign::Dot, 0),
+        b'=' => symbol_of(Sign::Assign, 0),
+        b'<' => symbol_of(Sign::Less, 0),
+        b'>' => symbol_of(Sign::Greater, 0),
+        b'+' => symbol_of(Sign::Plus, 0),
+        b'-' => symbol_of(Sign::Minus, 0),
+        b'*' => symbol_of(Sign::Star, 0),
+        b'&' => symbol_of(Sign::Ampersand, 0),
+        b'|' => symbol_of(Sign::Bar, 0),
+        b'^' => symbol_of(Sign::Caret, 0),
+        _ => Piece::Bad,
+    }
+}
+
+fn symbol_of(sign: Sign, behind: usize) -> Piece
+    ensures { result ≡ Piece.Symbol sign behind }
+{
+    Piece::Symbol { sign, behind }
+}

@@ -1,0 +1,97 @@
+-- The layers that hold the flow of messages within bounds: windows, and the size of a packet.
+use Rattle.std.specs.Prelude.{ℕ, List, [], ◌∷◌, codes}
+use Rattle.file_library.specs.Lines.{lines}
+
+-- `pt2ptw`: at most a window of sends to each member that it has not acknowledged
+unfoldable pub pt2ptw : List ℕ
+pt2ptw = lines
+    (codes "layer pt2ptw {"
+    ∷ codes "  param window = 16;"
+    ∷ codes "  state int used[n];"
+    ∷ codes "  state int got[n];"
+    ∷ codes "  state queue wait[n][32] of (m: msg);"
+    ∷ codes "  down Send(p, m) {"
+    ∷ codes "    if (used[p] < window) { set used[p] = (used[p] + 1); down Send(p, m); }"
+    ∷ codes "    else { push wait[p] (m) else { } }"
+    ∷ codes "  }"
+    ∷ codes "  up Ack(p, c) {"
+    ∷ codes "    set used[p] = (used[p] - (c - got[p]));"
+    ∷ codes "    set got[p] = c;"
+    ∷ codes "    each i below (window - used[p]) max 16 {"
+    ∷ codes "      take wait[p] (m) { set used[p] = (used[p] + 1); down Send(p, m); } else { }"
+    ∷ codes "    }"
+    ∷ codes "  }"
+    ∷ codes "}"
+    ∷ [])
+
+-- `mflow`: at most a window of casts beyond the credit of the slowest member
+unfoldable pub mflow : List ℕ
+mflow = lines
+    (codes "layer mflow {"
+    ∷ codes "  param window = 16;"
+    ∷ codes "  state int out;"
+    ∷ codes "  state int low;"
+    ∷ codes "  state int got[n];"
+    ∷ codes "  state int cred[n];"
+    ∷ codes "  state queue wait[32] of (m: msg);"
+    ∷ codes "  header credit(c) ends;"
+    ∷ codes "  down Cast(p, m) {"
+    ∷ codes "    if (((out - low) < window) or (n == 1)) { set out = (out + 1); down Cast(p, m); }"
+    ∷ codes "    else { push wait (m) else { } }"
+    ∷ codes "  }"
+    ∷ codes "  up Cast(o, m) {"
+    ∷ codes "    set got[o] = (got[o] + 1);"
+    ∷ codes "    up Cast(o, m);"
+    ∷ codes "    if rare ((got[o] & 7) == 0) { down Send(o, nothing) with credit(got[o]); }"
+    ∷ codes "  }"
+    ∷ codes "  up Send(o, m) with credit(c) rare {"
+    ∷ codes "    set cred[o] = c;"
+    ∷ codes "    set low = out;"
+    ∷ codes "    each i below n max 32 {"
+    ∷ codes "      if ((i != me) and ((out - cred[i]) > (out - low))) { set low = cred[i]; }"
+    ∷ codes "    }"
+    ∷ codes "    each i below 16 max 16 {"
+    ∷ codes "      if ((out - low) < window) {"
+    ∷ codes "        take wait (w) { set out = (out + 1); down Cast(me, w); } else { }"
+    ∷ codes "      }"
+    ∷ codes "    }"
+    ∷ codes "  }"
+    ∷ codes "}"
+    ∷ [])
+
+-- `frag`: casts with long bodies, cut into pieces and joined again
+unfoldable pub frag : List ℕ
+frag = lines
+    (codes "layer frag {"
+    ∷ codes "  param piece = 1024;"
+    ∷ codes "  state int from;"
+    ∷ codes "  state queue parts[n][8] of (p: part);"
+    ∷ codes "  state queue whole[1] of (m: msg);"
+    ∷ codes "  header some() ends;"
+    ∷ codes "  header last() passes;"
+    ∷ codes "  down Cast(p, m) {"
+    ∷ codes "    if (size(m) <= piece) { down Cast(p, m); }"
+    ∷ codes "    else {"
+    ∷ codes "      set from = 0;"
+    ∷ codes "      each i below 7 max 7 {"
+    ∷ codes "        if (size(m) > (from + piece)) {"
+    ∷ codes "          down Cast(p, cut(m, from, piece)) with some();"
+    ∷ codes "          set from = (from + piece);"
+    ∷ codes "        }"
+    ∷ codes "      }"
+    ∷ codes "      down Cast(p, tail(m, from)) with last();"
+    ∷ codes "    }"
+    ∷ codes "  }"
+    ∷ codes "  up Cast(o, m) with some() { push parts[o] (m) else { } }"
+    ∷ codes "  up Cast(o, m) with last() rare {"
+    ∷ codes "    push whole (m) else { }"
+    ∷ codes "    each i below len(parts[o]) max 8 {"
+    ∷ codes "      take whole (w) {"
+    ∷ codes "        push whole (join(held(parts[o], ((len(parts[o]) - 1) - i)), w)) else { }"
+    ∷ codes "      } else { }"
+    ∷ codes "    }"
+    ∷ codes "    take whole (w) { up Cast(o, w); } else { }"
+    ∷ codes "    each i below 8 max 8 { take parts[o] (q) { } else { } }"
+    ∷ codes "  }"
+    ∷ codes "}"
+    ∷ [])

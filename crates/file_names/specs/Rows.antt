@@ -1,0 +1,10 @@
+-- The faults of items behind which others follow.
+use Rattle.std.specs.Prelude.{List}
+use Rattle.layer_ast.specs.Tree.{ItemTree}
+use Rattle.fault_mean.specs.Earliest.{unless}
+use Rattle.fault_mean.specs.Faults.{NameFault, too_many}
+use Rattle.fault_mean.specs.Kinds.{a_number, allows}
+
+-- An item that others follow is a number.
+abbrev pub followed_faults : ItemTree → List NameFault
+followed_faults i = unless (allows a_number i.sort) (too_many i.name.at)

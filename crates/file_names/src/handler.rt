@@ -1,0 +1,98 @@
+//! The faults of handlers.
+
+ghost use Rattle.std.specs.Prelude.{◌≡◌, ◌++◌, [], flat_map, fold, map, OnOk, IfOk};
+ghost use Rattle.layer_ast.specs.View.{handler_tree, layer_tree};
+ghost use Rattle.fault_mean.specs.NameFaults.{handler_name_faults};
+ghost use Rattle.fault_mean.specs.Scope as spec;
+ghost use Rattle.file_names.specs.Found.{Finds};
+ghost use Rattle.file_names.specs.Gathered.{maxima_of, noted};
+ghost use Rattle.file_names.specs.Handlers.{block_part, head_part};
+ghost use Rattle.file_scope.specs.Scope.{scope_of};
+ghost use Rattle.file_scope.specs.Words.{own_words};
+
+use crate::block::block;
+use crate::found::Found;
+use crate::gather;
+use crate::head::{expected, popped};
+use crate::names::too_many;
+use crate::scope::declare;
+use file_scope::{Scope, Words, head_locals, head_names};
+use layer_ast::{Handler, Layer};
+use std::alloc::{AllocError, Global};
+
+/// The most names that a handler declares.
+const MOST_NAMES: usize = 64;
+
+/// The head of a handler in the scope of its layer's own names, which gets the locals of the head.
+#[tactic(auto, using(file_scope::proofs::Finds::finds_both, crate::proofs::Heads::head_declares))]
+fn head(
+    alloc: Global,
+    found: &mut Found,
+    scope: &mut Scope,
+    handler: &Handler,
+) -> Result<(), AllocError>
+    requires { (scope_of scope.now).locals ≡ [] }
+    ensures { OnOk result (Finds found.old (head_part (scope_of scope.old).layer (handler_tree handler.now)) found.new × (scope_of scope.new ≡ spec.head_scope (scope_of scope.old).layer (handler_tree handler.now))) }
+{
+    popped(found, scope, &handler.popped);
+    let locals = head_locals(alloc, scope, handler)?;
+    declare(found, scope, &locals)?;
+    Ok(())
+}
+
+/// The condition and the block of a handler, in the scope of its layer's own names.
+#[tactic(auto, using(file_scope::proofs::Finds::finds_both))]
+fn inside(
+    alloc: Global,
+    found: &mut Found,
+    layer: &Layer,
+    own: &Words,
+    handler: &Handler,
+) -> Result<(), AllocError>
+    requires { own.now ≡ own_words (layer_tree layer.now) }
+    ensures { OnOk result (Finds found.old (block_part (layer_tree layer.now) (handler_tree handler.now)) found.new) }
+{
+    let mut scope = Scope::of(alloc, layer, own);
+    head(alloc, found, &mut scope, handler)?;
+    expected(found, &scope, &handler.expected);
+    block(alloc, found, &mut scope, &handler.block)?;
+    Ok(())
+}
+
+/// A handler, in the scope of its layer's own names. The names of its maxima are added to those of its layer.
+#[tactic(auto, using(file_scope::proofs::Finds::finds_both, crate::proofs::Handlers::gathered))]
+fn handler(
+    alloc: Global,
+    found: &mut Found,
+    maxima: &mut Words,
+    layer: &Layer,
+    own: &Words,
+    handler: &Handler,
+) -> Result<(), AllocError>
+    requires { own.now ≡ own_words (layer_tree layer.now) }
+    ensures { OnOk result (Finds found.old (handler_name_faults (layer_tree layer.now) (handler_tree handler.now)) found.new × (maxima.new ≡ fold noted maxima.old (maxima_of (handler_tree handler.now)))) }
+{
+    inside(alloc, found, layer, own, handler)?;
+    let mut names = head_names(alloc, handler)?;
+    gather::block(&mut names, maxima, &handler.block)?;
+    too_many(found, MOST_NAMES, &names);
+    Ok(())
+}
+
+/// The handlers of a layer, in the scope of its own names, and the names of their maxima.
+#[tactic(auto, using(file_scope::proofs::Finds::finds_none, file_scope::proofs::Finds::part_more, crate::proofs::Gathered::words_more))]
+pub fn handlers(
+    alloc: Global,
+    found: &mut Found,
+    layer: &Layer,
+    own: &Words,
+) -> Result<Words, AllocError>
+    requires { own.now ≡ own_words (layer_tree layer.now) }
+    ensures { OnOk result (Finds found.old (flat_map (handler_name_faults (layer_tree layer.now)) (layer_tree layer.now).handlers) found.new) × IfOk result (λ maxima. maxima ≡ fold noted [] (flat_map maxima_of (layer_tree layer.now).handlers)) }
+{
+    let mut maxima = Words::new(alloc);
+    for h in &layer.handlers {
+        handler(alloc, found, &mut maxima, layer, own, h)?;
+    }
+    Ok(maxima)
+}

@@ -1,0 +1,48 @@
+//! The layers of the library that a file's places name.
+
+ghost use Rattle.std.specs.Prelude.{◌≡◌, map, IfOk};
+ghost use Rattle.layer_ast.specs.View.{layer_tree};
+ghost use Rattle.file_scope.specs.Words.{own_words};
+ghost use Rattle.file_names.specs.Called.{called_of};
+
+use crate::found::Found;
+use crate::layer::layer;
+use crate::sizes::Sizes;
+use file_scope::Words;
+use layer_ast::Layer;
+use std::alloc::{AllocError, Global};
+
+/// A layer of the library, judged once for all places that name it.
+#[derive(Drop)]
+pub struct Called {
+    pub sizes: Sizes,
+    /// The rank of its first fault, once its faults are moved to one place.
+    pub rank: Option<u8>,
+}
+
+/// A layer of the library, with the table of its own words.
+fn judge(alloc: Global, of_library: &Layer, own: &Words) -> Result<Called, AllocError>
+    requires { own.now ≡ own_words (layer_tree of_library.now) }
+    ensures { IfOk result (λ called. called ≡ called_of (layer_tree of_library.now)) }
+{
+    let mut found = Found::moved();
+    let sizes = layer(alloc, &mut found, of_library, own)?;
+    Ok(Called {
+        sizes,
+        rank: found.rank(),
+    })
+}
+
+/// The layers of the library, each with the table of its own words.
+#[tactic(auto, using(file_scope::proofs::Lists::trees_more, file_scope::proofs::Layers::made_within, file_scope::proofs::Layers::made_at))]
+pub fn library(alloc: Global, layers: &[Layer], tables: &[Words]) -> Result<Vec<Called>, AllocError>
+    requires { tables.now ≡ map own_words (map layer_tree layers.now) }
+    ensures { IfOk result (λ all. all.items ≡ map called_of (map layer_tree layers.now)) }
+{
+    let mut all = Vec::new(alloc);
+    for k in 0..layers.len() {
+        let one = judge(alloc, &layers[k], &tables[k])?;
+        all.push(one)?;
+    }
+    Ok(all)
+}

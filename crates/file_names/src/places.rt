@@ -1,0 +1,78 @@
+//! The places of a file.
+
+ghost use Rattle.std.specs.Prelude.{[], filter_map, flat_map, map, OnOk};
+ghost use Rattle.std.specs.Option.{option_map_or};
+ghost use Rattle.layer_ast.specs.View.{file_tree, place_tree};
+ghost use Rattle.fault_mean.specs.Faults.{name_fault_at};
+ghost use Rattle.fault_mean.specs.NameFaults.{layer_name_faults, place_faults};
+ghost use Rattle.fault_mean.specs.Places.{called_at, faults_of_judged};
+ghost use Rattle.file_names.specs.Found.{Finds};
+ghost use Rattle.file_names.specs.Places.{called_faults};
+
+use crate::found::{Cause, Found, note};
+use crate::judged::Judged;
+use crate::place::place_in;
+use file_scope::Scope;
+use layer_ast::Place;
+use std::alloc::{AllocError, Global};
+
+/// The layer of the library that a place names, if it does: its faults stand at this place.
+#[tactic(auto, using(file_scope::proofs::Finds::finds_none, file_scope::proofs::Layers::within_made, crate::proofs::Calls::hidden, crate::proofs::Calls::uncalled, crate::proofs::Calls::called_once))]
+fn called(found: &mut Found, judged: &Judged, place: &Place)
+    ensures { Finds found.old (called_faults (file_tree judged.now.file.now) (place_tree place.now)) found.new }
+{
+    match judged.written_names.position(&place.name.word) {
+        Some(_) => {}
+        None => match judged.library_names.position(&place.name.word) {
+            None => {}
+            Some(k) => found.note_rank(judged.library[k].rank, place.name.at),
+        },
+    }
+}
+
+/// The layers of the library, for each place that names one.
+#[tactic(auto, using(file_scope::proofs::Finds::finds_none, crate::proofs::Calls::called_more))]
+pub fn calls(found: &mut Found, judged: &Judged, places: &[Place])
+    ensures { Finds found.old (flat_map (faults_of_judged name_fault_at layer_name_faults) (filter_map (called_at (file_tree judged.now.file.now)) (map place_tree places.now))) found.new }
+{
+    for place in places {
+        called(found, judged, place);
+    }
+}
+
+/// A place: its layer is one of the file, or else of the library.
+#[tactic(auto, using(file_scope::proofs::Layers::within_file, file_scope::proofs::Layers::within_made, file_scope::proofs::Layers::made_at, crate::proofs::Calls::written_place, crate::proofs::Calls::library_place, crate::proofs::Calls::no_place))]
+fn place(alloc: Global, found: &mut Found, judged: &Judged, place: &Place) -> Result<(), AllocError>
+    ensures { OnOk result (Finds found.old (place_faults (file_tree judged.now.file.now) (place_tree place.now)) found.new) }
+{
+    match judged.written_names.position(&place.name.word) {
+        Some(k) => {
+            let scope = Scope::of(alloc, &judged.file.layers[k], &judged.tables.layers[k]);
+            place_in(alloc, found, &scope, place, &judged.written[k])?;
+        }
+        None => match judged.library_names.position(&place.name.word) {
+            Some(k) => {
+                let scope = Scope::of(alloc, &judged.file.library[k], &judged.tables.library[k]);
+                place_in(alloc, found, &scope, place, &judged.library[k].sizes)?;
+            }
+            None => note(found, Cause::Unknown, place.name.at),
+        },
+    }
+    Ok(())
+}
+
+/// The places, one by one.
+#[tactic(auto, using(file_scope::proofs::Finds::finds_none, file_scope::proofs::Finds::part_more))]
+pub fn places(
+    alloc: Global,
+    found: &mut Found,
+    judged: &Judged,
+    all: &[Place],
+) -> Result<(), AllocError>
+    ensures { OnOk result (Finds found.old (flat_map (place_faults (file_tree judged.now.file.now)) (map place_tree all.now)) found.new) }
+{
+    for one in all {
+        place(alloc, found, judged, one)?;
+    }
+    Ok(())
+}

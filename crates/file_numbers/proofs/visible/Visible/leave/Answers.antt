@@ -1,0 +1,13 @@
+use Rattle.std.proofs.Common.{ℕ, List, drop, length, ap, ◌∙◌, ◌-◌}
+use Rattle.layer_ast.specs.declared.names.Word.{Word}
+use Rattle.file_numbers.specs.Visible.{Shown, entries}
+use Rattle.file_numbers.proofs.Slots.{entries_take}
+use Rattle.file_numbers.proofs.visible.Visible.leave.Goals as goal
+
+-- src/visible.rt:101:5
+pub returns : goal.returns
+returns c =
+    let shows : List (Word × ℕ) → Shown = λ names. record { names = names; taken = c.self.inside.taken } in
+    let left : Shown → Shown = λ v. record { names = drop (length v.names - c.args.outer) v.names; taken = v.taken } in
+    ap (λ slots. shows (entries slots)) c.truncate.ensures.items
+    ∙ (ap shows (entries_take c.args.outer c.self.inside.slots.items) ∙ ap left c.self.view_is)

@@ -1,0 +1,126 @@
+//! Readers of arguments.
+ghost use Rattle.std.specs.Prelude.{[], ◌∷◌, map};
+ghost use Rattle.std.specs.Option.{option_map};
+ghost use Rattle.layer_ast.specs.Print as print;
+ghost use Rattle.layer_ast.specs.View.{argument_tree, arguments_tree};
+ghost use Rattle.layer_ast.specs.declared.tokens.Sign.TheVariants.{LeftParen, RightParen};
+ghost use Rattle.grammar_laws.specs.Machine.{one, an_expression, a_built, an_argument, more_arguments as arguments_behind, some_arguments as one_or_no_arguments};
+ghost use Rattle.file_parse.specs.Parts.{arguments_within, some_arguments_within};
+ghost use Rattle.file_parse.specs.Reading.{Parses, ParsesAll, SeesPart, SeesOneOf};
+
+use crate::expressions::{built, expression};
+use crate::readers::{Fault, close, open, past, push_item};
+use layer_ast::{Argument, Arguments, Lexed, Sign, Token};
+use std::alloc::Global;
+
+/// Reads arguments with commas between them, in parentheses.
+pub fn arguments_in_parentheses(
+    alloc: Global,
+    room: u32,
+    tokens: &[Lexed],
+) -> Result<(Arguments, &[Lexed]), Fault>
+    ensures { ParsesAll arguments_within arguments_tree (one LeftParen ∷ an_argument ∷ arguments_behind ∷ one RightParen ∷ []) room tokens.now result }
+{
+    let (inside, rest) = open(room, Sign::LeftParen, tokens)?;
+    let (arguments, rest) = arguments(alloc, inside, rest)?;
+    let rest = close(Sign::RightParen, rest)?;
+    Ok((arguments, rest))
+}
+
+/// Reads arguments with commas between them, in parentheses, or empty parentheses.
+pub fn some_arguments_in_parentheses(
+    alloc: Global,
+    room: u32,
+    tokens: &[Lexed],
+) -> Result<(Option<Arguments>, &[Lexed]), Fault>
+    ensures { ParsesAll some_arguments_within (option_map arguments_tree) (one LeftParen ∷ one_or_no_arguments ∷ one RightParen ∷ []) room tokens.now result }
+{
+    let (inside, rest) = open(room, Sign::LeftParen, tokens)?;
+    let (arguments, rest) = some_arguments(alloc, inside, rest)?;
+    let rest = close(Sign::RightParen, rest)?;
+    Ok((arguments, rest))
+}
+
+/// Reads arguments with commas between them, where there are any.
+fn some_arguments(
+    alloc: Global,
+    room: u32,
+    tokens: &[Lexed],
+) -> Result<(Option<Arguments>, &[Lexed]), Fault>
+    ensures { Parses print.some_arguments (option_map arguments_tree) one_or_no_arguments room tokens.now result }
+{
+    if !begins_argument(tokens) {
+        return Ok((None, tokens));
+    }
+    let (fields, rest) = arguments(alloc, room, tokens)?;
+    Ok((Some(fields), rest))
+}
+
+/// Whether the next token begins an argument.
+fn begins_argument(tokens: &[Lexed]) -> bool
+    ensures { SeesPart one_or_no_arguments (an_argument ∷ arguments_behind ∷ []) tokens.now result }
+{
+    let Some((first, _)) = tokens.split_first() else {
+        return false;
+    };
+    match first.token {
+        Token::Number(_) | Token::Name(_) => true,
+        Token::Sign(Sign::LeftParen | Sign::Me | Sign::N | Sign::Ltime) => true,
+        Token::Sign(Sign::Len | Sign::AtRow | Sign::Size | Sign::Pick) => true,
+        Token::Sign(Sign::Not | Sign::Bit | Sign::Count | Sign::Lowest) => true,
+        Token::Sign(Sign::Nothing | Sign::Held | Sign::Cut | Sign::Tail | Sign::Join) => true,
+        _ => false,
+    }
+}
+
+/// Reads arguments with commas between them.
+fn arguments(alloc: Global, room: u32, tokens: &[Lexed]) -> Result<(Arguments, &[Lexed]), Fault>
+    ensures { ParsesAll print.arguments arguments_tree (an_argument ∷ arguments_behind ∷ []) room tokens.now result }
+{
+    let (first, rest) = argument(alloc, room, tokens)?;
+    let (more, rest) = more_arguments(alloc, room, rest)?;
+    Ok((Arguments { first, rest: more }, rest))
+}
+
+/// Reads arguments, each behind a comma, as long as there is a comma.
+fn more_arguments(
+    alloc: Global,
+    room: u32,
+    tokens: &[Lexed],
+) -> Result<(Vec<Argument>, &[Lexed]), Fault>
+    ensures { Parses print.more_arguments (λ v. map argument_tree v.items) arguments_behind room tokens.now result }
+{
+    let mut all = Vec::new(alloc);
+    let mut rest = tokens;
+    while let Some(behind) = past(Sign::Comma, rest) {
+        let (next, behind) = argument(alloc, room, behind)?;
+        push_item(&mut all, next)?;
+        rest = behind;
+    }
+    Ok((all, rest))
+}
+
+/// Reads an argument.
+fn argument(alloc: Global, room: u32, tokens: &[Lexed]) -> Result<(Argument, &[Lexed]), Fault>
+    ensures { Parses print.argument argument_tree an_argument room tokens.now result }
+{
+    if begins_built(tokens) {
+        let (content, rest) = built(alloc, room, tokens)?;
+        return Ok((Argument::Content(content), rest));
+    }
+    let (value, rest) = expression(alloc, room, tokens)?;
+    Ok((Argument::Value(value), rest))
+}
+
+/// Whether the next token begins a message that is no bare name.
+fn begins_built(tokens: &[Lexed]) -> bool
+    ensures { SeesOneOf an_argument (a_built ∷ []) (an_expression ∷ []) tokens.now result }
+{
+    let Some((first, _)) = tokens.split_first() else {
+        return false;
+    };
+    matches!(
+        first.token,
+        Token::Sign(Sign::Nothing | Sign::Held | Sign::Cut | Sign::Tail | Sign::Join)
+    )
+}

@@ -1,0 +1,480 @@
+//! Readers of numbers and messages. Each is told how many brackets may still be opened.
+ghost use Rattle.std.specs.Prelude.{◌≡◌, [], ◌∷◌};
+ghost use Rattle.std.specs.Option.{option_map};
+ghost use Rattle.layer_ast.specs.Print as print;
+ghost use Rattle.layer_ast.specs.Printed.{function_sign};
+ghost use Rattle.layer_ast.specs.View.{expression_tree, queue_tree, message_tree, built_tree};
+ghost use Rattle.layer_ast.specs.declared.tokens.Sign.TheVariants.{LeftParen, Comma, RightParen};
+ghost use Rattle.grammar_laws.specs.Machine.{one, a_name, an_expression, an_index, a_message, a_built};
+ghost use Rattle.file_parse.specs.Parts.{print_indices, print_pair, pair_tree, print_row, row_tree};
+ghost use Rattle.file_parse.specs.Reading.{Parses, ParsesAll, SeesOneOf};
+
+use crate::readers::{Fault, close, name, open, operator, past, read, room_inside, sign};
+use layer_ast::{
+    Built, Expression, Function, Lexed, MessageExpression, Name, Queue, Sign, Token, Word,
+};
+use std::alloc::Global;
+
+/// The indices of an element: one, or two of a square array.
+#[derive(Drop)]
+pub struct Element {
+    pub row: Expression,
+    pub column: Option<Expression>,
+}
+
+/// Two numbers with a comma between them.
+#[derive(Drop)]
+pub struct Pair {
+    pub first: Box<Expression>,
+    pub second: Box<Expression>,
+}
+
+/// A queue and the number of one of its rows, in parentheses.
+#[derive(Drop)]
+pub struct QueueRow {
+    pub queue: Queue,
+    pub row: Box<Expression>,
+}
+
+/// Reads an expression.
+#[tactic(auto, unfolding(layer_ast::specs::Spells::Fits))]
+#[cycle(expression)]
+pub fn expression(
+    alloc: Global,
+    room: u32,
+    tokens: &[Lexed],
+) -> Result<(Expression, &[Lexed]), Fault>
+    ensures { Parses print.expression expression_tree an_expression room tokens.now result }
+{
+    let Some((first, rest)) = tokens.split_first() else {
+        return Err(Fault::Refused(0));
+    };
+    let at = first.at;
+    match first.token {
+        Token::Name(word) => named(alloc, room, word, *first, rest),
+        Token::Number(value) => Ok((Expression::Number { at, value }, rest)),
+        Token::Sign(Sign::LeftParen) => binary(alloc, room, *first, rest),
+        Token::Sign(Sign::Me) => Ok((Expression::Me { at }, rest)),
+        Token::Sign(Sign::N) => Ok((Expression::Members { at }, rest)),
+        Token::Sign(Sign::Ltime) => Ok((Expression::Ltime { at }, rest)),
+        Token::Sign(Sign::Len) => rows(alloc, room, *first, rest),
+        Token::Sign(Sign::AtRow) => item(alloc, room, *first, rest),
+        Token::Sign(Sign::Size) => size(alloc, room, *first, rest),
+        Token::Sign(Sign::Pick) => pick(alloc, room, *first, rest),
+        Token::Sign(Sign::Not) => apply(alloc, room, Function::Not, *first, rest),
+        Token::Sign(Sign::Bit) => apply(alloc, room, Function::Bit, *first, rest),
+        Token::Sign(Sign::Count) => apply(alloc, room, Function::Count, *first, rest),
+        Token::Sign(Sign::Lowest) => apply(alloc, room, Function::Lowest, *first, rest),
+        _ => Err(Fault::Refused(tokens.len())),
+    }
+}
+
+/// Reads an expression that begins with a parenthesis, from behind that.
+#[tactic(auto, using(crate::proofs::Fit::fits_first))]
+#[cycle(expression)]
+fn binary(
+    alloc: Global,
+    room: u32,
+    first: Lexed,
+    tokens: &[Lexed],
+) -> Result<(Expression, &[Lexed]), Fault>
+    requires { first.token ≡ Token.Sign Sign.LeftParen }
+    ensures { Parses print.expression expression_tree an_expression room (first ∷ tokens.now) result }
+{
+    let inside = room_inside(room, tokens)?;
+    let (left, rest) = expression(alloc, inside, tokens)?;
+    let (operator, rest) = operator(rest)?;
+    let (right, rest) = expression(alloc, inside, rest)?;
+    let rest = close(Sign::RightParen, rest)?;
+    let left = Box::new(alloc, left)?;
+    let right = Box::new(alloc, right)?;
+    let at = first.at;
+    Ok((
+        Expression::Binary {
+            at,
+            left,
+            operator,
+            right,
+        },
+        rest,
+    ))
+}
+
+/// Reads an expression that begins with a name, from behind that.
+#[tactic(auto, using(crate::proofs::Fit::fits_first))]
+#[cycle(expression)]
+fn named(
+    alloc: Global,
+    room: u32,
+    word: Word,
+    first: Lexed,
+    tokens: &[Lexed],
+) -> Result<(Expression, &[Lexed]), Fault>
+    requires { first.token ≡ Token.Name word }
+    ensures { Parses print.expression expression_tree an_expression room (first ∷ tokens.now) result }
+{
+    let name = Name { at: first.at, word };
+    let Some(_) = past(Sign::LeftBracket, tokens) else {
+        return Ok((Expression::Named { name, index: None }, tokens));
+    };
+    let (indices, rest) = indices(alloc, room, tokens)?;
+    let Some(Element { row, column }) = indices else {
+        return Ok((Expression::Named { name, index: None }, rest));
+    };
+    let row = Box::new(alloc, row)?;
+    let Some(column) = column else {
+        let index = Some(row);
+        return Ok((Expression::Named { name, index }, rest));
+    };
+    let column = Box::new(alloc, column)?;
+    Ok((Expression::Square { name, row, column }, rest))
+}
+
+/// Reads the indices behind a name, where there are any.
+#[cycle(expression)]
+pub fn indices(
+    alloc: Global,
+    room: u32,
+    tokens: &[Lexed],
+) -> Result<(Option<Element>, &[Lexed]), Fault>
+    ensures { ParsesAll print_indices (λ i. i) (an_index ∷ an_index ∷ []) room tokens.now result }
+{
+    let Some(rest) = past(Sign::LeftBracket, tokens) else {
+        return Ok((None, tokens));
+    };
+    let inside = room_inside(room, rest)?;
+    let (row, rest) = expression(alloc, inside, rest)?;
+    let rest = close(Sign::RightBracket, rest)?;
+    let (column, rest) = index(alloc, room, rest)?;
+    Ok((Some(Element { row, column }), rest))
+}
+
+/// Reads an index in square brackets, where there is one.
+#[cycle(expression)]
+fn index(
+    alloc: Global,
+    room: u32,
+    tokens: &[Lexed],
+) -> Result<(Option<Expression>, &[Lexed]), Fault>
+    ensures { Parses print.index (option_map expression_tree) an_index room tokens.now result }
+{
+    let Some(rest) = past(Sign::LeftBracket, tokens) else {
+        return Ok((None, tokens));
+    };
+    let inside = room_inside(room, rest)?;
+    let (index, rest) = expression(alloc, inside, rest)?;
+    let rest = close(Sign::RightBracket, rest)?;
+    Ok((Some(index), rest))
+}
+
+/// Reads the number of rows of a queue, from behind its word.
+#[tactic(auto, using(crate::proofs::Fit::fits_first))]
+#[cycle(expression)]
+fn rows(
+    alloc: Global,
+    room: u32,
+    first: Lexed,
+    tokens: &[Lexed],
+) -> Result<(Expression, &[Lexed]), Fault>
+    requires { first.token ≡ Token.Sign Sign.Len }
+    ensures { Parses print.expression expression_tree an_expression room (first ∷ tokens.now) result }
+{
+    let (inside, rest) = open(room, Sign::LeftParen, tokens)?;
+    let (queue, rest) = queue(alloc, inside, rest)?;
+    let rest = close(Sign::RightParen, rest)?;
+    let at = first.at;
+    Ok((Expression::Rows { at, queue }, rest))
+}
+
+/// Reads an item of a row, from behind its word.
+#[tactic(auto, using(crate::proofs::Fit::fits_first))]
+#[cycle(expression)]
+fn item(
+    alloc: Global,
+    room: u32,
+    first: Lexed,
+    tokens: &[Lexed],
+) -> Result<(Expression, &[Lexed]), Fault>
+    requires { first.token ≡ Token.Sign Sign.AtRow }
+    ensures { Parses print.expression expression_tree an_expression room (first ∷ tokens.now) result }
+{
+    let (QueueRow { queue, row }, rest) = row(alloc, room, tokens)?;
+    let rest = sign(Sign::Dot, rest)?;
+    let (label, rest) = read!(name(rest));
+    let at = first.at;
+    Ok((
+        Expression::Item {
+            at,
+            queue,
+            row,
+            label,
+        },
+        rest,
+    ))
+}
+
+/// Reads the size of a message, from behind its word.
+#[tactic(auto, using(crate::proofs::Fit::fits_first))]
+#[cycle(expression)]
+fn size(
+    alloc: Global,
+    room: u32,
+    first: Lexed,
+    tokens: &[Lexed],
+) -> Result<(Expression, &[Lexed]), Fault>
+    requires { first.token ≡ Token.Sign Sign.Size }
+    ensures { Parses print.expression expression_tree an_expression room (first ∷ tokens.now) result }
+{
+    let (inside, rest) = open(room, Sign::LeftParen, tokens)?;
+    let (message, rest) = message(alloc, inside, rest)?;
+    let rest = close(Sign::RightParen, rest)?;
+    let message = Box::new(alloc, message)?;
+    let at = first.at;
+    Ok((Expression::Size { at, message }, rest))
+}
+
+/// Reads a function of one number, from behind its word.
+#[tactic(auto, using(crate::proofs::Fit::fits_first))]
+#[cycle(expression)]
+fn apply(
+    alloc: Global,
+    room: u32,
+    function: Function,
+    first: Lexed,
+    tokens: &[Lexed],
+) -> Result<(Expression, &[Lexed]), Fault>
+    requires { first.token ≡ Token.Sign (function_sign function) }
+    ensures { Parses print.expression expression_tree an_expression room (first ∷ tokens.now) result }
+{
+    let (inside, rest) = open(room, Sign::LeftParen, tokens)?;
+    let (operand, rest) = expression(alloc, inside, rest)?;
+    let rest = close(Sign::RightParen, rest)?;
+    let operand = Box::new(alloc, operand)?;
+    let at = first.at;
+    Ok((
+        Expression::Apply {
+            at,
+            function,
+            operand,
+        },
+        rest,
+    ))
+}
+
+/// Reads a choice between two numbers, from behind its word.
+#[tactic(auto, using(crate::proofs::Fit::fits_first))]
+#[cycle(expression)]
+fn pick(
+    alloc: Global,
+    room: u32,
+    first: Lexed,
+    tokens: &[Lexed],
+) -> Result<(Expression, &[Lexed]), Fault>
+    requires { first.token ≡ Token.Sign Sign.Pick }
+    ensures { Parses print.expression expression_tree an_expression room (first ∷ tokens.now) result }
+{
+    let (inside, rest) = open(room, Sign::LeftParen, tokens)?;
+    let (condition, rest) = expression(alloc, inside, rest)?;
+    let rest = sign(Sign::Comma, rest)?;
+    let (Pair { first: one, second }, rest) = two_expressions(alloc, inside, rest)?;
+    let rest = close(Sign::RightParen, rest)?;
+    let condition = Box::new(alloc, condition)?;
+    let at = first.at;
+    Ok((
+        Expression::Pick {
+            at,
+            condition,
+            first: one,
+            second,
+        },
+        rest,
+    ))
+}
+
+/// Reads two numbers with a comma between them.
+#[cycle(expression)]
+fn two_expressions(alloc: Global, room: u32, tokens: &[Lexed]) -> Result<(Pair, &[Lexed]), Fault>
+    ensures { ParsesAll print_pair pair_tree (an_expression ∷ one Comma ∷ an_expression ∷ []) room tokens.now result }
+{
+    let (first, rest) = expression(alloc, room, tokens)?;
+    let rest = sign(Sign::Comma, rest)?;
+    let (second, rest) = expression(alloc, room, rest)?;
+    let first = Box::new(alloc, first)?;
+    let second = Box::new(alloc, second)?;
+    Ok((Pair { first, second }, rest))
+}
+
+/// Reads a queue.
+#[cycle(expression)]
+pub fn queue(alloc: Global, room: u32, tokens: &[Lexed]) -> Result<(Queue, &[Lexed]), Fault>
+    ensures { ParsesAll print.queue queue_tree (a_name ∷ an_index ∷ []) room tokens.now result }
+{
+    let (name, rest) = read!(name(tokens));
+    let (index, rest) = index(alloc, room, rest)?;
+    let Some(index) = index else {
+        return Ok((Queue { name, index: None }, rest));
+    };
+    let index = Some(Box::new(alloc, index)?);
+    Ok((Queue { name, index }, rest))
+}
+
+/// Reads a queue and the number of one of its rows, in parentheses.
+#[cycle(expression)]
+fn row(alloc: Global, room: u32, tokens: &[Lexed]) -> Result<(QueueRow, &[Lexed]), Fault>
+    ensures { ParsesAll print_row row_tree (one LeftParen ∷ a_name ∷ an_index ∷ one Comma ∷ an_expression ∷ one RightParen ∷ []) room tokens.now result }
+{
+    let (inside, rest) = open(room, Sign::LeftParen, tokens)?;
+    let (queue, rest) = queue(alloc, inside, rest)?;
+    let rest = sign(Sign::Comma, rest)?;
+    let (row, rest) = expression(alloc, inside, rest)?;
+    let rest = close(Sign::RightParen, rest)?;
+    let row = Box::new(alloc, row)?;
+    Ok((QueueRow { queue, row }, rest))
+}
+
+/// Reads a message.
+#[cycle(expression)]
+fn message(
+    alloc: Global,
+    room: u32,
+    tokens: &[Lexed],
+) -> Result<(MessageExpression, &[Lexed]), Fault>
+    ensures { Parses print.message message_tree a_message room tokens.now result }
+{
+    if begins_name(tokens) {
+        let (name, rest) = read!(name(tokens));
+        return Ok((MessageExpression::Bare(name), rest));
+    }
+    let (built, rest) = built(alloc, room, tokens)?;
+    Ok((MessageExpression::Built(built), rest))
+}
+
+/// Whether the next token is a name.
+fn begins_name(tokens: &[Lexed]) -> bool
+    ensures { SeesOneOf a_message (a_name ∷ []) (a_built ∷ []) tokens.now result }
+{
+    let Some((first, _)) = tokens.split_first() else {
+        return false;
+    };
+    matches!(first.token, Token::Name(_))
+}
+
+/// Reads a message that is no bare name.
+#[tactic(auto, unfolding(layer_ast::specs::Spells::Fits))]
+#[cycle(expression)]
+pub fn built(alloc: Global, room: u32, tokens: &[Lexed]) -> Result<(Built, &[Lexed]), Fault>
+    ensures { Parses print.built built_tree a_built room tokens.now result }
+{
+    let Some((first, rest)) = tokens.split_first() else {
+        return Err(Fault::Refused(0));
+    };
+    match first.token {
+        Token::Sign(Sign::Nothing) => Ok((Built::Nothing { at: first.at }, rest)),
+        Token::Sign(Sign::Held) => held(alloc, room, *first, rest),
+        Token::Sign(Sign::Cut) => cut(alloc, room, *first, rest),
+        Token::Sign(Sign::Tail) => tail(alloc, room, *first, rest),
+        Token::Sign(Sign::Join) => join(alloc, room, *first, rest),
+        _ => Err(Fault::Refused(tokens.len())),
+    }
+}
+
+/// Reads the message of a row, from behind its word.
+#[tactic(auto, using(crate::proofs::Fit::fits_first))]
+#[cycle(expression)]
+fn held(
+    alloc: Global,
+    room: u32,
+    first: Lexed,
+    tokens: &[Lexed],
+) -> Result<(Built, &[Lexed]), Fault>
+    requires { first.token ≡ Token.Sign Sign.Held }
+    ensures { Parses print.built built_tree a_built room (first ∷ tokens.now) result }
+{
+    let (QueueRow { queue, row }, rest) = row(alloc, room, tokens)?;
+    let at = first.at;
+    Ok((Built::Held { at, queue, row }, rest))
+}
+
+/// Reads a range of a part, from behind its word.
+#[tactic(auto, using(crate::proofs::Fit::fits_first))]
+#[cycle(expression)]
+fn cut(alloc: Global, room: u32, first: Lexed, tokens: &[Lexed]) -> Result<(Built, &[Lexed]), Fault>
+    requires { first.token ≡ Token.Sign Sign.Cut }
+    ensures { Parses print.built built_tree a_built room (first ∷ tokens.now) result }
+{
+    let (inside, rest) = open(room, Sign::LeftParen, tokens)?;
+    let (message, rest) = message(alloc, inside, rest)?;
+    let rest = sign(Sign::Comma, rest)?;
+    let (
+        Pair {
+            first: from,
+            second: length,
+        },
+        rest,
+    ) = two_expressions(alloc, inside, rest)?;
+    let rest = close(Sign::RightParen, rest)?;
+    let message = Box::new(alloc, message)?;
+    let at = first.at;
+    Ok((
+        Built::Cut {
+            at,
+            message,
+            from,
+            length,
+        },
+        rest,
+    ))
+}
+
+/// Reads what stands behind the first bytes of a part, from behind its word.
+#[tactic(auto, using(crate::proofs::Fit::fits_first))]
+#[cycle(expression)]
+fn tail(
+    alloc: Global,
+    room: u32,
+    first: Lexed,
+    tokens: &[Lexed],
+) -> Result<(Built, &[Lexed]), Fault>
+    requires { first.token ≡ Token.Sign Sign.Tail }
+    ensures { Parses print.built built_tree a_built room (first ∷ tokens.now) result }
+{
+    let (inside, rest) = open(room, Sign::LeftParen, tokens)?;
+    let (message, rest) = message(alloc, inside, rest)?;
+    let rest = sign(Sign::Comma, rest)?;
+    let (from, rest) = expression(alloc, inside, rest)?;
+    let rest = close(Sign::RightParen, rest)?;
+    let message = Box::new(alloc, message)?;
+    let from = Box::new(alloc, from)?;
+    let at = first.at;
+    Ok((Built::Tail { at, message, from }, rest))
+}
+
+/// Reads a part in front of a message, from behind its word.
+#[tactic(auto, using(crate::proofs::Fit::fits_first))]
+#[cycle(expression)]
+fn join(
+    alloc: Global,
+    room: u32,
+    first: Lexed,
+    tokens: &[Lexed],
+) -> Result<(Built, &[Lexed]), Fault>
+    requires { first.token ≡ Token.Sign Sign.Join }
+    ensures { Parses print.built built_tree a_built room (first ∷ tokens.now) result }
+{
+    let (inside, rest) = open(room, Sign::LeftParen, tokens)?;
+    let (one, rest) = message(alloc, inside, rest)?;
+    let rest = sign(Sign::Comma, rest)?;
+    let (second, rest) = message(alloc, inside, rest)?;
+    let rest = close(Sign::RightParen, rest)?;
+    let one = Box::new(alloc, one)?;
+    let second = Box::new(alloc, second)?;
+    let at = first.at;
+    Ok((
+        Built::Join {
+            at,
+            first: one,
+            second,
+        },
+        rest,
+    ))
+}

@@ -1,0 +1,4 @@
+pub mod Scope
+pub mod Sorts
+pub mod Words
+pub mod Found

@@ -1,0 +1,16 @@
+pub mod Behind
+pub mod Arguments
+pub mod Begins
+pub mod Declarations
+pub mod Expressions
+pub mod Files
+pub mod Once
+pub mod Signs
+pub mod Statements
+pub mod Together
+pub mod Beginnings
+pub mod Back
+pub mod Complete
+pub mod Phrases
+pub mod Runs
+pub mod Texts

@@ -1,0 +1,6 @@
+pub mod Behind
+pub mod Once
+pub mod Stopped
+pub mod Machine
+pub mod Parts
+pub mod Verdict

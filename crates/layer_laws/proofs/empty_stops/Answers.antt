@@ -1,6 +1,0 @@
-use Rattle.std.proofs.Common.{refl}
-use Rattle.layer_laws.proofs.Beginnings.{nothing_begins, nothing_spells}
-use Rattle.layer_laws.proofs.empty_stops.Goals as goal
-
-pub returns : goal.returns
-returns c = record { good = refl; before = nothing_begins; none = nothing_spells; place = refl }

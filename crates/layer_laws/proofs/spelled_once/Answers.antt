@@ -1,5 +1,0 @@
-use Rattle.layer_laws.proofs.Once.{spelled_once}
-use Rattle.layer_laws.proofs.spelled_once.Goals as goal
-
-pub returns : goal.returns
-returns c = spelled_once

@@ -1,8 +1,0 @@
-use Rattle.std.proofs.Common.{◌∙◌, refl}
-use Rattle.layer_ast.specs.Spelling.{reserved}
-use Rattle.layer_lex.proofs.Groups.{grouped_is}
-use Rattle.layer_lex.proofs.words.reserved_sign.Goals as goal
-
-pub returns : goal.returns
-unfolding reserved
-returns c = c.found_among.ensures ∙ grouped_is _ reserved refl refl c.args.word.now c.requires

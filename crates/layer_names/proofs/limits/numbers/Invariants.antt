@@ -1,9 +1,0 @@
-use Rattle.std.proofs.Common.{◌≡◌, map, filter, take}
-use Rattle.layer_ast.specs.Tree.{ItemTree}
-use Rattle.layer_ast.specs.View.{item_tree}
-use Rattle.file_faults.specs.Kinds.{a_number, allows}
-use Rattle.layer_names.proofs.limits.numbers.Given as goal
-
-abbrev pub invariant-loop-item : goal.invariant-loop-item
-invariant-loop-item l =
-    l.all.items ≡ map (λ (i : ItemTree). i.name) (filter (λ i. allows a_number i.sort) (map item_tree (take l.item-index l.items)))

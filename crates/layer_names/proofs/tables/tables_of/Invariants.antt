@@ -1,7 +1,0 @@
-use Rattle.std.proofs.Common.{◌≡◌, map, take}
-use Rattle.layer_ast.specs.View.{layer_tree}
-use Rattle.name_scope.specs.Words.{own_words}
-use Rattle.layer_names.proofs.tables.tables_of.Given as goal
-
-abbrev pub invariant-loop-layer : goal.invariant-loop-layer
-invariant-loop-layer l = l.tables.items ≡ map own_words (map layer_tree (take l.layer-index l.layers))

@@ -1,4 +1,0 @@
-use Rattle.layer_parse.proofs.declarations.queue_of.Goals as goal
-
-pub returns-in-One : goal.returns-in-One
-returns-in-One c = rw c.in-One.is record { spelled = λ k tokens h. h }

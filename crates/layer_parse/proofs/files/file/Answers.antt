@@ -1,5 +1,0 @@
-use Rattle.layer_parse.proofs.Ending.{file_read}
-use Rattle.layer_parse.proofs.files.file.Goals as goal
-
-pub returns : goal.returns
-returns c = file_read _ _ _ c.in_ok-layers.ensures _ _ c.in_ok-places.ensures

@@ -1,8 +1,0 @@
-use Rattle.layer_parse.proofs.Gathered.{layer_gathered}
-use Rattle.layer_parse.proofs.files.layers.Goals as goal
-
-pub loop-alloc-preserved : goal.loop-alloc-preserved
-loop-alloc-preserved c =
-    rw c.in_ok-push.ensures.items (
-    layer_gathered _ _ _ _ _ _ c.loop-alloc.invariant c.loop-alloc-test.ensures c.in_ok-next.ensures.read
-    )

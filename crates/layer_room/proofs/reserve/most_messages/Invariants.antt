@@ -1,7 +1,0 @@
-use Rattle.std.proofs.Common.{◌≡◌, map, take}
-use Rattle.typed_layer.specs.View.{handler_tree}
-use Rattle.layer_room.specs.Layouts.{most}
-use Rattle.layer_room.proofs.reserve.most_messages.Given as goal
-
-abbrev pub invariant-loop-handler : goal.invariant-loop-handler
-invariant-loop-handler l = l.most ≡ most (λ h. h.messages) (map handler_tree (take l.handler-index l.handlers))

@@ -1,7 +1,0 @@
--- What is reserved for a layout, as numbers of 32 bits.
-use Rattle.stack_mean.specs.Acceptance.{held_at_most}
-use Rattle.layer_desk.specs.Need.{Layout}
-use Rattle.layer_room.specs.declared.reserve.Reserve.{Reserve}
-
-abbrev pub reserved : Layout → Reserve
-reserved layout = record { numbers = layout.numbers; messages = layout.messages; hand = held_at_most layout.hand }

@@ -1,8 +1,0 @@
--- How many things a list has.
-use Rattle.std.specs.Prelude.{ℕ, zero, suc}
-use Rattle.layer_typing.specs.declared.count.Count.{Count}
-use Rattle.layer_typing.specs.declared.count.Count.TheVariants.{Nothing, Behind}
-
-abbrev pub count_of : Count → ℕ
-count_of Nothing = zero
-count_of (Behind k) = suc k

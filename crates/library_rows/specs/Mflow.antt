@@ -1,0 +1,7 @@
+-- The tree of the library layer `mflow`.
+use Rattle.layer_ast.specs.Tree.{LayerTree}
+use Rattle.file_library.specs.Flow.{mflow}
+use Rattle.layer_ast.specs.Reader.{layer_of}
+
+abbrev pub layer : LayerTree
+layer = layer_of mflow

@@ -1,5 +1,0 @@
-use Rattle.library_trees.proofs.Texts.Pt2pt.{spelled}
-use Rattle.library_trees.proofs.spelled.spells_pt2pt.Goals as goal
-
-pub returns : goal.returns
-returns c = spelled

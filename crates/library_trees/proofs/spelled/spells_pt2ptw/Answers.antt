@@ -1,5 +1,0 @@
-use Rattle.library_trees.proofs.Texts.Pt2ptw.{spelled}
-use Rattle.library_trees.proofs.spelled.spells_pt2ptw.Goals as goal
-
-pub returns : goal.returns
-returns c = spelled

@@ -1,7 +1,0 @@
--- The tree of the library layer `elect`.
-use Rattle.layer_ast.specs.Tree.{LayerTree}
-use Rattle.layer_lib.specs.Membership.{elect}
-use Rattle.layer_ast.specs.Reader.{layer_of}
-
-abbrev pub layer : LayerTree
-layer = layer_of elect

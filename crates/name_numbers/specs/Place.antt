@@ -1,8 +1,0 @@
--- The layer at a place that a value of the program shows.
-use Rattle.file_mean.specs.Names.{Placed}
-use Rattle.name_scope.specs.Scope.{scope_of}
-use Rattle.name_numbers.specs.Placed.{placed}
-use Rattle.name_numbers.specs.declared.place.Place.{Place}
-
-abbrev pub placed_of : Place → Placed
-placed_of p = placed (scope_of p.scope).layer p.given.now p.blank

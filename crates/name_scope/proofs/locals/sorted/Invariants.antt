@@ -1,7 +1,0 @@
-use Rattle.std.proofs.Common.{◌≡◌, take}
-use Rattle.file_faults.specs.Scope as names
-use Rattle.name_scope.specs.Scope.{locals_of}
-use Rattle.name_scope.proofs.locals.sorted.Given as goal
-
-abbrev pub invariant-loop-name : goal.invariant-loop-name
-invariant-loop-name l = locals_of l.all.items ≡ names.locals_as l.sorts (take l.name-index l.names)

@@ -1,3 +1,0 @@
-pub mod Scope
-pub mod Sorts
-pub mod Words

@@ -1,7 +1,0 @@
--- The sorts of one argument or two.
-use Rattle.std.specs.Prelude.{List, take}
-use Rattle.layer_ast.specs.declared.syntax.Sort.{Sort}
-use Rattle.name_scope.specs.declared.sorts.Sorts.{Sorts}
-
-abbrev pub sorts_of : Sorts → List Sort
-sorts_of s = take s.count s.both

@@ -1,5 +1,0 @@
-use Rattle.orderly_laws.proofs.Orderly.{chained_is_known}
-use Rattle.orderly_laws.proofs.chained_is_known.Goals as goal
-
-pub returns : goal.returns
-returns c = chained_is_known

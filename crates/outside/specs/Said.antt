@@ -1,0 +1,29 @@
+-- What is said on a sink of why a program ended, and the status.
+use Rattle.std.specs.Prelude.{◌≡◌, ℕ, List, [], ◌∷◌}
+use Rattle.outside.specs.Tells.{Tells}
+use Rattle.outside.specs.Lines.{Begins, Gains, Fails}
+
+-- What the standard error told before and after, and the status.
+pub record Errors : Type 0 where
+  pub before : Tells
+  pub after : Tells
+  pub status : ℕ
+
+abbrev pub errors : Tells → Tells → ℕ → Errors
+errors before after status = record {
+  before = before;
+  after = after;
+  status = status;
+}
+
+-- A line was said whole, in one put, with its status; or a prefix of it, since the standard error failed; or a prefix
+-- of it with status 7, since memory ran out.
+pub data SaysLine (line : List ℕ) (status : ℕ) (e : Errors) : Type 0 where
+  whole : Gains e.before e.after (line ∷ []) → e.status ≡ status → SaysLine line status e
+  failed : Fails e.before e.after (line ∷ []) → e.status ≡ status → SaysLine line status e
+  no_memory : Begins e.before e.after line → e.status ≡ 7 → SaysLine line status e
+
+-- Nothing was said, and the status is 0.
+pub record Silent (e : Errors) : Type 0 where
+  pub status : e.status ≡ 0
+  pub silent : e.after ≡ e.before

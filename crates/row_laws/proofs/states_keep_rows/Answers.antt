@@ -1,5 +1,0 @@
-use Rattle.row_laws.proofs.Rows.{states_keep_rows}
-use Rattle.row_laws.proofs.states_keep_rows.Goals as goal
-
-pub returns : goal.returns
-returns c = states_keep_rows
