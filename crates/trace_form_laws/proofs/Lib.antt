@@ -1,0 +1,12 @@
+pub mod Turns
+pub mod Closed
+pub mod There
+pub mod Links
+pub mod Prices
+pub mod Steps
+pub mod Visits
+pub mod Joins
+pub mod Entries
+pub mod Counts
+pub mod Plans
+pub mod WellFormed

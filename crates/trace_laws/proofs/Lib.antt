@@ -1,0 +1,16 @@
+pub mod Along
+pub mod Fit
+pub mod Walks
+pub mod Worth
+pub mod Later
+pub mod Goes
+pub mod Steps
+pub mod Ways
+pub mod Visits
+pub mod Members
+pub mod Runs
+pub mod Law
+pub mod Unchecked
+pub mod Calls
+pub mod Outlines
+pub mod Shapes

@@ -1,0 +1,237 @@
+-- Traces of small stacks, made and followed by evaluation.
+use Rattle.std.specs.Prelude.{◌≡◌, ℕ, List, [], ◌∷◌, length, Option, Some, None, Result, Ok, Err, codes}
+use Rattle.layer_ast.specs.declared.tokens.Dir.TheVariants.{Up, Down}
+use Rattle.layer_ast.specs.declared.tokens.Kind.TheVariants.{Cast, Send}
+use Rattle.layer_ast.specs.declared.syntax.Operator.TheVariants.{Add, Equal, Less, Greater, And, BitAnd}
+use Rattle.layer_mean.specs.Tree as tree
+use Rattle.layer_mean.specs.Tree.{part, local, message, none, always, queue, queues, LayerTree}
+use Rattle.layer_mean.specs.declared.run.Case.TheVariants.{First, Second}
+use Rattle.layer_mean.specs.declared.run.Event.{Event}
+use Rattle.msg_core.specs.Chain.{plain}
+use Rattle.layer_mean.specs.declared.run.Row.{Row}
+use Rattle.layer_mean.specs.State as state
+use Rattle.layer_mean.specs.State.{State}
+use Rattle.layer_mean.specs.Visit.{fresh}
+use Rattle.stack_mean.specs.NoShape as no_shape
+use Rattle.stack_mean.specs.NoShape.{NoShape, drawn_from}
+use Rattle.stack_mean.specs.SampleLayers.{block, sends, on, named, counter, surprised, bottom, late}
+use Rattle.stack_mean.specs.Cases.{parting}
+use Rattle.stack_mean.specs.Samples.{kept}
+use Rattle.stack_mean.specs.Shape.{app_cast, app_send, packet_entry}
+use Rattle.stack_mean.specs.TwoCases.{flip}
+use Rattle.trace_mean.specs.Trace.{Atom, number, peer, field, bound, taken_number, Core, body, noted, taken_message, TraceNumber, atom, me, count, element, rows, binary, core, held, cut, join, Link, Chained, Operation, bind, note, check, set, push, take, output}
+use Rattle.trace_mean.specs.Follow.{Answer, follow, reached, stopped}
+use Rattle.trace_mean.specs.Fuse.{trace_of}
+use Rattle.trace_mean.specs.Worth.{Input}
+use Rattle.trace_mean.specs.Counts.{trace_length, trace_notes, trace_outputs, trace_joins}
+
+abbrev pub lit : ℕ → TraceNumber
+lit n = atom (number n)
+
+abbrev pub cell : ℕ → ℕ → TraceNumber
+cell p c = element p c (lit 0)
+
+abbrev pub link : ℕ → ℕ → List Atom → Link
+link p tag fields = record { place = p; tag = tag; fields = fields }
+
+abbrev pub with_chain : List Link → Core → Option Chained
+with_chain chain c = Some (record { chain = chain; core = c })
+
+-- The counter's four entries: its own cast and send, and the packets of both.
+abbrev pub CounterTraces : Type 0
+CounterTraces =
+    (trace_of First (counter ∷ []) app_cast [] ≡ Ok
+    (bind (atom peer) ∷ bind (cell 0 0) ∷ set 0 0 (lit 0) (binary Add (cell 0 0) (lit 1)) ∷
+    output Down Cast (bound 0 ∷ []) (with_chain (link 0 1 (bound 1 ∷ []) ∷ []) body) ∷ [])) ×
+    (trace_of First (counter ∷ []) app_send [] ≡ Ok (output Down Send (peer ∷ []) (with_chain (link 0 0 [] ∷ []) body) ∷ [])) ×
+    (trace_of First (counter ∷ []) (packet_entry Cast (1 ∷ [])) (None ∷ []) ≡ Ok
+    (check (binary Equal (atom (field 0)) (element 0 1 (atom peer))) ∷
+    set 0 1 (atom peer) (binary Add (atom (field 0)) (lit 1)) ∷ bind (atom peer) ∷
+    output Up Cast (bound 0 ∷ []) (with_chain [] body) ∷ [])) ×
+    (trace_of First (counter ∷ []) (packet_entry Send (0 ∷ [])) [] ≡ Ok (output Up Send (peer ∷ []) (with_chain [] body) ∷ []))
+
+-- A cast that comes back to its sender before its packet goes out: one bind for each number argument, the headers' fields behind the
+-- event's peer, and the delivery first.
+abbrev pub KeptTrace : Type 0
+KeptTrace = trace_of First kept app_cast [] ≡ Ok
+    (check (binary Equal me (lit 0)) ∷ bind (atom peer) ∷ bind me ∷ bind (cell 3 0) ∷ set 3 0 (lit 0) (binary Add (cell 3 0) (lit 1)) ∷
+    bind (atom (bound 0)) ∷ bind me ∷
+    check (binary Less (rows 1 4 (lit 0)) (lit 64)) ∷
+    push 1 4 (lit 0) [] (with_chain (link 2 0 [] ∷ link 3 1 (bound 1 ∷ bound 2 ∷ []) ∷ []) body) ∷
+    bind (atom (bound 3)) ∷ bind (cell 1 0) ∷ set 1 0 (lit 0) (binary Add (cell 1 0) (lit 1)) ∷
+    check (binary Equal (atom (bound 2)) (cell 3 1)) ∷ check (binary Equal (atom (bound 2)) (cell 3 1)) ∷
+    set 3 1 (lit 0) (binary Add (cell 3 1) (lit 1)) ∷ bind (atom (bound 1)) ∷
+    bind (atom (bound 5)) ∷ bind (lit 1) ∷
+    output Up Cast (bound 7 ∷ []) (with_chain [] body) ∷
+    output Down Cast (bound 8 ∷ []) (with_chain
+    (link 0 1 (bound 9 ∷ []) ∷ link 1 1 (bound 6 ∷ []) ∷ link 2 0 [] ∷ link 3 1 (bound 1 ∷ bound 2 ∷ []) ∷ []) body) ∷ [])
+
+abbrev pub KeptLength : Type 0
+KeptLength = drawn_from (λ ops. Ok (length ops)) (trace_of First kept app_cast []) ≡ Ok 20
+
+-- A layer with two common cases.
+abbrev pub odd : TraceNumber
+odd = binary Equal (binary BitAnd (cell 0 0) (lit 1)) (lit 1)
+
+abbrev pub FlipTraces : Type 0
+FlipTraces =
+    (trace_of First (flip ∷ []) app_cast [] ≡ Ok
+    (set 0 0 (lit 0) (binary Add (cell 0 0) (lit 1)) ∷ check odd ∷ bind (atom peer) ∷ bind (cell 0 0) ∷
+    output Down Cast (bound 0 ∷ []) (with_chain (link 0 1 (bound 1 ∷ []) ∷ []) body) ∷ [])) ×
+    (trace_of Second (flip ∷ []) app_cast [] ≡ Ok
+    (set 0 0 (lit 0) (binary Add (cell 0 0) (lit 1)) ∷ check (binary Equal odd (lit 0)) ∷ bind (atom peer) ∷ bind (cell 0 0) ∷
+    output Down Cast (bound 0 ∷ []) (with_chain (link 0 2 (bound 1 ∷ []) ∷ []) body) ∷ [])) ×
+    (trace_of Second (flip ∷ []) app_send [] ≡ Err no_shape.same)
+
+abbrev pub NoTraces : Type 0
+NoTraces =
+    (trace_of First (bottom ∷ surprised ∷ late ∷ []) app_cast [] ≡ Err (no_shape.stored 2)) ×
+    (trace_of First (flip ∷ []) (packet_entry Cast (1 ∷ [])) (None ∷ []) ≡ Err (no_shape.rare 0))
+
+-- The counter's cast followed by the first of two members, and a packet that comes too early, which stops at the first check.
+abbrev pub first_input : Input
+first_input = record { me = 0; count = 2; ltime = 0; peer = 0; fields = []; body = codes "x" }
+
+abbrev pub early_input : Input
+early_input = record first_input { peer = 1; fields = 5 ∷ [] }
+
+abbrev pub counting : ℕ → State
+counting n = record (fresh counter 0 2 0) { cells = state.numbers (n ∷ []) ∷ state.numbers (0 ∷ 0 ∷ []) ∷ [] }
+
+abbrev pub cast_of : ℕ → List ℕ → Event
+cast_of n text = record {
+  kind = Cast;
+  peer = 0;
+  a = 0;
+  b = 0;
+  message = Some (record { headers = record { layer = 0; tag = 1; fields = n ∷ [] } ∷ []; body = text });
+}
+
+abbrev pub followed : Input → State → Result (List Operation) NoShape → Result Answer NoShape
+followed i s = drawn_from (λ operations. Ok (follow i operations (s ∷ [])))
+
+abbrev pub CounterFollowed : Type 0
+CounterFollowed =
+    (followed first_input (fresh counter 0 2 0) (trace_of First (counter ∷ []) app_cast []) ≡
+    Ok (reached (counting 1 ∷ []) ((Down, cast_of 0 (codes "x")) ∷ []))) ×
+    (followed early_input (fresh counter 0 2 0) (trace_of First (counter ∷ []) (packet_entry Cast (1 ∷ [])) (None ∷ [])) ≡ Ok (stopped 0))
+
+-- A part is cut, kept, taken back and sent, and then one that is held: each is noted where it is pushed or sent.
+abbrev pub NotedTrace : Type 0
+NotedTrace = trace_of First (parting ∷ []) app_cast [] ≡ Ok
+    (check (binary Less (rows 0 0 (lit 0)) (lit 4)) ∷ note (cut (core body) (lit 0) (lit 8)) ∷ push 0 0 (lit 0) [] (with_chain [] (noted 0)) ∷
+    check (binary Greater (rows 0 0 (lit 0)) (lit 0)) ∷ take 0 0 (lit 0) ∷
+    bind (atom peer) ∷ note (core (taken_message 0 part)) ∷ bind (atom peer) ∷ note (held 0 0 (lit 0) (lit 0) part) ∷
+    output Down Cast (bound 0 ∷ []) (with_chain (link 0 1 [] ∷ []) (noted 1)) ∷
+    output Down Cast (bound 1 ∷ []) (with_chain (link 0 1 [] ∷ []) (noted 2)) ∷ [])
+
+abbrev pub NotedLength : Type 0
+NotedLength = drawn_from (λ ops. Ok (trace_length ops)) (trace_of First (parting ∷ []) app_cast []) ≡ Ok 8
+
+-- A number and a part are kept and taken back, and the part is put in front of the message that is sent.
+abbrev pub joiner : LayerTree
+joiner = record {
+  name = codes "joiner";
+  cells = named (codes "q") (queue 4 (record { numbers = codes "x" ∷ []; message = Some (codes "p", part) })) ∷ [];
+  headers = [];
+  handlers = on Down Cast 0 always
+      (tree.push 0 (tree.number 0) 4 (record { numbers = tree.number 7 ∷ []; message = Some (tree.cut (message 0) (tree.number 0) (tree.number 2)) }) none ∷
+      tree.take 0 (tree.number 0) (record { numbers = 1 ∷ []; message = Some (1, part) })
+      (block (sends Down Cast (local 1) (tree.join (message 1) (message 0)) 0 [] ∷ [])) none ∷ []) ∷ [];
+}
+
+abbrev pub joined : Result (List Operation) NoShape
+joined = trace_of First (joiner ∷ []) app_cast []
+
+abbrev pub JoinedTrace : Type 0
+JoinedTrace = joined ≡ Ok
+    (check (binary Less (rows 0 0 (lit 0)) (lit 4)) ∷ note (cut (core body) (lit 0) (lit 2)) ∷
+    push 0 0 (lit 0) (lit 7 ∷ []) (with_chain [] (noted 0)) ∷
+    check (binary Greater (rows 0 0 (lit 0)) (lit 0)) ∷ take 0 0 (lit 0) ∷
+    bind (atom (taken_number 0 0)) ∷ note (join (core (taken_message 0 part)) (core body)) ∷
+    output Down Cast (bound 0 ∷ []) (with_chain (link 0 0 [] ∷ []) (noted 1)) ∷ [])
+
+-- It counts for six operations, with two notes, one join and one output.
+abbrev pub JoinedCounts : Type 0
+JoinedCounts =
+    (drawn_from (λ ops. Ok (trace_length ops)) joined ≡ Ok 6) × (drawn_from (λ ops. Ok (trace_notes ops)) joined ≡ Ok 2) ×
+    (drawn_from (λ ops. Ok (trace_joins ops)) joined ≡ Ok 1) × (drawn_from (λ ops. Ok (trace_outputs ops)) joined ≡ Ok 1)
+
+-- Followed, it sends what it took in front of what it was given, and leaves its queue empty.
+abbrev pub abc : Input
+abc = record first_input { body = codes "abc" }
+
+abbrev pub JoinedFollowed : Type 0
+JoinedFollowed = followed abc (fresh joiner 0 2 0) joined ≡ Ok (reached (fresh joiner 0 2 0 ∷ []) ((
+  Down,
+  record {
+    kind = Cast;
+    peer = 7;
+    a = 0;
+    b = 0;
+    message = Some (record { headers = record { layer = 0; tag = 0; fields = [] } ∷ []; body = codes "ababc" });
+  },
+) ∷ []))
+
+-- A queue for each member is told with its index, also where that is written as 0.
+abbrev pub keeper : LayerTree
+keeper = record {
+  name = codes "keeper";
+  cells = named (codes "from") (queues 4 (record { numbers = codes "p" ∷ []; message = None })) ∷ [];
+  headers = [];
+  handlers = on Down Cast 0 always
+      (tree.push 0 (local 0) 4 (record { numbers = local 0 ∷ []; message = None }) none ∷
+      tree.take 0 (tree.number 0) (record { numbers = 1 ∷ []; message = None })
+      (block (sends Down Cast (local 1) (message 0) 0 [] ∷ [])) none ∷ []) ∷ [];
+}
+
+abbrev pub KeeperTrace : Type 0
+KeeperTrace = trace_of First (keeper ∷ []) app_cast [] ≡ Ok
+    (check (binary And (binary Less (atom peer) count) (binary Less (rows 0 0 (atom peer)) (lit 4))) ∷
+    push 0 0 (atom peer) (atom peer ∷ []) None ∷
+    check (binary Greater (rows 0 0 (lit 0)) (lit 0)) ∷ take 0 0 (lit 0) ∷
+    bind (atom (taken_number 0 0)) ∷ output Down Cast (bound 0 ∷ []) (with_chain (link 0 0 [] ∷ []) body) ∷ [])
+
+-- A part that is held is sent, and then its row is taken.
+abbrev pub leaver : LayerTree
+leaver = record {
+  name = codes "leaver";
+  cells = named (codes "q") (queue 4 (record { numbers = []; message = Some (codes "p", part) })) ∷ [];
+  headers = [];
+  handlers = on Down Cast 0 always
+      (sends Down Cast (local 0) (tree.held 0 (tree.number 0) (tree.number 0) part) 0 [] ∷
+      tree.take 0 (tree.number 0) (record { numbers = []; message = None }) none none ∷ []) ∷ [];
+}
+
+abbrev pub LeaverTrace : Type 0
+LeaverTrace = trace_of First (leaver ∷ []) app_cast [] ≡ Ok
+    (bind (atom peer) ∷ note (held 0 0 (lit 0) (lit 0) part) ∷ check (binary Greater (rows 0 0 (lit 0)) (lit 0)) ∷ take 0 0 (lit 0) ∷
+    output Down Cast (bound 0 ∷ []) (with_chain (link 0 0 [] ∷ []) (noted 0)) ∷ [])
+
+-- With its note directly before the output it would send nothing of the part.
+abbrev pub noted_late : List Operation
+noted_late = bind (atom peer) ∷ check (binary Greater (rows 0 0 (lit 0)) (lit 0)) ∷ take 0 0 (lit 0) ∷
+    note (held 0 0 (lit 0) (lit 0) part) ∷ output Down Cast (bound 0 ∷ []) (with_chain (link 0 0 [] ∷ []) (noted 0)) ∷ []
+
+abbrev pub leaving : List Row → State
+leaving kept = record (fresh leaver 0 2 0) { cells = state.queues (kept ∷ []) ∷ [] }
+
+abbrev pub kept_part : Row
+kept_part = record { numbers = []; message = Some (plain (codes "ab")) }
+
+abbrev pub left_with : List ℕ → Answer
+left_with text = reached (leaving [] ∷ []) ((
+  Down,
+  record {
+    kind = Cast;
+    peer = 0;
+    a = 0;
+    b = 0;
+    message = Some (record { headers = record { layer = 0; tag = 0; fields = [] } ∷ []; body = text });
+  },
+) ∷ [])
+
+abbrev pub LeaverFollowed : Type 0
+LeaverFollowed =
+    (followed first_input (leaving (kept_part ∷ [])) (trace_of First (leaver ∷ []) app_cast []) ≡ Ok (left_with (codes "ab"))) ×
+    (follow first_input noted_late (leaving (kept_part ∷ []) ∷ []) ≡ left_with [])
