@@ -1,0 +1,44 @@
+-- Entry values that are used only after they are made.
+use Rattle.std.specs.Prelude.{ℕ, suc, nat_lt, Bool, true, false, ◌&&◌, List, [], ◌∷◌, length}
+use Rattle.std.specs.List.{list_all}
+use Rattle.trace_mean.specs.Trace.{Atom, bound, taken_number, value, Core, noted, taken_message, TraceNumber, atom, element, square, rows, item, size, binary, apply, pick, TraceMessage, core, held, cut, tail, join, Guarded}
+
+-- Only entry values below n are read, and nothing that is bound, noted or taken.
+abbrev pub closed_atom : ℕ → Atom → Bool
+closed_atom n (value k) = nat_lt k n
+closed_atom n (bound k) = false
+closed_atom n (taken_number r k) = false
+closed_atom n _ = true
+
+abbrev pub closed_core : Core → Bool
+closed_core (noted k) = false
+closed_core (taken_message r carried) = false
+closed_core _ = true
+
+abbrev mutual
+  pub closed : ℕ → TraceNumber → Bool
+  closed n (atom a) = closed_atom n a
+  closed n (element p c e) = closed n e
+  closed n (square p c r k) = closed n r && closed n k
+  closed n (rows p c e) = closed n e
+  closed n (item p c e r k) = closed n e && closed n r
+  closed n (size m) = closed_message n m
+  closed n (binary o a b) = closed n a && closed n b
+  closed n (apply f a) = closed n a
+  closed n (pick c a b) = closed n c && (closed n a && closed n b)
+  closed n _ = true
+
+  pub closed_message : ℕ → TraceMessage → Bool
+  closed_message n (core c) = closed_core c
+  closed_message n (held p c e r carried) = closed n e && closed n r
+  closed_message n (cut m f k) = closed_message n m && (closed n f && closed n k)
+  closed_message n (tail m f) = closed_message n m && closed n f
+  closed_message n (join a b) = closed_message n a && closed_message n b
+
+abbrev pub all_closed : ℕ → List TraceNumber → Bool
+all_closed n [] = true
+all_closed n (e ∷ es) = closed n e && all_closed (suc n) es
+
+-- Each entry value reads earlier ones, and the conjuncts any.
+abbrev pub is_closed : Guarded → Bool
+is_closed g = all_closed 0 g.values && list_all (closed (length g.values)) g.conjuncts

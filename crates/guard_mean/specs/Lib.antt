@@ -1,0 +1,12 @@
+pub mod Perform
+pub mod Hoist
+pub mod Prune
+pub mod Alike
+pub mod Simplify
+pub mod Reduced
+pub mod Code
+pub mod Same
+pub mod Machine
+pub mod Straight
+pub mod Closed
+pub mod Samples
