@@ -1,0 +1,10 @@
+-- By computation.
+use Rattle.std.proofs.Common.{refl}
+use Rattle.std.specs.Fmt.{digits}
+use Rattle.layer_ast.specs.Spelling.{kinds, reserved, symbols}
+use Rattle.trace_mean.specs.Fuse.{made_trace}
+use Rattle.bypass_mean.proofs.samples.joined_text.Goals as goal
+
+pub returns : goal.returns
+unfolding digits kinds reserved symbols made_trace
+returns c = (refl, refl)

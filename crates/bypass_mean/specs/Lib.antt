@@ -1,0 +1,4 @@
+pub mod Bypasses
+pub mod Text
+pub mod Lines
+pub mod Samples

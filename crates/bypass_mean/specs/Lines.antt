@@ -1,0 +1,114 @@
+-- How bypasses are written: with their guarded handlers, to be read; and with the notes of their traces, to be loaded again.
+use Rattle.std.specs.Prelude.{ℕ, suc, ◌+◌, true, false, List, [], ◌∷◌, ◌++◌, map, slice_get, codes, option_to_list}
+use Rattle.std.specs.Fmt.{decimal}
+use Rattle.std.specs.List.{flat_map, sum_by}
+use Rattle.std.specs.Option.{option_flatten}
+use Rattle.layer_mean.specs.Tree.{LayerTree}
+use Rattle.layer_ast.specs.declared.tokens.Kind.{Kind}
+use Rattle.layer_ast.specs.declared.tokens.Kind.TheVariants.{Cast}
+use Rattle.stack_mean.specs.NoShape as no_shape
+use Rattle.stack_mean.specs.NoShape.{NoShape}
+use Rattle.stack_mean.specs.Plan.{Plan}
+use Rattle.trace_mean.specs.Trace.{Atom, number, TraceNumber, Guarded}
+use Rattle.trace_mean.specs.Fuse.{field_atoms, entry_chain}
+use Rattle.bypass_mean.specs.Bypasses.{Made, fused, absent, Bypasses}
+use Rattle.bypass_mean.specs.Text.{nothing_written, number_text, chain_text, operation_lines}
+
+-- A guarded handler: its entry values, its conjuncts, and what is done where these hold.
+abbrev pub value_lines : List LayerTree → ℕ → List TraceNumber → List (List ℕ)
+value_lines stack k [] = []
+value_lines stack k (e ∷ es) =
+    (codes "let v." ++ decimal k ++ codes " = " ++ number_text stack nothing_written e) ∷ value_lines stack (suc k) es
+
+abbrev pub conjunct_line : List LayerTree → TraceNumber → List ℕ
+conjunct_line stack e = codes "when " ++ number_text stack nothing_written e
+
+abbrev pub done_line : List ℕ → List ℕ
+done_line line = codes "do " ++ line
+
+abbrev pub guarded_lines : List LayerTree → Guarded → List (List ℕ)
+guarded_lines stack g =
+    value_lines stack 0 g.values ++ map (conjunct_line stack) g.conjuncts ++ map done_line (operation_lines false stack g.operations)
+
+-- Why there is no trace.
+abbrev pub reason_text : NoShape → List ℕ
+reason_text (no_shape.loop place) = codes "loop " ++ decimal place
+reason_text (no_shape.rare place) = codes "rare " ++ decimal place
+reason_text (no_shape.stored place) = codes "stored " ++ decimal place
+reason_text no_shape.long = codes "long"
+reason_text no_shape.same = codes "same"
+
+-- What is made of an entry in a case, behind a heading.
+abbrev pub made_lines : List LayerTree → List ℕ → Made → List (List ℕ)
+made_lines stack heading (fused trace guarded) = (heading ++ codes " fused") ∷ guarded_lines stack guarded
+made_lines stack heading (absent reason) = (heading ++ codes " absent " ++ reason_text reason) ∷ []
+
+-- What is made of the n-th entry: in its first case, and in its second where there is one.
+abbrev pub first_made : Bypasses → ℕ → List Made
+first_made b n = option_to_list (slice_get b.made n)
+
+abbrev pub second_made : Bypasses → ℕ → List Made
+second_made b n = option_to_list (option_flatten (slice_get b.second n))
+
+abbrev pub entry_lines : List LayerTree → Bypasses → ℕ → List ℕ → List (List ℕ)
+entry_lines stack b n name = flat_map (made_lines stack (codes "entry " ++ name)) (first_made b n)
+    ++ flat_map (made_lines stack (codes "entry " ++ name ++ codes " second")) (second_made b n)
+
+-- A plan, with `?` for a field that varies.
+abbrev pub planned_field : Atom → List ℕ
+planned_field (number n) = decimal n
+planned_field _ = codes "?"
+
+abbrev pub packet_word : Kind → List ℕ
+packet_word Cast = codes "cast"
+packet_word _ = codes "send"
+
+abbrev pub plan_name : ℕ → List ℕ
+plan_name k = codes "plan " ++ decimal k
+
+abbrev pub plan_line : List LayerTree → ℕ → Plan → List ℕ
+plan_line stack k plan = plan_name k ++ codes " " ++ packet_word plan.kind ++ codes " "
+    ++ chain_text stack planned_field (entry_chain 0 stack plan.tags (field_atoms 0 plan.fields))
+
+-- The plans from number k on, each before its entry.
+abbrev pub plans_lines : List LayerTree → Bypasses → ℕ → List Plan → List (List ℕ)
+plans_lines stack b k [] = []
+plans_lines stack b k (plan ∷ plans) =
+    plan_line stack k plan ∷ entry_lines stack b (k + 2) (plan_name k) ++ plans_lines stack b (suc k) plans
+
+abbrev pub a_fused : Made → ℕ
+a_fused (fused trace guarded) = 1
+a_fused (absent reason) = 0
+
+abbrev pub an_absent : Made → ℕ
+an_absent (fused trace guarded) = 0
+an_absent (absent reason) = 1
+
+abbrev pub all_made : Bypasses → List Made
+all_made b = b.made ++ flat_map option_to_list b.second
+
+abbrev pub end_line : Bypasses → List ℕ
+end_line b = codes "end " ++ decimal (sum_by a_fused (all_made b)) ++ codes " fused " ++ decimal (sum_by an_absent (all_made b))
+    ++ codes " absent"
+
+-- The text of bypasses.
+abbrev pub bypass_lines : List LayerTree → List Plan → Bypasses → List (List ℕ)
+bypass_lines stack plans b = entry_lines stack b 0 (codes "cast") ++ entry_lines stack b 1 (codes "send") ++ plans_lines stack b 0 plans
+    ++ end_line b ∷ []
+
+-- Their traces as a file: those that were made, each with its notes.
+abbrev pub trace_lines : List LayerTree → List ℕ → Made → List (List ℕ)
+trace_lines stack heading (fused trace guarded) = heading ∷ operation_lines true stack trace
+trace_lines stack heading (absent reason) = []
+
+abbrev pub entry_traces : List LayerTree → Bypasses → ℕ → List ℕ → List (List ℕ)
+entry_traces stack b n name = flat_map (trace_lines stack (codes "entry " ++ name ++ codes " case 1")) (first_made b n)
+    ++ flat_map (trace_lines stack (codes "entry " ++ name ++ codes " case 2")) (second_made b n)
+
+abbrev pub plans_traces : List LayerTree → Bypasses → ℕ → List Plan → List (List ℕ)
+plans_traces stack b k [] = []
+plans_traces stack b k (plan ∷ plans) = entry_traces stack b (k + 2) (plan_name k) ++ plans_traces stack b (suc k) plans
+
+abbrev pub file_lines : List LayerTree → List Plan → Bypasses → List (List ℕ)
+file_lines stack plans b = codes "bypasses 1" ∷ entry_traces stack b 0 (codes "cast") ++ entry_traces stack b 1 (codes "send")
+    ++ plans_traces stack b 0 plans ++ codes "end" ∷ []
