@@ -1,0 +1,9 @@
+pub mod Scripts
+pub mod Standing
+pub mod Steps
+pub mod Short
+pub mod Datagrams
+pub mod Replays
+pub mod Counts
+pub mod Missed
+pub mod SmallRuns

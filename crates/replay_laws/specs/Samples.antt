@@ -1,0 +1,44 @@
+-- A cast over the counter's stack that is given to a member twice: the second time it isn't the one that is due.
+use Rattle.std.specs.Prelude.{◌≡◌, ℕ, List, [], ◌∷◌, map, slice_get, Option, Some, None, codes, Result, Ok, Err}
+use Rattle.layer_ast.specs.declared.tokens.Kind.TheVariants.{Cast}
+use Rattle.layer_mean.specs.declared.run.Case.TheVariants.{First}
+use Rattle.packet_mean.specs.Spelling.{full_form, short_form}
+use Rattle.stack_mean.specs.NoShape.{NoShape}
+use Rattle.stack_mean.specs.Plans.{plans_of}
+use Rattle.stack_mean.specs.Shape.{app_cast, packet_entry, Shape, shape}
+use Rattle.script_mean.specs.declared.event.ScriptEvent.{ScriptEvent}
+use Rattle.script_mean.specs.declared.event.ScriptEvent.TheVariants as script
+use Rattle.job_mean.specs.Job.{Mode, layered, bypass}
+use Rattle.file_mean.specs.CounterFile as counter
+use Rattle.run_mean.specs.Common.{first_missed}
+use Rattle.run_mean.specs.World.{first_world, Did, taken}
+use Rattle.run_mean.specs.Report.{Moment, moments}
+use Rattle.replay_laws.specs.Datagrams.{datagrams}
+use Rattle.replay_laws.specs.Missed.{shape_decisions}
+
+abbrev pub given_twice : List ScriptEvent
+given_twice = script.Cast 0 (codes "hi") ∷ script.Give 1 1 ∷ script.Give 1 1 ∷ []
+
+abbrev pub counted : List Moment
+counted = moments counter.stack (plans_of counter.stack) (first_world counter.stack 1 7 3) given_twice
+
+-- The numbers of its datagrams in a mode, with the first byte of each.
+abbrev pub forms : Mode → List (ℕ × Option ℕ)
+forms mode = map (λ d. (d.number, slice_get d.bytes 0)) (datagrams mode counter.stack (plans_of counter.stack) counted)
+
+-- The first decision of a step that isn't as predicted, and how many decisions a shape has.
+abbrev pub missed_by : Did → Option ℕ
+missed_by (taken s) = first_missed First s
+missed_by _ = None
+
+abbrev pub decisions_of : Result Shape NoShape → ℕ
+decisions_of (Ok s) = shape_decisions First counter.stack s
+decisions_of (Err reason) = 0
+
+-- The one datagram is short in bypass mode and full where all is layered; the packet's shape has one decision, which the second give misses.
+abbrev pub GivenTwice : Type 0
+GivenTwice =
+    (forms bypass ≡ (1, Some short_form) ∷ []) × (forms layered ≡ (1, Some full_form) ∷ []) ×
+    (map (λ m. missed_by m.happening.did) counted ≡ None ∷ None ∷ Some 0 ∷ []) ×
+    (decisions_of (shape counter.stack app_cast First) ≡ 0) ×
+    (decisions_of (shape counter.stack (packet_entry Cast (1 ∷ [])) First) ≡ 1)

@@ -1,0 +1,7 @@
+//! The words of the laws on a small stack, worked out by evaluation. Nothing runs here.
+ghost use Rattle.replay_laws.specs.Samples.{GivenTwice};
+
+/// A cast that is given twice: its datagram in both modes, and the decision that the second time misses.
+pub fn given_twice()
+    ensures { GivenTwice }
+{}
