@@ -6,22 +6,28 @@ use outside::{
 };
 use std::alloc::{AllocError, Global};
 use std::io::{ErrorKind, Read, Write, pipe};
+use std::rt::Files;
 use std::test::Fail;
 use std::{fs, io, process};
 
-fn file(alloc: Global, name: &str, bytes: &[u8]) -> Result<NamedFile, AllocError> {
-    Ok(NamedFile {
-        name: String::from_str(alloc, name)?,
-        bytes: bytes.to_vec(alloc)?,
-    })
-}
-
-/// A stream that takes three bytes at most in a call, is interrupted before each, and fails once it took so many.
+/// A stream that takes three bytes at most in a call, is interrupted before each, and fails once it took so many. Its first flush fails.
 #[derive(Drop)]
 struct Slow {
     taken: Vec<u8>,
     most: usize,
     interrupted: bool,
+    flushed: bool,
+}
+
+impl Slow {
+    fn of(alloc: Global, most: usize) -> Self {
+        Slow {
+            taken: Vec::new(alloc),
+            most,
+            interrupted: false,
+            flushed: false,
+        }
+    }
 }
 
 impl Write for Slow {
@@ -36,24 +42,6 @@ impl Write for Slow {
         let count = buf.len().min(3).min(self.most - self.taken.len());
         self.taken.extend_from_slice(&buf[..count])?;
         Ok(count)
-    }
-
-    fn flush(&mut self) -> io::Result<()> {
-        Ok(())
-    }
-}
-
-/// A stream whose first flush fails.
-#[derive(Drop)]
-struct Stuck {
-    taken: Vec<u8>,
-    flushed: bool,
-}
-
-impl Write for Stuck {
-    fn write(&mut self, buf: &[u8]) -> io::Result<usize> {
-        self.taken.extend_from_slice(buf)?;
-        Ok(buf.len())
     }
 
     fn flush(&mut self) -> io::Result<()> {
@@ -89,167 +77,172 @@ impl Read for Drip {
     }
 }
 
-#[test]
-fn a_shelf_in_memory_reads_up_to_the_limit(rt: HostRuntime) -> Result<(), Fail> {
-    let alloc = rt.alloc();
-    let files = vec![in alloc; file(alloc, "a", b"hello")?, file(alloc, "b", b"")?]?;
-    let mut shelf = MemShelf::of(files, vec![in alloc; false, true]?);
-    let mut into = b"stale".to_vec(alloc)?;
-    assert_eq!(rt; shelf.read("a", &mut into, 5), Ok(Got::Whole));
-    assert_eq!(rt; into.as_slice(), b"hello".as_slice());
-    assert_eq!(rt;
-        shelf.read("a", &mut into, 5),
-        Err(ShelfError::Failed),
-        "the second read"
-    );
-    assert_eq!(rt; into.as_slice(), b"".as_slice());
-    assert_eq!(rt; shelf.read("a", &mut into, 4), Ok(Got::TooLong));
-    assert_eq!(rt; shelf.read("b", &mut into, 0), Ok(Got::Whole));
-    assert_eq!(rt;
-        shelf.read("c", &mut into, 9),
-        Err(ShelfError::Failed),
-        "no such file"
-    );
-    assert_eq!(rt; shelf.faults(), 2);
-    Ok(())
+/// A file `a`, whose bytes are `hello`.
+fn files(alloc: Global) -> Result<Vec<NamedFile>, AllocError> {
+    let file = NamedFile {
+        name: String::from_str(alloc, "a")?,
+        bytes: b"hello".to_vec(alloc)?,
+    };
+    Ok(vec![in alloc; file]?)
 }
 
-#[test]
-fn a_still_shelf_has_every_file(rt: HostRuntime) -> Result<(), Fail> {
-    let alloc = rt.alloc();
-    let mut shelf = StillShelf::of(vec![in alloc; file(alloc, "a", b"hello")?]?);
+/// Whether a shelf gives these bytes under a name.
+fn gives<S: Shelf>(alloc: Global, shelf: &mut S, name: &str, bytes: &[u8]) -> bool {
     let mut into = Vec::new(alloc);
-    assert_eq!(rt; shelf.read("a", &mut into, 9), Ok(Got::Whole));
-    assert_eq!(rt; into.as_slice(), b"hello".as_slice());
-    assert_eq!(rt; shelf.read("b", &mut into, 9), Ok(Got::Whole));
-    assert_eq!(rt; into.as_slice(), b"".as_slice());
-    Ok(())
+    shelf.read(name, &mut into, bytes.len() as u64) == Ok(Got::Whole) && into.as_slice() == bytes
 }
 
-#[test]
-fn a_sink_in_memory_fails_where_it_is_told_to(rt: HostRuntime) -> Result<(), Fail> {
-    let alloc = rt.alloc();
-    let mut sink = MemSink::of(alloc, vec![in alloc; None, None, Some(0), Some(2)]?);
-    assert_eq!(rt; sink.put(b"one\n"), Ok(()));
-    assert_eq!(rt; sink.put(b"two\n"), Ok(()));
-    assert_eq!(rt; sink.put(b"three\n"), Err(SinkError::Failed));
-    assert_eq!(rt; sink.contents(), b"one\ntwo\n".as_slice());
-    assert_eq!(rt; sink.put(b"four\n"), Err(SinkError::Failed));
-    assert_eq!(rt; sink.put(b"five\n"), Ok(()));
-    assert_eq!(rt; sink.contents(), b"one\ntwo\nfofive\n".as_slice());
-    assert_eq!(rt; sink.faults(), 2);
-    Ok(())
+/// Whether a shelf holds more than so many bytes under a name.
+fn is_longer<S: Shelf>(alloc: Global, shelf: &mut S, name: &str, most: u64) -> bool {
+    let mut into = Vec::new(alloc);
+    shelf.read(name, &mut into, most) == Ok(Got::TooLong)
 }
 
-#[test]
-fn a_still_sink_appends(rt: HostRuntime) -> Result<(), Fail> {
-    let mut sink = StillSink::of(rt.alloc());
-    assert_eq!(rt; sink.put(b"one\n"), Ok(()));
-    assert_eq!(rt; sink.put(b"two\n"), Ok(()));
-    assert_eq!(rt; sink.contents(), b"one\ntwo\n".as_slice());
-    Ok(())
+/// Whether a read fails.
+fn fails<S: Shelf>(alloc: Global, shelf: &mut S, name: &str) -> bool {
+    let mut into = Vec::new(alloc);
+    shelf.read(name, &mut into, 9) == Err(ShelfError::Failed)
 }
 
-#[test]
-fn a_slow_stream_gets_every_byte(rt: HostRuntime) -> Result<(), Fail> {
-    let alloc = rt.alloc();
-    let slow = Slow {
-        taken: Vec::new(alloc),
-        most: 1_000_000,
-        interrupted: false,
-    };
-    let mut sink = StdSink::of(alloc, slow)?;
-    let mut want = Vec::new(alloc);
-    for (length, byte) in [
-        (65_530, b'a'),
-        (0, b'b'),
-        (6, b'c'),
-        (1, b'd'),
-        (70_000, b'e'),
-    ] {
-        let bytes = vec![in alloc; byte; length]?;
-        assert_eq!(rt; sink.put(&bytes), Ok(()), "{length} bytes");
-        want.extend_from_slice(&bytes)?;
-    }
-    assert_eq!(rt; sink.finish(), Ok(()));
-    assert_eq!(rt; sink.stream().taken.as_slice(), want.as_slice());
-    Ok(())
+/// Whether a sink takes these bytes.
+fn takes<O: Sink>(sink: &mut O, bytes: &[u8]) -> bool {
+    sink.put(bytes) == Ok(())
 }
 
-#[test]
-fn a_stream_that_fails_raises_the_count(rt: HostRuntime) -> Result<(), Fail> {
-    let alloc = rt.alloc();
-    let slow = Slow {
-        taken: Vec::new(alloc),
-        most: 4,
-        interrupted: false,
-    };
-    let mut sink = StdSink::of(alloc, slow)?;
-    assert_eq!(rt; sink.put(b"hello"), Ok(()), "it is gathered");
-    assert_eq!(rt; sink.finish(), Err(SinkError::Failed));
-    assert_eq!(rt; sink.faults(), 1);
-    assert_eq!(rt; sink.stream().taken.as_slice(), b"hell".as_slice());
-    assert_eq!(rt;
-        sink.finish(),
-        Err(SinkError::Failed),
-        "the rest is still held"
-    );
-    assert_eq!(rt; sink.faults(), 2);
-    Ok(())
+/// Whether the stream of a sink got so many bytes, where its first flush failed.
+fn is_whole(sink: &mut StdSink<Slow>, count: usize) -> bool {
+    sink.finish() == Err(SinkError::Failed)
+        && sink.finish() == Ok(())
+        && sink.stream().taken.len() == count
 }
 
-#[test]
-fn a_flush_that_fails_raises_the_count(rt: HostRuntime) -> Result<(), Fail> {
-    let alloc = rt.alloc();
-    let stuck = Stuck {
-        taken: Vec::new(alloc),
-        flushed: false,
-    };
-    let mut sink = StdSink::of(alloc, stuck)?;
-    assert_eq!(rt; sink.put(b"hello"), Ok(()));
-    assert_eq!(rt; sink.finish(), Err(SinkError::Failed));
-    assert_eq!(rt; sink.faults(), 1);
-    assert_eq!(rt; sink.finish(), Ok(()), "the second flush goes well");
-    assert_eq!(rt; sink.faults(), 1);
-    assert_eq!(rt; sink.stream().taken.as_slice(), b"hello".as_slice());
-    Ok(())
+/// Whether a sink takes so many bytes of this value.
+fn takes_so_many<O: Sink>(
+    alloc: Global,
+    sink: &mut O,
+    byte: u8,
+    count: usize,
+) -> Result<bool, AllocError> {
+    let bytes = vec![in alloc; byte; count]?;
+    Ok(takes(sink, &bytes))
 }
 
-#[test]
-fn an_interrupted_read_is_tried_again(rt: HostRuntime) -> Result<(), Fail> {
-    let alloc = rt.alloc();
+/// Whether a sink takes bytes up to the 64 KiB that it gathers, one more, and more than it gathers.
+fn takes_pieces<O: Sink>(alloc: Global, sink: &mut O) -> Result<bool, AllocError> {
+    Ok(
+        takes_so_many(alloc, sink, b'a', 65_530)?
+            && takes_so_many(alloc, sink, b'b', 6)?
+            && takes(sink, b"c")
+            && takes_so_many(alloc, sink, b'd', 70_000)?,
+    )
+}
+
+/// Whether a slow stream gets every byte in its order.
+fn slow_gets_all(alloc: Global) -> io::Result<bool> {
+    let mut sink = StdSink::of(alloc, Slow::of(alloc, 1_000_000))?;
+    Ok(
+        takes_pieces(alloc, &mut sink)?
+            && is_whole(&mut sink, 135_537)
+            && sink.stream().taken.is_sorted(),
+    )
+}
+
+/// Whether a stream that breaks got what it took, and the count rose.
+fn broken_is_counted(alloc: Global) -> io::Result<bool> {
+    let mut sink = StdSink::of(alloc, Slow::of(alloc, 4))?;
+    Ok(
+        takes(&mut sink, b"hello")
+            && sink.finish() == Err(SinkError::Failed)
+            && sink.faults() == 1
+            && sink.stream().taken.as_slice() == b"hell".as_slice(),
+    )
+}
+
+/// Whether a stream that drips is read whole.
+fn drip_is_read(alloc: Global) -> io::Result<bool> {
     let mut drip = Drip {
         left: b"olleh".to_vec(alloc)?,
         interrupted: false,
     };
     let mut into = Vec::new(alloc);
-    assert_eq!(rt; read_stream(&mut drip, &mut into, 5), Ok(Got::Whole));
-    assert_eq!(rt; into.as_slice(), b"hello".as_slice());
-    Ok(())
+    Ok(
+        read_stream(&mut drip, &mut into, 5) == Ok(Got::Whole)
+            && into.as_slice() == b"hello".as_slice(),
+    )
 }
 
-#[test]
-fn a_pipe_of_the_system_gets_every_byte(rt: HostRuntime) -> Result<(), Fail> {
-    let alloc = rt.alloc();
-    let (mut reader, writer) = pipe(&rt)?;
+/// Whether a pipe of the system gets every byte.
+fn pipe_gets_all(
+    alloc: Global,
+    writer: impl Write + Drop,
+    reader: &mut impl Read,
+) -> io::Result<bool> {
     let mut sink = StdSink::of(alloc, writer)?;
-    assert_eq!(rt; sink.put(b"one\n"), Ok(()));
-    assert_eq!(rt; sink.put(b"two\n"), Ok(()));
-    assert_eq!(rt; sink.finish(), Ok(()));
+    let put = takes(&mut sink, b"one\n") && takes(&mut sink, b"two\n");
+    let whole = put && sink.finish() == Ok(());
     drop(sink);
     let mut got = Vec::new(alloc);
     reader.read_to_end(&mut got)?;
-    assert_eq!(rt; got.as_slice(), b"one\ntwo\n".as_slice());
+    Ok(whole && got.as_slice() == b"one\ntwo\n".as_slice())
+}
+
+/// Whether a full device fails, once it is handed what was gathered.
+fn full_fails(alloc: Global, full: impl Write + Drop) -> io::Result<bool> {
+    let mut sink = StdSink::of(alloc, full)?;
+    Ok(takes(&mut sink, b"one\n") && sink.finish() == Err(SinkError::Failed))
+}
+
+/// Whether a file of the system is read up to a limit, and what isn't there and a folder fail.
+fn system_is_read<R: Files + Drop>(alloc: Global, files: R, path: &str, bytes: &[u8]) -> bool {
+    let mut shelf = FileShelf::of(files);
+    gives(alloc, &mut shelf, path, bytes)
+        && is_longer(alloc, &mut shelf, path, 39_999)
+        && fails(alloc, &mut shelf, "/tmp")
+        && fails(alloc, &mut shelf, "/tmp/no-such-file-of-anyone")
+        && shelf.faults() == 2
+}
+
+#[test]
+fn shelves_and_sinks_in_memory(rt: HostRuntime) -> Result<(), Fail> {
+    let alloc = rt.alloc();
+    let mut shelf = MemShelf::of(files(alloc)?, vec![in alloc; false, true]?);
+    assert!(rt; gives(alloc, &mut shelf, "a", b"hello"));
+    assert!(rt; fails(alloc, &mut shelf, "a"));
+    let mut still = StillShelf::of(files(alloc)?);
+    assert!(rt; gives(alloc, &mut still, "a", b"hello"));
+    assert!(rt; gives(alloc, &mut still, "b", b""));
     Ok(())
 }
 
 #[test]
-fn a_full_device_fails(rt: HostRuntime) -> Result<(), Fail> {
+fn sinks_in_memory(rt: HostRuntime) -> Result<(), Fail> {
+    let alloc = rt.alloc();
+    let mut sink = MemSink::of(alloc, vec![in alloc; None, Some(2)]?);
+    assert!(rt; takes(&mut sink, b"one\n"));
+    assert!(rt; !takes(&mut sink, b"four\n"));
+    assert!(rt; sink.contents() == b"one\nfo".as_slice());
+    let mut still = StillSink::of(alloc);
+    assert!(rt; takes(&mut still, b"one\n"));
+    assert!(rt; still.contents() == b"one\n".as_slice());
+    Ok(())
+}
+
+#[test]
+fn streams(rt: HostRuntime) -> Result<(), Fail> {
+    let alloc = rt.alloc();
+    assert!(rt; slow_gets_all(alloc)?);
+    assert!(rt; broken_is_counted(alloc)?);
+    assert!(rt; drip_is_read(alloc)?);
+    Ok(())
+}
+
+#[test]
+fn streams_of_the_system(rt: HostRuntime) -> Result<(), Fail> {
+    let alloc = rt.alloc();
+    let (mut reader, writer) = pipe(&rt)?;
+    assert!(rt; pipe_gets_all(alloc, writer, &mut reader)?);
     let full = fs::OpenOptions::new().write(true).open(&rt, "/dev/full")?;
-    let mut sink = StdSink::of(rt.alloc(), full)?;
-    assert_eq!(rt; sink.put(b"one\n"), Ok(()), "it is gathered");
-    assert_eq!(rt; sink.finish(), Err(SinkError::Failed));
-    assert_eq!(rt; sink.faults(), 1);
+    assert!(rt; full_fails(alloc, full)?);
     Ok(())
 }
 
@@ -260,27 +253,8 @@ fn a_file_of_the_system_is_read(rt: HostRuntime) -> Result<(), Fail> {
     let path = format!(in alloc; "/tmp/outside-shelf-{id}")?;
     let bytes = vec![in alloc; b'x'; 40_000]?;
     fs::write(&rt, path.as_str(), bytes.as_slice())?;
-    let mut shelf = FileShelf::of(&rt);
-    let mut into = b"stale".to_vec(alloc)?;
-    let exact = shelf.read(path.as_str(), &mut into, 40_000);
-    let whole = into.as_slice() == bytes.as_slice();
-    let long = shelf.read(path.as_str(), &mut into, 39_999);
-    let left = into.len();
+    let is_read = system_is_read(alloc, &rt, path.as_str(), &bytes);
     fs::remove_file(&rt, path.as_str())?;
-    assert_eq!(rt; exact, Ok(Got::Whole));
-    assert!(rt; whole);
-    assert_eq!(rt; long, Ok(Got::TooLong));
-    assert_eq!(rt; left, 0);
-    assert_eq!(rt;
-        shelf.read(path.as_str(), &mut into, 9),
-        Err(ShelfError::Failed),
-        "it is gone"
-    );
-    assert_eq!(rt;
-        shelf.read("/tmp", &mut into, 9),
-        Err(ShelfError::Failed),
-        "a folder"
-    );
-    assert_eq!(rt; shelf.faults(), 2);
+    assert!(rt; is_read);
     Ok(())
 }

@@ -44,9 +44,9 @@ module _ (stack : List LayerTree) (plan : NodePlan) (turns : ℕ) (me : List ℕ
   -- a network that tells was handed this, and told this
   ran_over : (n n' : Network) → RanOver task s n n' → HandedSome (handed_by stack plan (layered_words turns me patience) s) s.heard n n'
   ran_over n n' r = record {
-    handed = goes_handed stack (plans_of stack) (first_of_plan stack plan) doings r.flags (after_listens (length me) n) n' r.goes
+    handed = goes_handed stack (plans_of stack) (first_of_plan stack plan) doings r.flags (after_listens plan.peers me n) n' r.goes
         ∙ ap (λ h. n.handed ++ map sent_as h) (sends_are stack plan turns me patience s);
-    met = goes_met stack (plans_of stack) (first_of_plan stack plan) doings r.flags (after_listens (length me) n) n' r.goes
+    met = goes_met stack (plans_of stack) (first_of_plan stack plan) doings r.flags (after_listens plan.peers me n) n' r.goes
         ∙ ap (λ h. n.met ++ map met_as h) all;
   }
 

@@ -12,8 +12,8 @@ use Rattle.script_mean.specs.declared.plan.NodePlan.{NodePlan}
 use Rattle.script_text.specs.Plan.{IsRunnable}
 use Rattle.node_laws.proofs.Stages.{plans_are_ordered, plans_ask}
 use Rattle.node_loop.specs.Feeding.{IsOwn}
-use Rattle.play_jobs.proofs.Stops.{too_large}
-use Rattle.play_jobs.specs.Second.{longest_second}
+use Rattle.file_jobs.proofs.SecondStops.{too_large}
+use Rattle.file_jobs.specs.Second.{longest_second}
 use Rattle.node_jobs.specs.Plan.{IsServable}
 
 -- what an application asks for is a member's own

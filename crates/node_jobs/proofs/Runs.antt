@@ -13,7 +13,7 @@ use Rattle.program_mean.specs.Output.{HasRoom}
 use Rattle.program_mean.specs.Second.{after_plan}
 use Rattle.job_ends.specs.Comes.{Around}
 use Rattle.file_jobs.specs.Stack.{IsStack}
-use Rattle.play_jobs.specs.Second.{IsSpelled}
+use Rattle.file_jobs.specs.Second.{IsSpelled}
 use Rattle.node_loop.specs.Serve.{Whereabouts, Serves, layered_words}
 use Rattle.node_loop.specs.declared.error.NodeError.{NodeError}
 use Rattle.node_loop.specs.declared.error.NodeError.TheVariants.{Link, Write, Memory}

@@ -237,7 +237,7 @@ module _ (words : List Text) (w : Node) (a : Around) (n : Beyond) (is : job_of_w
     surroundings = r.served.s;
     sent = r.served.sent;
     clock = r.served.told.clock;
-    network = r.served.told.network;
+    network = tells_as n.told n.told_after r.served.told.network (λ m m' left. left.some.some);
     lost = r.served.told.sends;
     written = part;
     put = put;

@@ -9,7 +9,7 @@ use Rattle.job_mean.specs.Status.{Ended, second_refused, read_failed, no_memory,
 use Rattle.program_mean.specs.Second.{after_plan}
 use Rattle.job_ends.specs.Comes.{Around}
 use Rattle.file_jobs.specs.Stack.{IsStack}
-use Rattle.play_jobs.specs.Second.{StopsAt}
+use Rattle.file_jobs.specs.Second.{StopsAt}
 use Rattle.node_jobs.specs.Comes.{Node, Beyond, Untouched, NodeComes}
 
 module _ (w : Node) (a : Around) (n : Beyond) (untouched : Untouched n) (same : a.output_after ≡ a.output) where

@@ -1,12 +1,12 @@
 //! Plans of nodes, read from a shelf and judged.
 
 ghost use Rattle.script_mean.specs.NodePlan.{node_plan};
-ghost use Rattle.play_jobs.specs.Second.{Fetches, Judges};
+ghost use Rattle.file_jobs.specs.Second.{Fetches, Judges};
 ghost use Rattle.node_jobs.specs.Plan.{IsServable};
 
+use file_jobs::{fetch_second, refusal};
 use job_ends::Ending;
 use outside::Shelf;
-use play_jobs::{fetch_second, refusal};
 use script_mean::NodePlan;
 use script_text::read_plan;
 use std::alloc::Global;

@@ -17,7 +17,7 @@ use Rattle.std.specs.Prelude.{replicate}
 use Rattle.node_laws.specs.Doings.{Doing, does, asks, bears, events_of, heard_in, note_in}
 use Rattle.node_laws.specs.Losses.{behind, deaf_line, event_lines, event_losses, event_sends, fan, losses, losses_in, lost_of, sends_of, written_of}
 use Rattle.node_laws.specs.Network.{Goes, after_sends, met_as, sent_as}
-use Rattle.node_laws.proofs.Sendings.{handed_behind, met_behind, failures_none}
+use Rattle.node_laws.proofs.Sendings.{handed_behind, listened_behind, met_behind, failures_none}
 
 pub events_append : (xs ys : List Doing) → events_of (xs ++ ys) ≡ events_of xs ++ events_of ys
 events_append xs ys = ap journal (filter_map-append note_in xs ys) ∙ filter_map-append event_in (filter_map note_in xs) (filter_map note_in ys)
@@ -116,6 +116,15 @@ module _ (stack : List LayerTree) (plans : List Plan) where
       ∙ ap (λ h. n.handed ++ h) (sym (map-append sent_as (event_sends stack plans w event) (sends_of stack plans (happens stack plans w event).world xs)))
   goes_handed w (asks id heard ∷ xs) f n n' is = goes_handed w xs f (after_recv id n) n' is.1
   goes_handed w (bears id ∷ xs) f n n' is = goes_handed w xs f n n' is
+
+  -- Its members went on to listen as they did.
+  pub goes_listened : (w : World) (xs : List Doing) (f : List (List Bool)) (n n' : Network) → Goes stack plans w xs f n n' → n'.listened ≡ n.listened
+  goes_listened w [] f n n' is = ap (λ m. m.listened) is
+  goes_listened w (does event ∷ xs) f n n' is =
+      goes_listened (happens stack plans w event).world xs (drop 1 f) (after_sends (event_sends stack plans w event) n) n' is.1
+      ∙ listened_behind (event_sends stack plans w event) n
+  goes_listened w (asks id heard ∷ xs) f n n' is = goes_listened w xs f (after_recv id n) n' is.1
+  goes_listened w (bears id ∷ xs) f n n' is = goes_listened w xs f n n' is
 
   pub goes_met : (w : World) (xs : List Doing) (f : List (List Bool)) (n n' : Network) → Goes stack plans w xs f n n' →
       n'.met ≡ n.met ++ map met_as (heard_in xs)

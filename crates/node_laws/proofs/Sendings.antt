@@ -74,6 +74,10 @@ pub met_behind : (xs : List Handed) (n : Network) → (after_sends xs n).met ≡
 met_behind [] n = refl
 met_behind (x ∷ xs) n = met_behind xs (after_send (sent_as x) n)
 
+pub listened_behind : (xs : List Handed) (n : Network) → (after_sends xs n).listened ≡ n.listened
+listened_behind [] n = refl
+listened_behind (x ∷ xs) n = listened_behind xs (after_send (sent_as x) n)
+
 pub fates_add : (m n : ℕ) (fates : List Fate) → fates_of (m + n) fates ≡ fates_of m fates ++ fates_of n (drop m fates)
 fates_add zero n fates = ap (λ k. fates_of k fates) (omega arith)
 fates_add (suc m) n fates =

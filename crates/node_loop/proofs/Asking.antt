@@ -14,7 +14,7 @@ use Rattle.script_mean.specs.declared.event.ScriptEvent.TheVariants.{Raw}
 use Rattle.stack_mean.specs.Plan.{Plan}
 use Rattle.run_mean.specs.Journal.{Heard, datagram, silence, failure}
 use Rattle.outside.specs.Lines.{Wrote}
-use Rattle.world_core.specs.Standing.{Peopled}
+use Rattle.group_feed.specs.Standing.{Peopled}
 use Rattle.node_laws.specs.Doings.{Doing, does, asks, bears}
 use Rattle.node_laws.specs.Losses.{deaf_line}
 use Rattle.node_laws.specs.Network.{Tells}

@@ -1,10 +1,12 @@
 -- How a node begins, and how it ends.
-use Rattle.std.proofs.Common.{◌≡◌, inl, inr, ℕ, ◌-◌, ◌<◌, ◌≤◌, List, [], ◌∷◌, length, refl, sym, ap, subst, ◌∙◌, arith, Option, Some}
+use Rattle.std.proofs.Common.{◌≡◌, inl, inr, ℕ, ◌-◌, ◌<◌, ◌≤◌, List, [], ◌∷◌, length, take, refl, sym, ap, subst, ◌∙◌, arith, Option, Some}
 use Rattle.std.proofs.lemmas.List.{length-map}
+use Rattle.std.proofs.Math.Seq.{take-length}
 use Rattle.std.proofs.lemmas.List.FromFn.{length-range_with_len}
 use Rattle.std.specs.List.{AllByRecursion, range_with_len}
 use Rattle.std.specs.Prelude.{Result, Ok, Err}
 use Rattle.outside.specs.Links.{Network}
+use Rattle.outside.specs.declared.links.Peer.{Peer}
 use Rattle.outside.specs.declared.sink.SinkError.{SinkError}
 use Rattle.outside.specs.declared.sink.SinkError.TheVariants as sink
 use Rattle.layer_mean.specs.Tree.{LayerTree}
@@ -22,7 +24,7 @@ use Rattle.run_mean.specs.View.{first_view}
 use Rattle.outside.specs.Lines.{Wrote}
 use Rattle.outside.specs.Tells as output
 use Rattle.outside.proofs.Gaining.{gains_none}
-use Rattle.world_core.specs.Standing.{Peopled, Stands}
+use Rattle.group_feed.specs.Standing.{Peopled, Stands}
 use Rattle.node_laws.specs.Doings.{doings_from}
 use Rattle.node_laws.specs.Network.{Goes, Tells}
 use Rattle.node_laws.specs.Stages.{Course, StoppedGoesOn, from_turn}
@@ -33,7 +35,7 @@ use Rattle.node_loop.specs.Bearing.{cut_short}
 use Rattle.node_loop.specs.Course.{Begun, Made, MadeAll, Now, SoFar, now}
 use Rattle.node_loop.specs.Feeding.{IsUp, Rests}
 use Rattle.node_loop.specs.Listening.{Listened, ListenedSome, ListensAll}
-use Rattle.node_loop.specs.Serve.{Serves, Task, Whereabouts, first_of_plan, layered_words, whereabouts}
+use Rattle.node_loop.specs.Serve.{Serves, Task, after_listens, Whereabouts, first_of_plan, layered_words, whereabouts}
 use Rattle.node_loop.specs.declared.desk.Desk.{Desk}
 use Rattle.node_loop.specs.declared.error.NodeError.{NodeError}
 use Rattle.node_loop.specs.declared.error.NodeError.TheVariants.{Link, Write, Memory}
@@ -46,10 +48,10 @@ all_listen listening n [] few listen = tt
 all_listen listening n (id ∷ ids) few listen = ((few.0, listen.0), all_listen listening n ids few.1 listen.1)
 
 -- All members listened.
-pub reached : (out : output.Tells) (count faults after sends sends_after : ℕ) (told told_after : Option Network) →
-    (after ≡ faults) × Tells (Listened count) told told_after → sends_after ≡ sends →
-    Reaches (Listened count) (surrounding out faults sends told) (surrounding out after sends_after told_after)
-reached out count faults after sends sends_after told told_after listened sent =
+pub reached : (out : output.Tells) (peers : List Peer) (me : List ℕ) (faults after sends sends_after : ℕ) (told told_after : Option Network) →
+    (after ≡ faults) × Tells (Listened peers me) told told_after → sends_after ≡ sends →
+    Reaches (Listened peers me) (surrounding out faults sends told) (surrounding out after sends_after told_after)
+reached out peers me faults after sends sends_after told told_after listened sent =
     record { output = refl; faults = listened.0; sends = sent; told = listened.1 }
 
 module _ (stack : List LayerTree) (plan : NodePlan) (me : List ℕ) (turns patience : ℕ) where
@@ -125,12 +127,14 @@ module _ (stack : List LayerTree) (plan : NodePlan) (me : List ℕ) (turns patie
   module _ (goes_on : StoppedGoesOn) where
     -- Memory ran out before the members listened.
     pub not_begun : (a : Whereabouts) → Serves task a a (Err Memory)
-    not_begun a = broken stack plan me turns patience goes_on a a.around (untouched a.around) sink.Memory a.around a.clock
-        (nothing_done stack plan me turns patience a.around a.clock)
+    not_begun a =
+        let nothing = nothing_done stack plan me turns patience a.around a.clock in
+        broken stack plan me turns patience goes_on a a.around sink.Memory a.around a.clock nothing.0
+        (subst (λ clock. Reaches (IsUntouched plan.peers me clock) a.around a.around) (sym nothing.1) (untouched plan.peers me a.around))
 
     -- They didn't all listen.
     pub not_all_listen : (out : output.Tells) (clock : Option (List ℕ)) (faults after sends sends_after : ℕ) (told told_after : Option Network)
-        (e : NodeError) → ListensAll (length me) faults after told told_after (Err e) → sends_after ≡ sends →
+        (e : NodeError) → ListensAll plan.peers me faults after told told_after (Err e) → sends_after ≡ sends →
         Serves task (whereabouts (surrounding out faults sends told) clock) (whereabouts (surrounding out after sends_after told_after) clock) (Err e)
     not_all_listen out clock faults after sends sends_after told told_after Link listened sent =
         inl (not_listened stack plan me turns patience (whereabouts (surrounding out faults sends told) clock)
@@ -138,23 +142,22 @@ module _ (stack : List LayerTree) (plan : NodePlan) (me : List ℕ) (turns patie
     not_all_listen out clock faults after sends sends_after told told_after Write listened sent = absurd listened
     not_all_listen out clock faults after sends sends_after told told_after Memory listened sent =
         let b = surrounding out after sends_after told_after in
-        broken stack plan me turns patience goes_on (whereabouts (surrounding out faults sends told) clock) b
-        (listens_untouched (ListenedSome (length me)) (surrounding out faults sends told) b
-        record { output = refl; faults = listened.0; sends = sent; told = listened.1 } (λ n n' l. (l.some, l.is)))
-        sink.Memory b clock (nothing_done stack plan me turns patience b clock)
+        let nothing = nothing_done stack plan me turns patience b clock in
+        broken stack plan me turns patience goes_on (whereabouts (surrounding out faults sends told) clock) b sink.Memory b clock nothing.0
+        (listens_untouched plan.peers me nothing.0.clock (ListenedSome plan.peers me) (surrounding out faults sends told) b
+        record { output = refl; faults = listened.0; sends = sent; told = listened.1 } (λ n n' l. (l.some, inr nothing.1, l.is)))
 
-    module _ (a : Whereabouts) (from : Around) (listened : Reaches (Listened (length me)) a.around from) where
-      still : Reaches IsUntouched a.around from
-      still = listens_untouched (Listened (length me)) a.around from listened (λ n n' l. (length me, l.is))
+    module _ (a : Whereabouts) (from : Around) (listened : Reaches (Listened plan.peers me) a.around from) where
+      still : (clock : List ℕ) → Reaches (IsUntouched plan.peers me clock) a.around from
+      still clock = listens_untouched plan.peers me clock (Listened plan.peers me) a.around from listened
+          (λ n n' l. (length me, inl refl, l.is ∙ ap (λ ids. after_listens plan.peers ids n) (sym (take-length me))))
 
       -- Not all turns were made.
       pub not_all_made : (at : Now) (e : NodeError) → Made stack (plans_of stack) course (begun stack plan me turns patience from a.clock) at (Err e) →
           Serves task a (whereabouts at.around at.clock) (Err e)
       not_all_made at Link made = inr (went_deaf stack plan me turns patience a from listened at made)
-      not_all_made at Write made = broken stack plan me turns patience goes_on a from still sink.Failed
-          at.around at.clock made
-      not_all_made at Memory made = broken stack plan me turns patience goes_on a from still sink.Memory
-          at.around at.clock made
+      not_all_made at Write made = broken stack plan me turns patience goes_on a from sink.Failed at.around at.clock made (still made.clock)
+      not_all_made at Memory made = broken stack plan me turns patience goes_on a from sink.Memory at.around at.clock made (still made.clock)
 
       -- All were, and the last line was put, or that was cut short.
       pub all_served : (at : Now) → MadeAll stack (plans_of stack) course (begun stack plan me turns patience from a.clock) at →
@@ -162,10 +165,10 @@ module _ (stack : List LayerTree) (plan : NodePlan) (me : List ℕ) (turns patie
           Serves task a (whereabouts (surrounding out at.around.faults at.around.sends at.around.told) at.clock) (cut_short r)
       all_served at made out (Ok done) wrote = made_all stack plan me turns patience a from listened at made out wrote
       all_served at made out (Err sink.Failed) wrote =
-          broken stack plan me turns patience goes_on a from still sink.Failed
-          (surrounding out at.around.faults at.around.sends at.around.told) at.clock
-          (last_cut stack plan me turns patience from a.clock at out sink.Failed made wrote)
+          let cut = last_cut stack plan me turns patience from a.clock at out sink.Failed made wrote in
+          broken stack plan me turns patience goes_on a from sink.Failed
+          (surrounding out at.around.faults at.around.sends at.around.told) at.clock cut (still cut.clock)
       all_served at made out (Err sink.Memory) wrote =
-          broken stack plan me turns patience goes_on a from still sink.Memory
-          (surrounding out at.around.faults at.around.sends at.around.told) at.clock
-          (last_cut stack plan me turns patience from a.clock at out sink.Memory made wrote)
+          let cut = last_cut stack plan me turns patience from a.clock at out sink.Memory made wrote in
+          broken stack plan me turns patience goes_on a from sink.Memory
+          (surrounding out at.around.faults at.around.sends at.around.told) at.clock cut (still cut.clock)

@@ -32,8 +32,8 @@ use Rattle.view_core.specs.declared.step.Stepped.{Stepped}
 use Rattle.view_core.specs.declared.step.Stepped.TheVariants.{Taken, Refused}
 use Rattle.report_text.specs.Told.{change_lines}
 use Rattle.report_text.proofs.Moments.{changes_told}
-use Rattle.world_core.specs.Feeding.{IsFed}
-use Rattle.world_core.specs.Standing.{Peopled, Stands, Stays}
+use Rattle.group_feed.specs.Feeding.{IsFed}
+use Rattle.group_feed.specs.Standing.{Peopled, Stands, Stays}
 use Rattle.node_laws.specs.Acts.{Act, puts, did_acts, event_acts, outputs_acts}
 use Rattle.node_laws.specs.Groups.{AreWithin, IsSendable}
 use Rattle.node_laws.specs.Losses.{first_in, journal_line}

@@ -15,9 +15,9 @@ use Rattle.node_laws.specs.Acts.{Act, puts, sends, lines_in, sends_in}
 use Rattle.node_laws.specs.Losses.{failures_in}
 use Rattle.node_laws.specs.Network.{Tells, after_sends, fates_of, sent_as}
 use Rattle.node_laws.proofs.Acts.{lines_append, puts_lines, puts_none, sends_append}
-use Rattle.node_laws.proofs.Sendings.{failures_append, fates_add, fates_behind, handed_behind, met_behind, sends_then, tells_same, tells_then}
+use Rattle.node_laws.proofs.Sendings.{failures_append, fates_add, fates_behind, handed_behind, listened_behind, met_behind, sends_then, tells_same, tells_then}
 use Rattle.node_loop.specs.Around.{Around, count_on}
-use Rattle.node_loop.specs.Passing.{Breaks, Handles, HandedSome, Passes, Stops, Takes, next_line}
+use Rattle.node_loop.specs.Passing.{Breaks, Handles, Passes, Stops, Takes, WentOn, next_line}
 
 pub count_on_add : (k m n : ℕ) → count_on k (m + n) ≡ count_on (count_on k m) n
 count_on_add k zero n = ap (count_on k) (let e : 0 + n ≡ n = omega arith in e)
@@ -32,10 +32,20 @@ takes_then xs ys f g n n' n'' s t = record {
   is = t.is ∙ ap (after_sends ys) s.is ∙ sym (sends_then xs ys n);
 }
 
-pub takes_some : (xs : List Handed) (f : List Bool) (n n' : Network) → Takes xs f n n' → HandedSome xs [] n n'
+pub takes_some : (xs : List Handed) (f : List Bool) (n n' : Network) → Takes xs f n n' → WentOn [] xs [] n n'
 takes_some xs f n n' t = record {
-  handed = ap (λ m. m.handed) t.is ∙ handed_behind xs n;
-  met = ap (λ m. m.met) t.is ∙ met_behind xs n ∙ sym (append-nil n.met);
+  listened = ap (λ m. m.listened) t.is ∙ listened_behind xs n ∙ sym (append-nil n.listened);
+  some = record {
+    handed = ap (λ m. m.handed) t.is ∙ handed_behind xs n;
+    met = ap (λ m. m.met) t.is ∙ met_behind xs n ∙ sym (append-nil n.met);
+  };
+}
+
+-- A network of which nothing was asked.
+pub asked_nothing : (n : Network) → WentOn [] [] [] n n
+asked_nothing n = record {
+  listened = sym (append-nil n.listened);
+  some = record { handed = sym (append-nil n.handed); met = sym (append-nil n.met) };
 }
 
 takes_none : (n : Network) → Takes [] [] n n
@@ -163,8 +173,7 @@ breaks_first a b acts e stopped faults sendings told = record {
   stopped = stopped;
   faults = faults;
   sendings = sendings;
-  told = subst (Tells (HandedSome [] []) a.told) (sym told)
-      (tells_same (HandedSome [] []) a.told (λ n. record { handed = sym (append-nil n.handed); met = sym (append-nil n.met) }));
+  told = subst (Tells (WentOn [] [] []) a.told) (sym told) (tells_same (WentOn [] [] []) a.told asked_nothing);
 }
 
 -- Acts follow those in front, and may have more behind.
@@ -198,10 +207,13 @@ breaks_then a b c xs part whole f e p q follow =
       sendings = q.sendings ∙ ap (λ n. count_on n (failures_in q.failed)) p.sendings
           ∙ sym (count_on_add a.sends (failures_in f) (failures_in q.failed)) ∙ ap (count_on a.sends) (sym (failures_append f q.failed));
       told = tells_then a.told b.told c.told p.told q.told (λ n n' n'' s t. record {
-        handed = t.handed ∙ ap (λ x. x ++ map sent_as (sends_in q.done)) (takes_some (sends_in xs) f n n' s).handed
-            ∙ append_assoc n.handed (map sent_as (sends_in xs)) (map sent_as (sends_in q.done))
-            ∙ ap (λ x. n.handed ++ x) (sym (map-append sent_as (sends_in xs) (sends_in q.done)) ∙ ap (map sent_as) (sym handed));
-        met = t.met ∙ ap (λ x. x ++ []) (takes_some (sends_in xs) f n n' s).met ∙ append-nil (n.met ++ []);
+        listened = t.listened ∙ ap (λ x. x ++ []) (takes_some (sends_in xs) f n n' s).listened ∙ append-nil (n.listened ++ []);
+        some = record {
+          handed = t.some.handed ∙ ap (λ x. x ++ map sent_as (sends_in q.done)) (takes_some (sends_in xs) f n n' s).some.handed
+              ∙ append_assoc n.handed (map sent_as (sends_in xs)) (map sent_as (sends_in q.done))
+              ∙ ap (λ x. n.handed ++ x) (sym (map-append sent_as (sends_in xs) (sends_in q.done)) ∙ ap (map sent_as) (sym handed));
+          met = t.some.met ∙ ap (λ x. x ++ []) (takes_some (sends_in xs) f n n' s).some.met ∙ append-nil (n.met ++ []);
+        };
       });
     }
 

@@ -10,7 +10,7 @@ use Rattle.script_mean.specs.Event.{member_of}
 use Rattle.script_mean.specs.declared.event.ScriptEvent.{ScriptEvent}
 use Rattle.stack_mean.specs.Plan.{Plan}
 use Rattle.run_mean.specs.Journal.{Heard}
-use Rattle.world_core.specs.Standing.{Peopled}
+use Rattle.group_feed.specs.Standing.{Peopled}
 use Rattle.node_laws.specs.Doings.{Doing, does}
 use Rattle.node_laws.specs.Stages.{AreOrdered, Course, from_planned, from_turn, is_planned, own_doing, planned_in}
 use Rattle.node_laws.proofs.Stages.{planned_is_over}

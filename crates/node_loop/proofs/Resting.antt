@@ -6,7 +6,7 @@ use Rattle.layer_mean.specs.Tree.{LayerTree}
 use Rattle.script_mean.specs.declared.event.ScriptEvent.{ScriptEvent}
 use Rattle.stack_mean.specs.Plan.{Plan}
 use Rattle.run_mean.specs.World.{World, happens}
-use Rattle.world_core.specs.Standing.{Peopled}
+use Rattle.group_feed.specs.Standing.{Peopled}
 use Rattle.node_loop.specs.Around.{Around}
 use Rattle.node_loop.specs.Feeding.{Feeds, Rests, RestsAgain}
 use Rattle.node_loop.specs.declared.desk.Desk.{Desk}

@@ -12,7 +12,7 @@ use Rattle.layer_mean.specs.Tree.{LayerTree}
 use Rattle.stack_mean.specs.Plan.{Plan}
 use Rattle.script_mean.specs.declared.event.ScriptEvent.TheVariants.{Tick}
 use Rattle.run_mean.specs.Journal.{Heard, planned_events}
-use Rattle.world_core.specs.Standing.{Peopled}
+use Rattle.group_feed.specs.Standing.{Peopled}
 use Rattle.node_laws.specs.Doings.{Doing, asking, does, doings_from, doings_of, while_patient}
 use Rattle.node_laws.specs.Stages.{Course, from_asking, from_planned, from_ticks, from_turn, planned_in}
 use Rattle.node_laws.proofs.Stages.{planned_is_left}

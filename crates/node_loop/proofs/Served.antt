@@ -1,10 +1,11 @@
 -- What a run comes to: all turns, a member that went deaf, or one that was broken off.
-use Rattle.std.proofs.Common.{◌≡◌, ◌⊎◌, inl, inr, ℕ, zero, suc, ◌+◌, ◌*◌, ◌≤◌, Bool, true, false, List, [], ◌∷◌, ◌++◌, length, map, refl, sym, ap, subst, ◌∙◌, append-nil, arith, Option, Some, None}
+use Rattle.std.proofs.Common.{◌≡◌, ◌⊎◌, inl, inr, ℕ, zero, suc, ◌+◌, ◌*◌, ◌≤◌, Bool, true, false, List, [], ◌∷◌, ◌++◌, length, map, take, refl, sym, ap, subst, ◌∙◌, append-nil, arith, Option, Some, None}
 use Rattle.std.proofs.lemmas.Bool.{eqb-true}
 use Rattle.std.specs.List.{filter_map}
 use Rattle.std.specs.Prelude.{◌==◌, if◌then◌else◌, count_by, Err}
 use Rattle.outside.specs.Count.{last_count, next_count}
 use Rattle.outside.specs.Links.{Network}
+use Rattle.outside.specs.declared.links.Peer.{Peer}
 use Rattle.outside.specs.declared.sink.SinkError.{SinkError}
 use Rattle.outside.specs.declared.sink.SinkError.TheVariants as sink
 use Rattle.layer_mean.specs.Tree.{LayerTree}
@@ -28,15 +29,15 @@ use Rattle.node_laws.specs.Stages.{Course, StoppedGoesOn, clock_on, heard_on}
 use Rattle.node_laws.proofs.Acts.{acts_lines_are, acts_sends_are, lines_append, sends_append}
 use Rattle.node_laws.proofs.Doings.{notes_are_of_doings}
 use Rattle.node_laws.proofs.Losses.{sends_are_handed, written_is_of_notes}
-use Rattle.node_laws.proofs.Parts.{goes_handed, goes_met, lost_none}
+use Rattle.node_laws.proofs.Parts.{goes_handed, goes_listened, goes_met, lost_none}
 use Rattle.node_laws.proofs.Sendings.{tells_as, tells_same, tells_then}
 use Rattle.node_loop.specs.Around.{Around, RoseBy, Told, count_on, surrounding}
 use Rattle.node_loop.specs.Course.{Begun, CutOff, MadeAll, MadeSome, Now, SoFar, nothing_left}
 use Rattle.node_loop.specs.Listening.{Listened, ListenedNot}
-use Rattle.node_loop.specs.Passing.{HandedSome, Stops}
-use Rattle.node_loop.specs.Serve.{BrokenOff, CouldNotListen, IsTold, MadeAllTurns, RanOver, Task, WentDeaf, Whereabouts, after_listens, doings_in, first_of_plan, layered_words, told_on, whereabouts}
+use Rattle.node_loop.specs.Passing.{Stops, WentOn}
+use Rattle.node_loop.specs.Serve.{BrokenOff, CouldNotListen, IsTold, LeftOff, MadeAllTurns, RanOver, Task, WentDeaf, Whereabouts, after_listens, doings_in, first_of_plan, layered_words, listens_of, told_on, whereabouts}
 use Rattle.node_loop.proofs.Steps.{failures_append}
-use Rattle.node_loop.proofs.Passing.{line_stops, memory_stops, stops_then, stops_wrote}
+use Rattle.node_loop.proofs.Passing.{asked_nothing, line_stops, memory_stops, stops_then, stops_wrote}
 
 -- Counts.
 
@@ -70,28 +71,40 @@ pub record Reaches (OverNetwork : Network → Network → Type 0) (a b : Around)
   pub sends : b.sends ≡ a.sends
   pub told : Tells OverNetwork a.told b.told
 
--- A network to which nothing was handed, and of which nothing was heard.
-pub record IsUntouched (n n' : Network) : Type 0 where
+-- A network to which nothing was handed, and of which nothing was heard. So many members were to listen, all of them where there was a moment.
+pub record IsUntouched (peers : List Peer) (me clock : List ℕ) (n n' : Network) : Type 0 where
+  pub count : ℕ
+  pub all : (count ≡ length me) ⊎ (clock ≡ [])
+  pub listened : n'.listened ≡ n.listened ++ listens_of peers (take count me)
   pub handed : n'.handed ≡ n.handed
   pub met : n'.met ≡ n.met
 
-pub untouched : (a : Around) → Reaches IsUntouched a a
-untouched a = record {
+pub untouched : (peers : List Peer) (me : List ℕ) (a : Around) → Reaches (IsUntouched peers me []) a a
+untouched peers me a = record {
   output = refl;
   faults = refl;
   sends = refl;
-  told = tells_same IsUntouched a.told (λ n. record { handed = refl; met = refl });
+  told = tells_same (IsUntouched peers me []) a.told
+      (λ n. record { count = 0; all = inr refl; listened = sym (append-nil n.listened); handed = refl; met = refl });
 }
 
 -- Listens hand on nothing, and nothing is heard of them.
-pub listens_untouched : (Over : Network → Network → Type 0) (a b : Around) → Reaches Over a b →
-    ((n n' : Network) → Over n n' → (count : ℕ) × (n' ≡ after_listens count n)) → Reaches IsUntouched a b
-listens_untouched Over a b r listens = record {
+pub listens_untouched : (peers : List Peer) (me clock : List ℕ) (Over : Network → Network → Type 0) (a b : Around) → Reaches Over a b →
+    ((n n' : Network) → Over n n' → (count : ℕ) × ((count ≡ length me) ⊎ (clock ≡ [])) × (n' ≡ after_listens peers (take count me) n)) →
+    Reaches (IsUntouched peers me clock) a b
+listens_untouched peers me clock Over a b r listens = record {
   output = r.output;
   faults = r.faults;
   sends = r.sends;
   told = tells_as a.told b.told r.told (λ n n' over.
-      let is = (listens n n' over).1 in record { handed = ap (λ m. m.handed) is; met = ap (λ m. m.met) is });
+      let found = listens n n' over in
+      let is = found.2 in record {
+        count = found.0;
+        all = found.1;
+        listened = ap (λ m. m.listened) is;
+        handed = ap (λ m. m.handed) is;
+        met = ap (λ m. m.met) is;
+      });
 }
 
 pub no_moments : (clock : Option (List ℕ)) → Told clock clock []
@@ -157,7 +170,7 @@ module _ (stack : List LayerTree) (plan : NodePlan) (me : List ℕ) (turns patie
   }
 
   -- Where nothing is left.
-  module _ (a : Whereabouts) (from : Around) (listened : Reaches (Listened (length me)) a.around from) (m k borne : ℕ) (at : Now)
+  module _ (a : Whereabouts) (from : Around) (listened : Reaches (Listened plan.peers me) a.around from) (m k borne : ℕ) (at : Now)
       (so : SoFar stack plans course (begun from a.clock) m k nothing_left borne at) where
     abbrev s : Surroundings
     s = record { clock = so.clock; heard = so.heard; lost = lost_of stack plans first so.done so.failed }
@@ -174,18 +187,18 @@ module _ (stack : List LayerTree) (plan : NodePlan) (me : List ℕ) (turns patie
       listens = l.flags;
       flags = so.failed;
       lost = ap (λ doings. lost_of stack plans first doings so.failed) (sym did);
-      goes = subst (λ doings. Goes stack plans first doings so.failed (after_listens (length me) n) n'') (sym did)
+      goes = subst (λ doings. Goes stack plans first doings so.failed (after_listens plan.peers me n) n'') (sym did)
           (subst (λ n. Goes stack plans first so.done so.failed n n'') l.is goes);
     })
 
     run_told : (out : output.Tells) →
         IsTold task s a (whereabouts (surrounding out at.around.faults at.around.sends at.around.told) at.clock) (RanOver task s)
-    run_told out = told_so (RanOver task s) (Listened (length me)) a
+    run_told out = told_so (RanOver task s) (Listened plan.peers me) a
         (whereabouts (surrounding out at.around.faults at.around.sends at.around.told) at.clock) from s listened
         (so.faults ∙ ap (count_on from.faults) (sym so.borne_are)) so.sends so.clock_told ran
 
   -- All turns were made, and the last line put.
-  pub made_all : (a : Whereabouts) (from : Around) → Reaches (Listened (length me)) a.around from → (at : Now) →
+  pub made_all : (a : Whereabouts) (from : Around) → Reaches (Listened plan.peers me) a.around from → (at : Now) →
       MadeAll stack plans course (begun from a.clock) at → (out : output.Tells) → Gains at.around.output out (end_line at.desk.events ∷ []) →
       MadeAllTurns task a (whereabouts (surrounding out at.around.faults at.around.sends at.around.told) at.clock)
   made_all a from listened at all out put =
@@ -204,7 +217,7 @@ module _ (stack : List LayerTree) (plan : NodePlan) (me : List ℕ) (turns patie
       }
 
   -- A member went deaf.
-  pub went_deaf : (a : Whereabouts) (from : Around) → Reaches (Listened (length me)) a.around from → (at : Now) →
+  pub went_deaf : (a : Whereabouts) (from : Around) → Reaches (Listened plan.peers me) a.around from → (at : Now) →
       MadeSome stack plans course (begun from a.clock) at → WentDeaf task a (whereabouts at.around at.clock)
   went_deaf a from listened at some =
       let so = some.deaf.so in
@@ -249,39 +262,47 @@ module _ (stack : List LayerTree) (plan : NodePlan) (me : List ℕ) (turns patie
         faults = so.faults ∙ ap (count_on from.faults) (sym so.borne_are);
         sends = so.sends;
         told = tells_as from.told at.around.told so.told (λ n n' goes. record {
-          handed = goes_handed stack plans first so.done so.failed n n' goes ∙ ap (λ hs. n.handed ++ map sent_as hs) (sym handed);
-          met = goes_met stack plans first so.done so.failed n n' goes ∙ ap (λ hs. n.met ++ map met_as hs) so.asked;
+          listened = goes_listened stack plans first so.done so.failed n n' goes ∙ sym (append-nil n.listened);
+          some = record {
+            handed = goes_handed stack plans first so.done so.failed n n' goes ∙ ap (λ hs. n.handed ++ map sent_as hs) (sym handed);
+            met = goes_met stack plans first so.done so.failed n n' goes ∙ ap (λ hs. n.met ++ map met_as hs) so.asked;
+          };
         });
         clock_told = so.clock_told;
       }
 
-  -- Memory ran out before anything was done.
-  pub nothing_done : (from : Around) (clock : Option (List ℕ)) → CutOff stack plans course (begun from clock) sink.Memory from clock
+  -- Memory ran out before anything was done, and before the first moment.
+  pub nothing_done : (from : Around) (clock : Option (List ℕ)) →
+      (cut : CutOff stack plans course (begun from clock) sink.Memory from clock) × (cut.clock ≡ [])
   nothing_done from clock =
       let doings = doings_of plan me turns patience ([] ++ clock_on course []) ([] ++ heard_on course []) in
-      let rest = acts_of stack plans first doings [] ++ puts (end_line (length (events_of doings))) ∷ [] in record {
-        clock = [];
-        heard = [];
-        failed = [];
-        done = [];
-        rest = rest;
-        turns = omega arith;
-        answers = omega arith;
-        borne = omega arith;
-        doings = doings;
-        doings_are = refl;
-        are = refl;
-        stopped = memory_stops from.output rest;
-        faults = refl;
-        sends = ap (λ ls. count_on from.sends (length ls)) (sym (lost_none stack plans first doings));
-        told = tells_same (HandedSome [] []) from.told (λ n. record { handed = sym (append-nil n.handed); met = sym (append-nil n.met) });
-        clock_told = no_moments clock;
-      }
+      let rest = acts_of stack plans first doings [] ++ puts (end_line (length (events_of doings))) ∷ [] in (
+        record {
+          clock = [];
+          heard = [];
+          failed = [];
+          done = [];
+          rest = rest;
+          turns = omega arith;
+          answers = omega arith;
+          borne = omega arith;
+          doings = doings;
+          doings_are = refl;
+          are = refl;
+          stopped = memory_stops from.output rest;
+          faults = refl;
+          sends = ap (λ ls. count_on from.sends (length ls)) (sym (lost_none stack plans first doings));
+          told = tells_same (WentOn [] [] []) from.told asked_nothing;
+          clock_told = no_moments clock;
+        },
+        refl,
+      )
 
   -- A node that was broken off could have gone on.
-  pub broken : StoppedGoesOn → (a : Whereabouts) (from : Around) → Reaches IsUntouched a.around from → (e : SinkError) (at : Around) (clock : Option (List ℕ)) →
-      CutOff stack plans course (begun from a.clock) e at clock → BrokenOff task e a (whereabouts at clock)
-  broken goes_on a from listened e at clock cut =
+  pub broken : StoppedGoesOn → (a : Whereabouts) (from : Around) (e : SinkError) (at : Around) (clock : Option (List ℕ))
+      (cut : CutOff stack plans course (begun from a.clock) e at clock) → Reaches (IsUntouched plan.peers me cut.clock) a.around from →
+      BrokenOff task e a (whereabouts at clock)
+  broken goes_on a from e at clock cut listened =
       let s : Surroundings = record { clock = cut.clock; heard = cut.heard; lost = lost_of stack plans first cut.doings cut.failed } in
       let on : Surroundings = told_on s (clock_on course cut.clock) (heard_on course cut.heard) in
       let is : doings_in task on ≡ cut.doings = sym cut.doings_are in
@@ -313,16 +334,24 @@ module _ (stack : List LayerTree) (plan : NodePlan) (me : List ℕ) (turns patie
           stopped = stopped;
           sent_are = refl;
         };
-        told = told_so (HandedSome (sends_in cut.done) cut.heard) IsUntouched a (whereabouts at clock) from s listened cut.faults cut.sends cut.clock_told
-            (tells_then a.around.told from.told at.told listened.told cut.told (λ n n' n'' still some. record {
-              handed = some.handed ∙ ap (λ h. h ++ map sent_as (sends_in cut.done)) still.handed;
-              met = some.met ∙ ap (λ m. m ++ map met_as cut.heard) still.met;
+        told = told_so (LeftOff task s (sends_in cut.done)) (IsUntouched plan.peers me cut.clock) a (whereabouts at clock) from s listened cut.faults
+            cut.sends cut.clock_told
+            (tells_then a.around.told from.told at.told listened.told cut.told (λ n n' n'' still went. record {
+              count = still.count;
+              all = still.all;
+              some = record {
+                listened = went.listened ∙ append-nil n'.listened ∙ still.listened;
+                some = record {
+                  handed = went.some.handed ∙ ap (λ h. h ++ map sent_as (sends_in cut.done)) still.handed;
+                  met = went.some.met ∙ ap (λ m. m ++ map met_as cut.heard) still.met;
+                };
+              };
             }));
       }
 
   -- A member couldn't listen.
   pub not_listened : (a b : Whereabouts) → b.around.output ≡ a.around.output → b.around.faults ≡ next_count a.around.faults →
-      b.around.sends ≡ a.around.sends → b.clock ≡ a.clock → Tells (ListenedNot (length me)) a.around.told b.around.told → CouldNotListen task a b
+      b.around.sends ≡ a.around.sends → b.clock ≡ a.clock → Tells (ListenedNot plan.peers me) a.around.told b.around.told → CouldNotListen task a b
   not_listened a b output faults sends clock told = record {
     untouched = output;
     faults = rose a.around.faults b.around.faults 1 faults;

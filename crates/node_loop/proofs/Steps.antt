@@ -15,7 +15,7 @@ use Rattle.run_mean.specs.World.{happens}
 use Rattle.program_mean.specs.Output.{failures}
 use Rattle.outside.specs.Lines.{Gains, Wrote}
 use Rattle.outside.proofs.Gaining.{gains_then}
-use Rattle.world_core.specs.Standing.{Peopled}
+use Rattle.group_feed.specs.Standing.{Peopled}
 use Rattle.node_laws.specs.Doings.{Doing, does, asks, bears, doings_of, events_of, heard_in}
 use Rattle.node_laws.specs.Losses.{behind, deaf_line, event_lines, event_losses, event_sends, failures_in, lost_of, sends_of, written_of}
 use Rattle.node_laws.specs.Network.{Goes, Tells, after_sends, fates_of, met_as, sent_as}
@@ -23,14 +23,14 @@ use Rattle.node_laws.specs.Stages.{Course, clock_on, heard_on}
 use Rattle.node_laws.specs.Acts.{Act, puts, acts_of, event_acts, sends_in}
 use Rattle.node_laws.proofs.Acts.{acts_append, acts_lines_are, acts_sends_are, event_lines_are, event_sends_are, sends_append}
 use Rattle.node_laws.proofs.Fans.{event_losses_are}
-use Rattle.node_laws.proofs.Parts.{behind_append, events_append, goes_append, goes_handed, goes_met, heard_append, lost_append, lost_none, written_append}
+use Rattle.node_laws.proofs.Parts.{behind_append, events_append, goes_append, goes_handed, goes_listened, goes_met, heard_append, lost_append, lost_none, written_append}
 use Rattle.node_laws.proofs.Sendings.{tells_as, tells_same, tells_then}
 use Rattle.node_loop.specs.Around.{Around, count_on}
-use Rattle.node_loop.specs.Passing.{Breaks, HandedSome, Stops, Takes}
+use Rattle.node_loop.specs.Passing.{Breaks, Stops, Takes, WentOn}
 use Rattle.node_loop.specs.Feeding.{Feeds, IsFed}
 use Rattle.node_loop.specs.Course.{Advances, Begun, CutOff, Now, SoFar, Within, now}
 use Rattle.node_loop.specs.declared.desk.Desk.{Desk}
-use Rattle.node_loop.proofs.Passing.{count_on_add, line_stops, memory_stops, stops_longer, stops_then}
+use Rattle.node_loop.proofs.Passing.{asked_nothing, count_on_add, line_stops, memory_stops, stops_longer, stops_then}
 
 pub failures_append : (xs ys : List Heard) → failures (xs ++ ys) ≡ failures xs + failures ys
 failures_append xs ys = sum_by-append _ xs ys
@@ -231,7 +231,7 @@ module _ (stack : List LayerTree) (plans : List Plan) (c : Course) (b : Begun) w
     pub cut : (flags : List (List Bool)) (done behind_them : List Act) (a' : Around) (e : SinkError) →
         acts_of stack plans so.world left flags ≡ done ++ behind_them → Stops e done behind_them at.around.output a'.output →
         a'.faults ≡ at.around.faults → a'.sends ≡ count_on at.around.sends (length (lost_of stack plans so.world left flags)) →
-        Tells (HandedSome (sends_in done) []) at.around.told a'.told → CutOff stack plans c b e a' at.clock
+        Tells (WentOn [] (sends_in done) []) at.around.told a'.told → CutOff stack plans c b e a' at.clock
     cut flags done behind_them a' e are stopped faults sendings told =
         let w = b.first in
         let f = so.failed ++ flags in
@@ -265,10 +265,13 @@ module _ (stack : List LayerTree) (plans : List Plan) (c : Course) (b : Begun) w
               ∙ sym (count_on_add b.around.sends (length (lost_of stack plans w so.done so.failed)) (length (lost_of stack plans so.world left flags)))
               ∙ ap (count_on b.around.sends) (sym lost);
           told = tells_then b.around.told at.around.told a'.told so.told told (λ n n' n'' goes some. record {
-            handed = some.handed ∙ ap (λ h. h ++ map sent_as (sends_in done)) (goes_handed stack plans w so.done so.failed n n' goes)
-                ∙ append_assoc n.handed (map sent_as (sends_of stack plans w so.done)) (map sent_as (sends_in done))
-                ∙ ap (λ h. n.handed ++ h) (sym (map-append sent_as (sends_of stack plans w so.done) (sends_in done)) ∙ ap (map sent_as) (sym handed));
-            met = some.met ∙ append-nil n'.met ∙ goes_met stack plans w so.done so.failed n n' goes ∙ ap (λ hs. n.met ++ map met_as hs) so.asked;
+            listened = some.listened ∙ append-nil n'.listened ∙ goes_listened stack plans w so.done so.failed n n' goes ∙ sym (append-nil n.listened);
+            some = record {
+              handed = some.some.handed ∙ ap (λ h. h ++ map sent_as (sends_in done)) (goes_handed stack plans w so.done so.failed n n' goes)
+                  ∙ append_assoc n.handed (map sent_as (sends_of stack plans w so.done)) (map sent_as (sends_in done))
+                  ∙ ap (λ h. n.handed ++ h) (sym (map-append sent_as (sends_of stack plans w so.done) (sends_in done)) ∙ ap (map sent_as) (sym handed));
+              met = some.some.met ∙ append-nil n'.met ∙ goes_met stack plans w so.done so.failed n n' goes ∙ ap (λ hs. n.met ++ map met_as hs) so.asked;
+            };
           });
           clock_told = so.clock_told;
         }
@@ -279,7 +282,7 @@ module _ (stack : List LayerTree) (plans : List Plan) (c : Course) (b : Begun) w
         (cut [] [] (acts_of stack plans so.world left []) at.around sink.Memory refl
         (memory_stops at.around.output (acts_of stack plans so.world left [])) refl
         (ap (λ ls. count_on at.around.sends (length ls)) (sym (lost_none stack plans so.world left)))
-        (tells_same (HandedSome [] []) at.around.told (λ n. record { handed = sym (append-nil n.handed); met = sym (append-nil n.met) })))
+        (tells_same (WentOn [] [] []) at.around.told asked_nothing))
 
   -- Where an event was broken off.
   pub cut_so : (m k borne : ℕ) (rest : List ℕ → List Heard → List Doing) (g : Peopled) (d : Desk) (a a' : Around) (clk : Option (List ℕ)) (e : SinkError)
@@ -311,8 +314,7 @@ module _ (stack : List LayerTree) (plans : List Plan) (c : Course) (b : Begun) w
       cut m k borne (λ later more. bears id ∷ rest later more) (now g d a clk) within so [] [] (puts (deaf_line id) ∷ later) a' e refl
       (line_stops a.output a'.output (deaf_line id) later e wrote) faults
       (sendings ∙ ap (λ ls. count_on a.sends (length ls)) (sym (lost_none stack plans so.world behind_it)))
-      (subst (Tells (HandedSome [] []) a.told) (sym told)
-      (tells_same (HandedSome [] []) a.told (λ n. record { handed = sym (append-nil n.handed); met = sym (append-nil n.met) })))
+      (subst (Tells (WentOn [] [] []) a.told) (sym told) (tells_same (WentOn [] [] []) a.told asked_nothing))
 
   -- What a fed event comes to.
   pub feeds_so : (m k borne : ℕ) (rest : List ℕ → List Heard → List Doing) (event : ScriptEvent) (g g' : Peopled) (d d' : Desk) (a a' : Around)

@@ -11,7 +11,7 @@ use Rattle.script_mean.specs.declared.event.ScriptEvent.{ScriptEvent}
 use Rattle.script_mean.specs.declared.event.ScriptEvent.TheVariants.{Raw, Tick}
 use Rattle.stack_mean.specs.Plan.{Plan}
 use Rattle.run_mean.specs.Journal.{Heard}
-use Rattle.world_core.specs.Standing.{Peopled}
+use Rattle.group_feed.specs.Standing.{Peopled}
 use Rattle.node_laws.specs.Doings.{Doing, does}
 use Rattle.node_laws.specs.Stages.{Course, from_ticks, own_doing}
 use Rattle.node_loop.specs.Around.{Around}

@@ -4,7 +4,7 @@ use Rattle.outside.specs.declared.sink.SinkError.{SinkError}
 use Rattle.outside.specs.declared.sink.SinkError.TheVariants as sink
 use Rattle.layer_mean.specs.Tree.{LayerTree}
 use Rattle.event_graph.specs.Answer.{stack_tree}
-use Rattle.packet_plans.specs.Trees.{plans_tree}
+use Rattle.stack_shapes.specs.Trees.{plans_tree}
 use Rattle.stack_mean.specs.Plan.{Plan}
 use Rattle.script_mean.specs.declared.event.ScriptEvent.{ScriptEvent}
 use Rattle.run_mean.specs.Journal.{Heard, failure}
@@ -12,7 +12,7 @@ use Rattle.run_mean.specs.Report.{end_line}
 use Rattle.run_mean.specs.World.{World}
 use Rattle.program_mean.specs.Output.{failures}
 use Rattle.outside.specs.Lines.{Gains}
-use Rattle.world_core.specs.Standing.{Peopled}
+use Rattle.group_feed.specs.Standing.{Peopled}
 use Rattle.node_laws.specs.Acts.{Act, puts, acts_of, sends_in}
 use Rattle.node_laws.specs.Doings.{Doing, does, doings_of, events_of, heard_in}
 use Rattle.node_laws.specs.Losses.{behind, lost_of, written_of}
@@ -20,7 +20,7 @@ use Rattle.node_laws.specs.Network.{Goes, Tells}
 use Rattle.node_laws.specs.Stages.{Course, clock_on, heard_on}
 use Rattle.node_loop.specs.Around.{Around, count_on, Told}
 use Rattle.node_loop.specs.Feeding.{Rests}
-use Rattle.node_loop.specs.Passing.{HandedSome, Stops}
+use Rattle.node_loop.specs.Passing.{Stops, WentOn}
 use Rattle.node_loop.specs.declared.course.Course as code
 use Rattle.node_loop.specs.declared.desk.Desk.{Desk}
 use Rattle.node_loop.specs.declared.error.NodeError.{NodeError}
@@ -94,7 +94,7 @@ pub record CutOff (stack : List LayerTree) (plans : List Plan) (c : Course) (b :
   pub stopped : Stops e done rest b.around.output at.output
   pub faults : at.faults ≡ count_on b.around.faults (failures heard)
   pub sends : at.sends ≡ count_on b.around.sends (length (lost_of stack plans b.first doings failed))
-  pub told : Tells (HandedSome (sends_in done) heard) b.around.told at.told
+  pub told : Tells (WentOn [] (sends_in done) heard) b.around.told at.told
   pub clock_told : Told b.clock clock_now clock
 
 -- A node went on to what is left behind a stage, or was broken off.

@@ -11,7 +11,7 @@ use Rattle.script_mean.specs.declared.event.ScriptEvent.TheVariants.{Give, Show}
 use Rattle.stack_mean.specs.Acceptance.{largest_weight}
 use Rattle.stack_mean.specs.Plan.{Plan}
 use Rattle.run_mean.specs.World.{World, happens}
-use Rattle.world_core.specs.Standing.{Peopled, Stands}
+use Rattle.group_feed.specs.Standing.{Peopled, Stands}
 use Rattle.node_laws.specs.Groups.{AreWithin}
 use Rattle.node_laws.specs.Acts.{event_acts}
 use Rattle.node_loop.specs.Around.{Around}

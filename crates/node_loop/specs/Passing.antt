@@ -1,6 +1,6 @@
 -- Lines that are put and datagrams that are handed on, act by act.
 use Rattle.std.specs.Prelude.{◌≡◌, ℕ, ◌≤◌, Bool, List, [], ◌∷◌, ◌++◌, map, length, Result, Ok, Err}
-use Rattle.outside.specs.Links.{Network}
+use Rattle.outside.specs.Links.{Listen, Network}
 use Rattle.outside.specs.declared.sink.SinkError.{SinkError}
 use Rattle.outside.specs.declared.sink.SinkError.TheVariants.{Failed, Memory}
 use Rattle.run_mean.specs.Journal.{Handed, Heard}
@@ -28,6 +28,11 @@ pub record Passes (acts : List Act) (failed : List Bool) (a b : Around) : Type 0
 pub record HandedSome (sent : List Handed) (heard : List Heard) (n n' : Network) : Type 0 where
   pub handed : n'.handed ≡ n.handed ++ map sent_as sent
   pub met : n'.met ≡ n.met ++ map met_as heard
+
+-- The same, and these listens came meanwhile.
+pub record WentOn (listens : List Listen) (sent : List Handed) (heard : List Heard) (n n' : Network) : Type 0 where
+  pub listened : n'.listened ≡ n.listened ++ listens
+  pub some : HandedSome sent heard n n'
 
 -- The lines of the acts that were done were put, and the put of the next act's line failed.
 pub record StopsAtPut (done rest : List Act) (a b : sink.Tells) : Type 0 where
@@ -63,7 +68,7 @@ pub record Breaks (acts : List Bool → List Act) (e : SinkError) (a b : Around)
   pub stopped : Stops e done rest a.output b.output
   pub faults : b.faults ≡ a.faults
   pub sendings : b.sends ≡ count_on a.sends (failures_in failed)
-  pub told : Tells (HandedSome (sends_in done) []) a.told b.told
+  pub told : Tells (WentOn [] (sends_in done) []) a.told b.told
 
 -- They were done, or broken off.
 pub record PassesAll (acts : List Bool → List Act) (a b : Around) : Type 0 where

@@ -1,6 +1,7 @@
 -- What a node comes to.
-use Rattle.std.specs.Prelude.{◌≡◌, ◌⊎◌, ℕ, zero, suc, ◌+◌, ◌*◌, ◌<◌, ◌≤◌, Bool, true, false, List, [], ◌∷◌, ◌++◌, length, drop, replicate, Option, Result, Ok, Err}
-use Rattle.outside.specs.Links.{Network}
+use Rattle.std.specs.Prelude.{◌≡◌, ◌⊎◌, ℕ, zero, suc, ◌+◌, ◌*◌, ◌<◌, ◌≤◌, Bool, true, false, List, [], ◌∷◌, ◌++◌, length, map, take, drop, replicate, Option, Result, Ok, Err}
+use Rattle.outside.specs.Links.{Listen, Network, listen_of}
+use Rattle.outside.specs.declared.links.Peer.{Peer}
 use Rattle.outside.specs.Shelf.{is_next_to_fail}
 use Rattle.outside.specs.declared.sink.SinkError.{SinkError}
 use Rattle.outside.specs.declared.sink.SinkError.TheVariants as sink
@@ -19,7 +20,7 @@ use Rattle.node_laws.specs.Doings.{Doing, doings_of, events_of}
 use Rattle.node_laws.specs.Losses.{lost_of}
 use Rattle.node_laws.specs.Network.{Goes, Tells}
 use Rattle.node_loop.specs.Around.{Around, RoseBy, Told}
-use Rattle.node_loop.specs.Passing.{HandedSome, Stops}
+use Rattle.node_loop.specs.Passing.{Stops, WentOn}
 use Rattle.node_loop.specs.declared.error.NodeError.{NodeError}
 use Rattle.node_loop.specs.declared.error.NodeError.TheVariants.{Link, Write, Memory}
 
@@ -45,9 +46,13 @@ pub record Whereabouts : Type 0 where
 abbrev pub whereabouts : Around → Option (List ℕ) → Whereabouts
 whereabouts around clock = record { around = around; clock = clock }
 
--- A network behind so many listens.
-abbrev pub after_listens : ℕ → Network → Network
-after_listens count n = record n { listens = drop count n.listens }
+-- The listens of these members, each with where all members of the plan are reached.
+abbrev pub listens_of : List Peer → List ℕ → List Listen
+listens_of peers me = map (listen_of peers) me
+
+-- A network after them.
+abbrev pub after_listens : List Peer → List ℕ → Network → Network
+after_listens peers me n = record n { listened = n.listened ++ listens_of peers me; listens = drop (length me) n.listens }
 
 -- Whether the next so many calls of a kind are to fail, of which it is told which are.
 abbrev pub flags_of : ℕ → List Bool → List Bool
@@ -58,14 +63,14 @@ flags_of (suc count) flags = is_next_to_fail flags ∷ flags_of count (drop 1 fl
 abbrev pub doings_in : Task → Surroundings → List Doing
 doings_in task s = doings_of task.plan task.words.me task.words.turns task.words.patience s.clock s.heard
 
--- A network that tells heard all members listen, and went on as the node ran: each member heard what there was for it then, each packet was
+-- A network that tells heard all members listen in their order, each at its own place of the plan, and went on as the node ran: each member heard what there was for it then, each packet was
 -- handed on in its place, and those sendings failed that were to fail.
 pub record RanOver (task : Task) (s : Surroundings) (n n' : Network) : Type 0 where
   pub listens : flags_of (length task.words.me) n.listens ≡ replicate (length task.words.me) false
   pub flags : List (List Bool)
   pub lost : s.lost ≡ lost_of task.stack (plans_of task.stack) (first_of_plan task.stack task.plan) (doings_in task s) flags
   pub goes : Goes task.stack (plans_of task.stack) (first_of_plan task.stack task.plan) (doings_in task s) flags
-      (after_listens (length task.words.me) n) n'
+      (after_listens task.plan.peers task.words.me n) n'
 
 -- What was told of a node's run: its counts of failures, its clock and its network.
 pub record IsTold (task : Task) (s : Surroundings) (a b : Whereabouts) (OverNetwork : Network → Network → Type 0) : Type 0 where
@@ -85,12 +90,12 @@ pub record MadeAllTurns (task : Task) (a b : Whereabouts) : Type 0 where
       (node_lines task.stack (plans_of task.stack) (failed s) (noted task.plan task.words s) (played task.stack task.plan task.words s))
   pub told : IsTold task s a b (RanOver task s)
 
--- A member couldn't listen: of the listens, which come by ascending id, the one behind so many failed.
+-- A member couldn't listen: of the listens, which come by ascending id, the one after so many failed.
 pub record ListenFailed (task : Task) (n n' : Network) : Type 0 where
   pub count : ℕ
   pub within : count < length task.words.me
   pub listens : flags_of (count + 1) n.listens ≡ replicate count false ++ true ∷ []
-  pub is : n' ≡ after_listens (count + 1) n
+  pub is : n' ≡ after_listens task.plan.peers (take (count + 1) task.words.me) n
 
 -- Then nothing was done.
 pub record CouldNotListen (task : Task) (a b : Whereabouts) : Type 0 where
@@ -128,6 +133,12 @@ pub record Performed (task : Task) (e : SinkError) (s on : Surroundings) (sent :
   pub stopped : Stops e done rest a b
   pub sent_are : sent ≡ sends_in done
 
+-- What a network that tells was asked before a node was broken off. Where not all members were to listen, no turn was begun.
+pub record LeftOff (task : Task) (s : Surroundings) (sent : List Handed) (n n' : Network) : Type 0 where
+  pub count : ℕ
+  pub all : (count ≡ length task.words.me) ⊎ (s.clock ≡ [])
+  pub some : WentOn (listens_of task.plan.peers (take count task.words.me)) sent s.heard n n'
+
 -- The node was broken off: what was written is a part of a whole output, and what was handed to the network the first of what is handed on
 -- then, where the clock and the network, had they been asked further, told this.
 pub record BrokenOff (task : Task) (e : SinkError) (a b : Whereabouts) : Type 0 where
@@ -144,7 +155,7 @@ pub record BrokenOff (task : Task) (e : SinkError) (a b : Whereabouts) : Type 0 
       (node_lines task.stack (plans_of task.stack) (failed s) (noted task.plan task.words (told_on s clock_on heard_on))
       (played task.stack task.plan task.words (told_on s clock_on heard_on))) a.around.output b.around.output (Err e)
   pub performed : Performed task e s (told_on s clock_on heard_on) sent a.around.output b.around.output
-  pub told : IsTold task s a b (HandedSome sent s.heard)
+  pub told : IsTold task s a b (LeftOff task s sent)
 
 -- How a node ended.
 abbrev pub Serves : Task → Whereabouts → Whereabouts → Result (Unit {0}) NodeError → Type 0

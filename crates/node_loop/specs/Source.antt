@@ -2,7 +2,7 @@
 use Rattle.std.specs.Prelude.{ℕ, ◌+◌, ◌^◌, ◌<◌, Bool, List, length, Option, IsSomeAnd}
 use Rattle.std.specs.List.{AllByRecursion}
 use Rattle.event_graph.specs.Answer.{stack_tree}
-use Rattle.packet_plans.specs.Trees.{plans_tree}
+use Rattle.stack_shapes.specs.Trees.{plans_tree}
 use Rattle.run_mean.specs.Member.{Output}
 use Rattle.view_core.specs.declared.step.Stepped.{Stepped}
 use Rattle.report_text.specs.Told.{AreFull}

@@ -2,9 +2,9 @@
 
 ghost use Rattle.packet_mean.specs.ChainedState.{IsNumber};
 
-use packet_plans::Plans;
 use report_lines::NamedStack;
 use script_mean::NodePlan;
+use stack_shapes::Plans;
 
 /// The stack that a node runs, with the plans of its packets; the plan of its group, its own members by ascending id, and how many turns it makes.
 #[derive(Clone, Copy)]

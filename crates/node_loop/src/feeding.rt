@@ -17,14 +17,13 @@ use crate::course::Course;
 use crate::desk::Desk;
 use crate::outputs::pass_stepped;
 use crate::source::Source;
+use group_feed::Feed;
 use msg_core::Memory;
 use outside::{Links, Sink, SinkError, put_line};
 use report_lines::{Line, journal_line};
-use report_text::member_of;
-use script_mean::ScriptEvent;
+use script_mean::{ScriptEvent, member_of};
 use step_outputs::an_accepted_stack_is_light;
 use view_core::Did;
-use world_core::Feed;
 
 /// Puts the line of an event.
 fn write_journal<O: Sink>(

@@ -2,7 +2,7 @@
 
 ghost use Rattle.std.specs.Prelude.{◌≡◌, ℕ, Bool, None, IsSomeAnd};
 ghost use Rattle.std.specs.List.{AllByRecursion};
-ghost use Rattle.packet_plans.specs.Trees.{plans_tree};
+ghost use Rattle.stack_shapes.specs.Trees.{plans_tree};
 ghost use Rattle.run_mean.specs.Journal.{handed_output};
 ghost use Rattle.step_outputs.specs.Views.{output_meant};
 ghost use Rattle.view_core.specs.declared.step.Stepped.TheVariants.{Taken};

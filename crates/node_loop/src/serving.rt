@@ -12,7 +12,7 @@ ghost use Rattle.node_loop.specs.Course.{Begun, Made, SoFar, course_of, now, pla
 ghost use Rattle.node_loop.specs.Feeding.{IsOwn, IsUp};
 ghost use Rattle.node_loop.specs.Listening.{ListensAll};
 ghost use Rattle.node_loop.specs.Serve.{Serves, first_of_plan, layered_words, whereabouts};
-ghost use Rattle.world_core.specs.Standing.{Stands};
+ghost use Rattle.group_feed.specs.Standing.{Stands};
 ghost use Rattle.msg_core.specs.View.{most_members};
 
 use crate::course::{Course, Progress, number_fits};
@@ -21,6 +21,7 @@ use crate::error::{NodeError, cut};
 use crate::tools::Tools;
 use crate::turns::turn;
 use event_graph::Stack;
+use group_feed::Feed;
 use msg_core::Memory;
 use node_laws::stopped_goes_on;
 use outside::{Clock, LONGEST_DATAGRAM, LinkError, Links, Peer, Sink};
@@ -28,7 +29,6 @@ use report_lines::Line;
 use report_text::{Pen, write_end};
 use std::alloc::{AllocError, Global};
 use step_outputs::Outputs;
-use world_core::Feed;
 
 /// Where a datagram is received.
 fn room(alloc: Global) -> Result<Vec<u8>, AllocError>
@@ -61,7 +61,7 @@ fn desk(alloc: Global, stack: &Stack) -> Result<Desk, Memory>
 fn listen_all<N: Links>(peers: &[Peer], me: &[u8], links: &mut N) -> Result<(), NodeError>
     requires members { AllByRecursion (λ id. id < length peers.now) me.now }
     requires few { length peers.now ≤ most_members }
-    ensures told { ListensAll (length me.now) (N.faults links.old) (N.faults links.new) (N.told links.old) (N.told links.new) result }
+    ensures told { ListensAll peers.now me.now (N.faults links.old) (N.faults links.new) (N.told links.old) (N.told links.new) result }
     ensures sends { N.send_faults links.new ≡ N.send_faults links.old }
     ensures listening { OnOk result (AllByRecursion (λ id. N.listening links.new id ≡ Some (length peers.now)) me.now) }
 {

@@ -1,7 +1,7 @@
 //! Whose outputs a node passes on.
 
-use packet_plans::Plans;
 use report_lines::NamedStack;
+use stack_shapes::Plans;
 
 /// A member, the stack that it runs with the plans of its packets, and the number of the next packet.
 #[derive(Clone, Copy)]

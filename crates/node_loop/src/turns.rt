@@ -20,12 +20,11 @@ use crate::course::{Course, Progress, number_fits};
 use crate::desk::Desk;
 use crate::error::{NodeError, cut};
 use crate::feeding::feed_on;
+use group_feed::Feed;
 use msg_core::Memory;
 use outside::{Clock, LONGEST_DATAGRAM, LinkError, Links, Sink, SinkError, put_line};
 use report_lines::{Line, deaf_line};
-use report_text::member_of;
-use script_mean::{Bytes, ScriptEvent};
-use world_core::Feed;
+use script_mean::{Bytes, ScriptEvent, member_of};
 
 /// Feeds a tick of this moment to each own member.
 fn tick_all<F: Feed, O: Sink, N: Links>(

@@ -49,7 +49,7 @@ appends_keeps (Some as_) (Some bs) (Some cs) xs appended kept = kept ∙ appende
 pub puts_prefix : {T : Type 0} (failures : Option (List (Option ℕ))) (a b : Option (List ℕ)) (bytes : List ℕ) (result : Result T SinkError) → Puts failures a b bytes result → AppendsPrefix a b bytes
 puts_prefix failures a b bytes (Ok done) put = (length bytes, rw (take-length bytes) put.0)
 puts_prefix failures a b bytes (Err Failed) put = (put.0, put.1)
-puts_prefix failures a b bytes (Err Memory) put = put
+puts_prefix failures a b bytes (Err Memory) put = (put.0, put.1)
 
 -- nothing is a prefix of anything
 pub prefix_none : (a : Option (List ℕ)) (ys : List ℕ) → AppendsPrefix a a ys

@@ -71,7 +71,7 @@ pub one_put : (a b : Tells) (line : List ℕ) (r : Result (Unit {0}) SinkError) 
     b.failures ≡ option_map (drop 1) a.failures → b.faults ≡ faults_after_put a.faults r → Wrote (line ∷ []) a b r
 one_put a b line (Ok done) put kept counted = line_gains a b line put.0 kept counted
 one_put a b line (Err sink.Failed) put kept counted = line_fails a b line put.0 put.1 put.2 kept counted
-one_put a b line (Err sink.Memory) put kept counted = line_begins a b line put
+one_put a b line (Err sink.Memory) put kept counted = line_begins a b line (put.0, put.1)
 
 -- what was written where a put failed or memory ran out, and what was left
 pub fails_part : (a b : Tells) (lines : List (List ℕ)) → Fails a b lines →

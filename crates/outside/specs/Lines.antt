@@ -1,10 +1,10 @@
 -- What is written to a sink line by line, in one put a line.
-use Rattle.std.specs.Prelude.{◌≡◌, ℕ, ◌+◌, List, ◌∷◌, ◌++◌, length, take, drop, Some, Result, Ok, Err}
+use Rattle.std.specs.Prelude.{◌≡◌, ℕ, ◌+◌, List, ◌∷◌, ◌++◌, length, take, drop, Some, Result, Ok, Err, ⊤}
 use Rattle.std.specs.List.{concat}
 use Rattle.std.specs.Option.{option_map}
 use Rattle.std.specs.Io.KnownBytes.{Appends}
 use Rattle.outside.specs.Count.{Rose}
-use Rattle.outside.specs.Sink.{Meets}
+use Rattle.outside.specs.Sink.{Meets, AppendsPart}
 use Rattle.outside.specs.declared.sink.SinkError.{SinkError}
 use Rattle.outside.specs.declared.sink.SinkError.TheVariants.{Failed, Memory}
 use Rattle.outside.specs.Tells.{Tells}
@@ -38,3 +38,9 @@ abbrev pub Wrote : List (List ℕ) → Tells → Tells → Result (Unit {0}) Sin
 Wrote lines old new (Ok done) = Gains old new lines
 Wrote lines old new (Err Failed) = Fails old new lines
 Wrote lines old new (Err Memory) = Begins old new (concat lines)
+
+-- Where memory ran out in the put of a line, the line isn't whole.
+abbrev pub BreaksOff : List ℕ → Tells → Tells → Result (Unit {0}) SinkError → Type 0
+BreaksOff line old new (Ok done) = ⊤
+BreaksOff line old new (Err Failed) = ⊤
+BreaksOff line old new (Err Memory) = AppendsPart old.contents new.contents line

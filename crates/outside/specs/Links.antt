@@ -3,10 +3,19 @@ use Rattle.std.specs.Prelude.{◌≡◌, ℕ, ◌==◌, Bool, true, false, List,
 use Rattle.std.specs.Option.{option_map}
 use Rattle.outside.specs.declared.links.LinkError.{LinkError}
 use Rattle.outside.specs.declared.links.LinkError.TheVariants.{Failed, Memory}
+use Rattle.outside.specs.declared.links.Peer.{Peer}
 use Rattle.outside.specs.declared.links.Fate.{Fate}
 use Rattle.outside.specs.declared.links.Fate.TheVariants.{Fails, Lost, Once, Twice, First}
 use Rattle.outside.specs.Count.{next_count}
 use Rattle.outside.specs.Shelf.{is_next_to_fail}
+
+-- a listen: of which member, and where each member is reached
+pub record Listen : Type 0 where
+  pub member : ℕ
+  pub peers : List Peer
+
+abbrev pub listen_of : List Peer → ℕ → Listen
+listen_of peers member = record { member = member; peers = peers }
 
 -- a datagram: who sent it, to whom, and its bytes
 pub record Sent : Type 0 where
@@ -20,10 +29,12 @@ pub data Met : Type 0 where
   Quiet : Met
   Broke : Met
 
--- What links tell. So far: what was handed to send, failed sends included, and what the calls of recv met, each in
--- order. Now: what waits to be received. For the calls to come, in order: what becomes of each send, and which calls of
--- listen and of recv are to fail; past the end of a list a send arrives once, and no call is to fail
+-- What links tell. So far: who was to listen and where, and what was handed to send, both with the calls that failed, and
+-- what the calls of recv met, each in order. Now: what waits to be received. For the calls to come, in order: what becomes
+-- of each send, and which calls of listen and of recv are to fail; past the end of a list a send arrives once, and no call
+-- is to fail
 pub record Network : Type 0 where
+  pub listened : List Listen
   pub handed : List Sent
   pub met : List Met
   pub waiting : List Sent
@@ -69,8 +80,8 @@ without_first member [] = []
 without_first member (sent ∷ waiting) = if sent.to == member then waiting else sent ∷ without_first member waiting
 
 -- a network after a listen
-abbrev pub after_listen : Network → Network
-after_listen n = record n { listens = drop 1 n.listens }
+abbrev pub after_listen : Listen → Network → Network
+after_listen listen n = record n { listened = n.listened ++ listen ∷ []; listens = drop 1 n.listens }
 
 -- a network after a send
 abbrev pub after_send : Sent → Network → Network
@@ -85,10 +96,10 @@ abbrev pub after_recv : ℕ → Network → Network
 after_recv member n = record n { met = n.met ++ next_met member n ∷ []; waiting = if is_next_to_fail n.recvs then n.waiting else without_first member n.waiting; recvs = drop 1 n.recvs }
 
 -- what a listen does where the links tell: it fails exactly where it is to fail; where memory ends, nothing changes
-abbrev pub Listens : {T : Type 0} → Option Network → Option Network → Result T LinkError → Type 0
-Listens old new (Ok done) = IfSome old (λ n. is_next_to_fail n.listens ≡ false) × (new ≡ option_map after_listen old)
-Listens old new (Err Failed) = IfSome old (λ n. is_next_to_fail n.listens ≡ true) × (new ≡ option_map after_listen old)
-Listens old new (Err Memory) = new ≡ old
+abbrev pub Listens : {T : Type 0} → Listen → Option Network → Option Network → Result T LinkError → Type 0
+Listens listen old new (Ok done) = IfSome old (λ n. is_next_to_fail n.listens ≡ false) × (new ≡ option_map (after_listen listen) old)
+Listens listen old new (Err Failed) = IfSome old (λ n. is_next_to_fail n.listens ≡ true) × (new ≡ option_map (after_listen listen) old)
+Listens listen old new (Err Memory) = new ≡ old
 
 -- what a send does where the links tell: it fails exactly where it is to fail; where memory ends, nothing changes
 abbrev pub Sends : {T : Type 0} → Sent → Option Network → Option Network → Result T LinkError → Type 0

@@ -2,9 +2,14 @@
 use Rattle.std.specs.Prelude.{ℕ, List, Option, slice_get}
 use Rattle.std.specs.Option.{option_flatten}
 use Rattle.outside.specs.declared.datagram.Datagram.{Datagram}
+use Rattle.outside.specs.declared.mem_links.Listened.{Listened}
 use Rattle.outside.specs.declared.mem_links.Entry.{Entry}
 use Rattle.outside.specs.declared.mem_links.Entry.TheVariants as entries
-use Rattle.outside.specs.Links.{Sent, Met, Came, Quiet, Broke}
+use Rattle.outside.specs.Links.{Listen, Sent, Met, Came, Quiet, Broke}
+
+-- a listen as the network tells it
+abbrev pub listened_of : Listened → Listen
+listened_of l = record { member = l.member; peers = l.peers.items }
 
 -- a datagram as the network tells it
 abbrev pub sent_of : Datagram → Sent

@@ -1,7 +1,9 @@
 -- What is said on a sink of why a program ended, and the status.
-use Rattle.std.specs.Prelude.{◌≡◌, ℕ, List, [], ◌∷◌}
+use Rattle.std.specs.Prelude.{◌≡◌, ◌⊎◌, ℕ, List, [], ◌∷◌, drop}
+use Rattle.std.specs.Option.{option_map}
 use Rattle.outside.specs.Tells.{Tells}
 use Rattle.outside.specs.Lines.{Begins, Gains, Fails}
+use Rattle.outside.specs.Sink.{AppendsPart}
 
 -- What the standard error told before and after, and the status.
 pub record Errors : Type 0 where
@@ -22,6 +24,11 @@ pub data SaysLine (line : List ℕ) (status : ℕ) (e : Errors) : Type 0 where
   whole : Gains e.before e.after (line ∷ []) → e.status ≡ status → SaysLine line status e
   failed : Fails e.before e.after (line ∷ []) → e.status ≡ status → SaysLine line status e
   no_memory : Begins e.before e.after line → e.status ≡ 7 → SaysLine line status e
+
+-- A line was put: its status comes, or 7 in its place where memory ran out in the put, and then the line isn't whole.
+pub record EndsSo (line : List ℕ) (status : ℕ) (e : Errors) : Type 0 where
+  pub put : e.after.failures ≡ option_map (drop 1) e.before.failures
+  pub ended : (e.status ≡ status) ⊎ ((e.status ≡ 7) × AppendsPart e.before.contents e.after.contents line)
 
 -- Nothing was said, and the status is 0.
 pub record Silent (e : Errors) : Type 0 where

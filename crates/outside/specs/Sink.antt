@@ -1,5 +1,5 @@
 -- What a sink tells, and what a put does to it.
-use Rattle.std.specs.Prelude.{◌≡◌, ℕ, List, [], ◌∷◌, take, Option, None, Some, Result, Ok, Err, ⊤}
+use Rattle.std.specs.Prelude.{◌≡◌, ◌<◌, ℕ, List, [], ◌∷◌, length, take, Option, None, Some, Result, Ok, Err, ⊤}
 use Rattle.std.specs.Io.KnownBytes.{Appends}
 use Rattle.outside.specs.declared.sink.SinkError.{SinkError}
 use Rattle.outside.specs.declared.sink.SinkError.TheVariants.{Failed, Memory}
@@ -25,8 +25,12 @@ faults_after_put count (Err Memory) = count
 abbrev pub AppendsPrefix : Option (List ℕ) → Option (List ℕ) → List ℕ → Type 0
 AppendsPrefix old new bytes = (n : ℕ) × Appends old new (take n bytes)
 
--- what a put of these bytes does: all are appended, or as many as its failure says, or where memory ends a prefix
+-- they grow by a prefix of these bytes that isn't all of them
+abbrev pub AppendsPart : Option (List ℕ) → Option (List ℕ) → List ℕ → Type 0
+AppendsPart old new bytes = (n : ℕ) × Appends old new (take n bytes) × (n < length bytes)
+
+-- what a put of these bytes does: all are appended, or as many as its failure says, or where memory ends not all
 abbrev pub Puts : {T : Type 0} → Option (List (Option ℕ)) → Option (List ℕ) → Option (List ℕ) → List ℕ → Result T SinkError → Type 0
 Puts failures old new bytes (Ok done) = Appends old new bytes × Meets failures None
 Puts failures old new bytes (Err Failed) = (n : ℕ) × Appends old new (take n bytes) × Meets failures (Some n)
-Puts failures old new bytes (Err Memory) = AppendsPrefix old new bytes
+Puts failures old new bytes (Err Memory) = AppendsPart old new bytes

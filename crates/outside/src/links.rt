@@ -1,7 +1,7 @@
 // Links between the members of a group, which carry datagrams.
 ghost use Rattle.std.specs.Prelude.{◌≡◌, ◌≢◌, ℕ, ◌<◌, ◌≤◌, Option, Some, OnOk, OnErr, IfOk, IfSome, IsSome, IsSomeAnd, length};
 ghost use Rattle.outside.specs.declared.links.LinkError.TheVariants.{Memory};
-ghost use Rattle.outside.specs.Links.{Network, Listens, Sends, Receives, WritesFront, faults_after_call};
+ghost use Rattle.outside.specs.Links.{Network, Listens, listen_of, Sends, Receives, WritesFront, faults_after_call};
 
 use std::alloc::{AllocError, AllocFailed};
 
@@ -82,7 +82,7 @@ pub trait Links {
         ensures listening { OnOk result (listening self.new member ≡ Some (length peers.now)) }
         ensures others { (m : ℕ) → m ≢ member → listening self.new m ≡ listening self.old m }
         ensures as_before { OnErr result (listening self.new member ≡ listening self.old member) }
-        ensures told { Listens (told self.old) (told self.new) result };
+        ensures told { Listens (listen_of peers.now member) (told self.old) (told self.new) result };
 
     /// Hands on a datagram from a member that listens to one of its peers.
     fn send(&mut self, from: u8, to: u8, bytes: &[u8]) -> Result<(), LinkError>

@@ -2,12 +2,19 @@
 ghost use Rattle.std.specs.Prelude.{◌≡◌, ◌≤◌, ◌==◌, ℕ, None, Some, [], map, position, length, IfSome, IfOk, OnOk, OnErr};
 ghost use Rattle.std.specs.Option.{option_map};
 ghost use Rattle.outside.specs.Links.{waiting_after, first_for, without_first};
-ghost use Rattle.outside.specs.MemLinks.{listening_in, sent_of, met_of};
+ghost use Rattle.outside.specs.MemLinks.{listening_in, listened_of, sent_of, met_of};
 
 use crate::count::count_after;
 use crate::{Datagram, Fate, LONGEST_DATAGRAM, LinkError, Links, MOST_PEERS, Peer};
 use std::alloc::{AllocError, Global};
 use std::collections::VecDeque;
+
+// Who was to listen, and where each member is reached.
+#[derive(Drop)]
+struct Listened {
+    member: u8,
+    peers: Vec<Peer>,
+}
 
 // What a recv met.
 #[derive(Drop)]
@@ -23,6 +30,7 @@ pub struct MemLinks {
     alloc: Global,
     // With how many peers each member listens.
     members: [Option<u8>; MOST_PEERS],
+    listened: Vec<Listened>,
     handed: Vec<Datagram>,
     waiting: Vec<Datagram>,
     met: Vec<Entry>,
@@ -38,7 +46,7 @@ impl MemLinks {
     /// and which calls of `listen` and of `recv` are to fail; behind their ends a datagram arrives once and no call is
     /// to fail.
     pub fn of(alloc: Global, fates: Vec<Fate>, listens: Vec<bool>, recvs: Vec<bool>) -> Self
-        ensures told { ⟦<MemLinks as Links>⟧.told result ≡ Some (record { handed = []; met = []; waiting = []; fates = fates.items; listens = listens.items; recvs = recvs.items }) }
+        ensures told { ⟦<MemLinks as Links>⟧.told result ≡ Some (record { listened = []; handed = []; met = []; waiting = []; fates = fates.items; listens = listens.items; recvs = recvs.items }) }
         ensures nobody { (m : ℕ) → ⟦<MemLinks as Links>⟧.listening result m ≡ None }
         ensures faults { ⟦<MemLinks as Links>⟧.faults result ≡ 0 }
         ensures send_faults { ⟦<MemLinks as Links>⟧.send_faults result ≡ 0 }
@@ -46,6 +54,7 @@ impl MemLinks {
         MemLinks {
             alloc,
             members: [None; MOST_PEERS],
+            listened: Vec::new(alloc),
             handed: Vec::new(alloc),
             waiting: Vec::new(alloc),
             met: Vec::new(alloc),
@@ -87,6 +96,7 @@ impl Links for MemLinks {
     ghost listening = { λ links m. listening_in links.members m };
 
     ghost told = { λ links. Some (record {
+      listened = map listened_of links.listened.items;
       handed = map sent_of links.handed.items;
       met = map met_of links.met.items;
       waiting = map sent_of links.waiting.items;
@@ -97,6 +107,11 @@ impl Links for MemLinks {
 
     #[tactic(auto, unfolding(crate::specs::MemLinks::listening_in))]
     fn listen(&mut self, member: u8, peers: &[Peer]) -> Result<(), LinkError> {
+        let listened = Listened {
+            member,
+            peers: peers.to_vec(self.alloc)?,
+        };
+        self.listened.push(listened)?;
         if self.listens.pop_front() == Some(true) {
             self.faults = count_after(self.faults);
             return Err(LinkError::Failed);

@@ -1,5 +1,7 @@
 // The time since the start of a run.
-ghost use Rattle.std.specs.Prelude.{None};
+ghost use Rattle.std.specs.Prelude.{◌≡◌, ◌-◌, None};
+ghost use Rattle.std.specs.Time.{instant_nanos};
+ghost use Rattle.outside.specs.Clock.{moment_after};
 
 use crate::Clock;
 use std::rt::Clock as SystemClock;
@@ -30,10 +32,17 @@ impl<R: SystemClock + Drop> Clock for RunClock<R> {
 
     fn now(&mut self) -> u32 {
         if let Some(start) = self.start
-            && let Ok(elapsed) = start.elapsed(&self.system)
+            && let Ok(now) = Instant::now(&self.system)
         {
-            self.last = (elapsed.as_millis() % (1 << 32)) as u32;
+            self.last = moment(start, now);
         }
         self.last
     }
+}
+
+/// The moment at which the system's clock says `now`, in a run that began at `start`.
+fn moment(start: Instant, now: Instant) -> u32
+    ensures { result ≡ moment_after (instant_nanos now - instant_nanos start) }
+{
+    (now.duration_since(start).as_millis() % (1 << 32)) as u32
 }

@@ -1,5 +1,7 @@
 //! The program over the system's arguments, files, streams, sockets and clock.
 
+ghost use Rattle.std.specs.Prelude.{◌≡◌, drop};
+
 use crate::over_streams::run_through;
 use job_ends::NO_MEMORY;
 use outside::{FileShelf, RunClock, StdSink};
@@ -40,15 +42,24 @@ fn begun<R: AllocGlobal + Env + Files + Net + SystemClock, O: Write + Drop, E: W
 /// The words of the command line, without the program's name. Where one of them isn't UTF-8 there are none, since such a
 /// word is no job's. An error says that memory ran out.
 fn words<R: AllocGlobal + Env>(system: &R) -> io::Result<Vec<String>> {
-    let mut words = Vec::new(system.alloc());
     match env::args(system) {
         Ok(all) => {
-            for word in all.skip(1) {
-                words.push(word)?;
-            }
+            let mut words = Vec::new(system.alloc());
+            words.extend(all)?;
+            Ok(without_name(words))
         }
-        Err(error) if error.kind() == ErrorKind::InvalidData => {}
-        Err(error) => return Err(error),
+        Err(error) if error.kind() == ErrorKind::InvalidData => Ok(Vec::new(system.alloc())),
+        Err(error) => Err(error),
     }
-    Ok(words)
+}
+
+/// The words behind the first, which is the program's name.
+fn without_name(words: Vec<String>) -> Vec<String>
+    ensures { result.items ≡ drop 1 words.items }
+{
+    let mut words = words;
+    if !words.is_empty() {
+        let _ = words.remove(0);
+    }
+    words
 }

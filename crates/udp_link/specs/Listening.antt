@@ -12,6 +12,10 @@ peers_of m = take m.count m.peers
 unfoldable pub peers_in : List (Option Member) → ℕ → Option (List Peer)
 peers_in members member = option_map peers_of (option_flatten (slice_get members member))
 
+-- where it is bound
+unfoldable pub place_in : List (Option Member) → ℕ → Option Peer
+place_in members member = option_map (λ m. m.place) (option_flatten (slice_get members member))
+
 -- with how many peers a member listens
 abbrev pub listening_in : List (Option Member) → ℕ → Option ℕ
 listening_in members member = option_map length (peers_in members member)

@@ -1,9 +1,9 @@
 // Links over the system's sockets.
-ghost use Rattle.std.specs.Prelude.{◌≡◌, ◌≢◌, ◌<◌, ◌≤◌, ℕ, None, Some, Err, IsSome, IsSomeAnd, IfOk, IfSome, OnOk, OnErr, length, replicate, slice_get, vec_capacity};
+ghost use Rattle.std.specs.Prelude.{◌≡◌, ◌≢◌, ◌<◌, ◌≤◌, ℕ, None, Some, Err, IsSome, IsSomeAnd, IfOk, IfSome, OnOk, OnErr, length, replicate, slice_get, take, vec_capacity};
 ghost use Rattle.outside.specs.declared.links.LinkError.TheVariants.{Memory};
 ghost use Rattle.outside.specs.declared.links.TheConstants.{LONGEST_DATAGRAM, MOST_PEERS};
-ghost use Rattle.outside.specs.Links.{Listens, Sends, Receives, WritesFront, faults_after_call};
-ghost use Rattle.udp_link.specs.Listening.{listening_in, peers_in, peers_of};
+ghost use Rattle.outside.specs.Links.{Listens, listen_of, Sends, Receives, WritesFront, faults_after_call};
+ghost use Rattle.udp_link.specs.Listening.{listening_in, peers_in, peers_of, place_in};
 
 use crate::member::{Member, address};
 use outside::{LONGEST_DATAGRAM, LinkError, Links, MOST_PEERS, Peer};
@@ -100,7 +100,7 @@ impl<R: Net + Drop> Links for UdpLinks<R> {
 
     ghost told = { λ _. None };
 
-    #[tactic(auto, unfolding(crate::specs::Listening::peers_in))]
+    #[tactic(auto, unfolding(crate::specs::Listening::peers_in, crate::specs::Listening::place_in))]
     fn listen(&mut self, member: u8, peers: &[Peer]) -> Result<(), LinkError>
         requires member { member < length peers.now }
         requires few { length peers.now ≤ MOST_PEERS }
@@ -110,9 +110,10 @@ impl<R: Net + Drop> Links for UdpLinks<R> {
         ensures others { (m : ℕ) → m ≢ member → listening_in self.new.members.items m ≡ listening_in self.old.members.items m }
         ensures as_before { OnErr result (listening_in self.new.members.items member ≡ listening_in self.old.members.items member) }
         ensures peers { OnOk result (peers_in self.new.members.items member ≡ Some peers.now) }
+        ensures place { OnOk result (place_in self.new.members.items member ≡ slice_get peers.now member) }
         ensures other_peers { (m : ℕ) → m ≢ member → peers_in self.new.members.items m ≡ peers_in self.old.members.items m }
         ensures peers_as_before { OnErr result (self.new.members ≡ self.old.members) }
-        ensures told { Listens None None result }
+        ensures told { Listens (listen_of peers.now member) None None result }
         ensures memory { result ≢ Err Memory }
     {
         match Member::open(&self.net, peers[member as usize], peers) {
@@ -153,6 +154,7 @@ impl<R: Net + Drop> Links for UdpLinks<R> {
         ensures sends { self.new.send_faults ≡ self.old.send_faults }
         ensures listening { (m : ℕ) → listening_in self.new.members.items m ≡ listening_in self.old.members.items m }
         ensures front { WritesFront into.old into.new result }
+        ensures handed_on { IfOk result (λ got. IfSome got (λ count. take count into.new ≡ take count self.new.room.items)) }
         ensures members { self.new.members ≡ self.old.members }
         ensures told { Receives member into.new None None result }
         ensures memory { result ≢ Err Memory }

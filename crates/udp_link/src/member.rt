@@ -18,10 +18,11 @@ const NOBODY: Peer = Peer {
     port: 0,
 };
 
-/// A socket that waits a moment and no longer, and the peers that it sends to.
+/// A socket that waits a moment and no longer, where it is bound, and the peers that it sends to.
 #[derive(Drop)]
 pub(crate) struct Member {
     socket: UdpSocket,
+    place: Peer,
     // The first `count` of them.
     peers: [Peer; MOST_PEERS],
     count: u8,
@@ -34,7 +35,8 @@ impl Member {
     /// Listens at `place`.
     pub(crate) fn open(net: &impl Net, place: Peer, peers: &[Peer]) -> io::Result<Self>
         requires { length peers.now ≤ MOST_PEERS }
-        ensures { IfOk result (λ member. peers_of member ≡ peers.now) }
+        ensures peers { IfOk result (λ member. peers_of member ≡ peers.now) }
+        ensures place { IfOk result (λ member. member.place ≡ place) }
     {
         let socket = net.bind_udp(address(place))?;
         let patience = Some(Duration::from_millis(PATIENCE));
@@ -42,6 +44,7 @@ impl Member {
         socket.set_write_timeout(patience)?;
         Ok(Member {
             socket,
+            place,
             peers: table(peers),
             count: peers.len() as u8,
         })

@@ -1,10 +1,10 @@
 use Rattle.job_ends.proofs.saying.say.Goals as goal
 
 pub returns-in-Words : goal.returns-in-Words
-returns-in-Words g c = rw c.in-Words.is c.say_line-in-Words.ensures
+returns-in-Words g c = rw c.in-Words.is c.say_line-in-Words.ensures.said
 
 pub returns-in-Read : goal.returns-in-Read
-returns-in-Read g c = rw c.in-Read.is c.say_line-in-Read.ensures
+returns-in-Read g c = rw c.in-Read.is c.say_line-in-Read.ensures.said
 
 pub returns-in-TooManyRows : goal.returns-in-TooManyRows
-returns-in-TooManyRows g c = rw c.in-TooManyRows.is c.say_line-in-TooManyRows.ensures
+returns-in-TooManyRows g c = rw c.in-TooManyRows.is c.say_line-in-TooManyRows.ensures.said

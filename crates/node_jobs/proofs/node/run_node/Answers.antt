@@ -2,7 +2,7 @@ use Rattle.std.proofs.Common.{refl}
 use Rattle.event_graph.specs.Answer.{stack_tree}
 use Rattle.job_ends.specs.Comes.{around}
 use Rattle.job_ends.specs.Shown.{shown}
-use Rattle.play_jobs.proofs.Typed.{means_typed}
+use Rattle.file_jobs.proofs.Typed.{means_typed}
 use Rattle.node_jobs.specs.Comes.{beyond}
 use Rattle.node_jobs.specs.Plan.{words_of}
 use Rattle.node_jobs.proofs.Runs.{ran}

@@ -1,6 +1,6 @@
 use Rattle.script_mean.specs.NodePlan.{node_plan}
 use Rattle.job_ends.specs.Shown.{shown}
-use Rattle.play_jobs.proofs.Stops.{fetches, stops_unread}
+use Rattle.file_jobs.proofs.SecondStops.{fetches, stops_unread}
 use Rattle.node_jobs.specs.Plan.{IsServable}
 use Rattle.node_jobs.proofs.Plans.{large_plan}
 use Rattle.node_jobs.proofs.plan.fetch_plan.Goals as goal

@@ -1,7 +1,7 @@
 use Rattle.std.proofs.Common.{sym, subst}
 use Rattle.script_mean.specs.NodePlan.{node_plan}
-use Rattle.play_jobs.specs.Second.{Refused}
-use Rattle.play_jobs.proofs.Stops.{refused_so}
+use Rattle.file_jobs.specs.Second.{Refused}
+use Rattle.file_jobs.proofs.SecondStops.{refused_so}
 use Rattle.node_jobs.proofs.Plans.{servable}
 use Rattle.node_jobs.proofs.plan.judged.Goals as goal
 

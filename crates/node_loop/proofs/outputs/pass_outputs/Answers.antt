@@ -2,7 +2,7 @@ use Rattle.std.proofs.Common.{◌≡◌, ◌∙◌, arith, refl, sym, ap, Some, 
 use Rattle.std.proofs.lemmas.Result.{err_from_is_err_and}
 use Rattle.event_graph.specs.Answer.{stack_tree}
 use Rattle.file_layer.proofs.Lists.{all-at}
-use Rattle.packet_plans.specs.Trees.{plans_tree}
+use Rattle.stack_shapes.specs.Trees.{plans_tree}
 use Rattle.report_text.proofs.Numbered.{number_more}
 use Rattle.step_outputs.specs.Views.{output_meant}
 use Rattle.node_loop.proofs.Handing.{outputs_begin, outputs_cut, outputs_pass, sendable_at}

@@ -3,10 +3,11 @@ use Rattle.std.specs.List.{AllByRecursion}
 use Rattle.std.specs.Prelude.{Ok, Err}
 use Rattle.std.proofs.lemmas.Result.{err_from_is_err_and}
 use Rattle.packet_laws.specs.Strays.{AreNumbered}
-use Rattle.step_laws.proofs.Numbered.{plans_are_numbered}
+use Rattle.member_laws.proofs.Numbered.{plans_are_numbered}
 use Rattle.outside.specs.Tells.{tells_of}
 use Rattle.node_loop.specs.Around.{around, surrounding}
 use Rattle.node_loop.specs.Course.{now, plans_in, stack_in}
+use Rattle.node_loop.specs.Listening.{ListensAll}
 use Rattle.node_loop.specs.Serve.{Serves, layered_words, whereabouts}
 use Rattle.node_loop.proofs.Ends.{all_served, made_first, not_all_listen, not_all_made, not_begun, reached, rests_first, up_first}
 use Rattle.node_loop.proofs.serving.serve.Goals as goal
@@ -28,7 +29,9 @@ returns-in_err-listen_all g c =
     rw (p.1, p.2) (not_all_listen (stack_in c.args.course) c.args.course.plan.now c.args.course.me.now c.args.course.turns c.args.patience
     c.stopped_goes_on.ensures (tells_of g.O.Sink c.args.out.now)
     (g.C.Clock.told c.args.clock.now) (g.N.Links.faults links) (g.N.Links.faults listening) (g.N.Links.send_faults links) (g.N.Links.send_faults listening)
-    (g.N.Links.told links) (g.N.Links.told listening) c.in_err-listen_all.field-0.0 c.in_err-listen_all.ensures.told c.in_err-listen_all.ensures.sends)
+    (g.N.Links.told links) (g.N.Links.told listening) c.in_err-listen_all.field-0.0
+    (subst (λ peers. ListensAll peers c.args.course.me.now (g.N.Links.faults links) (g.N.Links.faults listening) (g.N.Links.told links)
+    (g.N.Links.told listening) (Err c.in_err-listen_all.field-0.0)) c.slice.ensures c.in_err-listen_all.ensures.told) c.in_err-listen_all.ensures.sends)
 
 pub make_turns-requires-clause-up : goal.make_turns-requires-clause-up
 make_turns-requires-clause-up g c =
@@ -68,8 +71,10 @@ returns-in_err-make_turns g c =
     (around g.O.Sink g.N.Links on.out on.links) (g.C.Clock.told on.clock) in
     let p = err_from_is_err_and c.from_residual-in_err-make_turns.result c.from_residual-in_err-make_turns.ensures.1 in
     rw (p.1, p.2) (not_all_made stack plan me turns patience c.stopped_goes_on.ensures (whereabouts before clock) from
-    (reached before.output (length me) (g.N.Links.faults links) (g.N.Links.faults listening) (g.N.Links.send_faults links) (g.N.Links.send_faults listening)
-    (g.N.Links.told links) (g.N.Links.told listening) c.in_ok-listen_all.ensures.told c.in_ok-listen_all.ensures.sends) at
+    (reached before.output plan.peers me (g.N.Links.faults links) (g.N.Links.faults listening) (g.N.Links.send_faults links) (g.N.Links.send_faults listening)
+    (g.N.Links.told links) (g.N.Links.told listening)
+    (subst (λ peers. ListensAll peers me (g.N.Links.faults links) (g.N.Links.faults listening) (g.N.Links.told links)
+    (g.N.Links.told listening) (Ok tt)) c.slice.ensures c.in_ok-listen_all.ensures.told) c.in_ok-listen_all.ensures.sends) at
     c.in_err-make_turns.field-0.0
     (made_first stack plan me turns patience plans group desk
     (rests_first stack plan me turns patience plans group desk c.requires.typed c.number_fits.ensures c.number_fits-2.ensures c.requires.few_peers
@@ -99,8 +104,10 @@ returns g c =
     subst (Serves (record { stack = stack; plan = plan; words = layered_words turns me patience }) (whereabouts before clock)
     (whereabouts (surrounding last at.around.faults at.around.sends at.around.told) at.clock)) (sym c.cut.ensures)
     (all_served stack plan me turns patience c.stopped_goes_on.ensures (whereabouts before clock) from
-    (reached before.output (length me) (g.N.Links.faults links) (g.N.Links.faults listening) (g.N.Links.send_faults links) (g.N.Links.send_faults listening)
-    (g.N.Links.told links) (g.N.Links.told listening) c.in_ok-listen_all.ensures.told c.in_ok-listen_all.ensures.sends) at
+    (reached before.output plan.peers me (g.N.Links.faults links) (g.N.Links.faults listening) (g.N.Links.send_faults links) (g.N.Links.send_faults listening)
+    (g.N.Links.told links) (g.N.Links.told listening)
+    (subst (λ peers. ListensAll peers me (g.N.Links.faults links) (g.N.Links.faults listening) (g.N.Links.told links)
+    (g.N.Links.told listening) (Ok tt)) c.slice.ensures c.in_ok-listen_all.ensures.told) c.in_ok-listen_all.ensures.sends) at
     (made_first stack plan me turns patience plans group desk
     (rests_first stack plan me turns patience plans group desk c.requires.typed c.number_fits.ensures c.number_fits-2.ensures c.requires.few_peers
     c.requires.stack c.requires.group_plans c.requires.group (rw (c.deref.ensures, c.stack.ensures) at c.in-Ok.ensures.places)) c.in-Ok.ensures.none c.requires.plans from clock at (Ok tt)
