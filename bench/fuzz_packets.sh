@@ -16,11 +16,11 @@ echo "bench: $below" >>"$room/crates.txt"
 
 use event_graph::Stack;
 use file_judge::judge;
-use msg_core::{Dest, Fields, Header, Memory, Message, Packet, View};
-use packet_full::{form_at, scan_full, write_full};
+use msg_core::{Dest, Fields, Header, Headers, Memory, View};
+use packet_full::{Scan, form_at, put_full_of, room_of, scan_full};
 use packet_mean::Here;
-use packet_plans::{Plan, Plans};
-use packet_short::{compress, fits, fits_scan, read_packet};
+use packet_short::{fits, fits_scan, put_short_of, scan_packet};
+use stack_shapes::{Plan, Plans, StackShapes};
 use std::alloc::Global;
 use std::io;
 
@@ -28,9 +28,9 @@ const TEXT: &[u8] = b"stack { bottom; mnak; pt2pt; pt2ptw; mflow; frag; collect;
 
 const HERE: Here = Here { group: 1, stamp: 2, view: View { ltime: 3, mask: 7 }, rank: 1 };
 
-/// A packet by rank 0 that fits a plan, with 7 for each variable field.
-fn packet_of(alloc: Global, stack: &Stack, plan: &Plan, dest: Dest, body: &[u8]) -> Result<Packet, Memory> {
-    let mut message = Message::of(alloc, body)?;
+/// The headers of a packet that fits a plan, with 7 for each variable field.
+fn headers_of(stack: &Stack, plan: &Plan) -> Headers {
+    let mut headers = Headers::none();
     let mut end = plan.fields.len();
     for place in (0..plan.tags.len()).rev() {
         let tag = plan.tags[place];
@@ -40,9 +40,33 @@ fn packet_of(alloc: Global, stack: &Stack, plan: &Plan, dest: Dest, body: &[u8])
             fields.push(plan.fields[end - count + k].unwrap_or(7));
         }
         end -= count;
-        message.push_header(Header { layer: place as u8, tag, fields })?;
+        headers.push_front(Header { layer: place as u8, tag, fields });
     }
-    Ok(Packet { group: 1, stamp: 2, view: HERE.view, sender: 0, dest, message })
+    headers
+}
+
+/// The same member at another rank.
+fn ranked(rank: u8) -> Here {
+    Here { group: HERE.group, stamp: HERE.stamp, view: HERE.view, rank }
+}
+
+/// What a scan tells of, in full.
+fn full_of(alloc: Global, scan: &Scan, bytes: &[u8]) -> Result<Vec<u8>, Memory> {
+    let body = &bytes[scan.body as usize..];
+    let mut full = Vec::with_capacity(alloc, room_of(&scan.headers, body))?;
+    put_full_of(&ranked(scan.sender), scan.dest, &scan.headers, body, &mut full);
+    Ok(full)
+}
+
+/// The same short under a plan; None where it doesn't fit.
+fn short_of(alloc: Global, plans: &Plans, number: u8, scan: &Scan, bytes: &[u8]) -> Result<Option<Vec<u8>>, Memory> {
+    let body = &bytes[scan.body as usize..];
+    let Some(plan) = plans.get(number) else { return Ok(None) };
+    let mut short = Vec::with_capacity(alloc, room_of(&scan.headers, body) + 1)?;
+    match put_short_of(plan, number, &ranked(scan.sender), scan.dest, &scan.headers, body, &mut short) {
+        Ok(()) => Ok(Some(short)),
+        Err(_) => Ok(None),
+    }
 }
 RATTLE
   cat <<'RATTLE'
@@ -57,22 +81,24 @@ fn next(seed: &mut u64) -> usize {
 
 /// Whether a datagram that is taken is written and read again as the same packet, in both forms.
 fn is_kept(alloc: Global, stack: &Stack, plans: &Plans, bytes: &[u8]) -> Result<Option<bool>, Memory> {
-    let Ok(packet) = read_packet(alloc, stack, plans, &HERE, bytes) else { return Ok(None) };
-    let full = write_full(alloc, &packet)?;
-    let Ok(scan) = scan_full(stack, &HERE, full.as_slice()) else { return Ok(Some(false)) };
-    let number = fits(plans, &packet);
-    if number != fits_scan(plans, &scan) { return Ok(Some(false)); }
+    let mut scan = Scan::none();
+    let Ok(()) = scan_packet(stack, plans, &HERE, bytes, &mut scan) else { return Ok(None) };
+    let full = full_of(alloc, &scan, bytes)?;
+    let mut again = Scan::none();
+    let Ok(()) = scan_full(stack, &HERE, full.as_slice(), &mut again) else { return Ok(Some(false)) };
+    let number = fits(plans, scan.dest, &scan.headers);
+    if number != fits_scan(plans, &again) { return Ok(Some(false)); }
     let Some(number) = number else { return Ok(Some(bytes == full.as_slice())) };
-    let Ok(short) = compress(alloc, plans, number, &packet) else { return Ok(Some(false)) };
-    let Ok(again) = read_packet(alloc, stack, plans, &HERE, short.as_slice()) else { return Ok(Some(false)) };
-    let twice = write_full(alloc, &again)?;
+    let Some(short) = short_of(alloc, plans, number, &scan, bytes)? else { return Ok(Some(false)) };
+    let Ok(()) = scan_packet(stack, plans, &HERE, short.as_slice(), &mut again) else { return Ok(Some(false)) };
+    let twice = full_of(alloc, &again, short.as_slice())?;
     Ok(Some(twice.as_slice() == full.as_slice()))
 }
 
 fn fuzz(rt: &HostRuntime, alloc: Global, stack: &Stack, plans: &Plans) -> io::Result<()> {
-    let Ok(packet) = packet_of(alloc, stack, &plans.slice()[0], Dest::All, b"hi") else { return Ok(()) };
-    let Ok(full) = write_full(alloc, &packet) else { return Ok(()) };
-    let Ok(short) = compress(alloc, plans, 0, &packet) else { return Ok(()) };
+    let scan = Scan { sender: 0, dest: Dest::All, headers: headers_of(stack, &plans.slice()[0]), body: 0 };
+    let Ok(full) = full_of(alloc, &scan, b"hi") else { return Ok(()) };
+    let Ok(Some(short)) = short_of(alloc, plans, 0, &scan, b"hi") else { return Ok(()) };
     let mut seed = 1_u64;
     let (mut taken, mut refused, mut wrong) = (0_u64, 0_u64, 0_u64);
     let Ok(mut bytes) = Vec::with_capacity(alloc, 9000) else { return Ok(()) };
@@ -109,8 +135,8 @@ RATTLE
 fn main(rt: HostRuntime) -> io::Result<()> {
     let alloc = rt.alloc();
     let Ok(stack) = judge(alloc, TEXT) else { return println!(rt; "no stack") };
-    let Ok(plans) = Plans::of(alloc, &stack) else { return println!(rt; "no memory") };
-    fuzz(&rt, alloc, &stack, &plans)
+    let Ok(shapes) = StackShapes::of(alloc, &stack) else { return println!(rt; "no memory") };
+    fuzz(&rt, alloc, &stack, &shapes.plans)
 }
 RATTLE
 } | sed "s/TURNS_HERE/${1:-1000}/" >"$room/crates/bench/src/main.rt"

@@ -18,7 +18,7 @@ import reading
 import running
 
 TOP = os.environ.get("JUQHANEP", os.path.dirname(os.path.dirname(os.path.abspath(__file__))))
-USED = ("file_judge", "packet_short", "packet_full", "packet_plans", "packet_mean", "event_graph", "msg_core")
+USED = ("file_judge", "packet_short", "packet_full", "stack_shapes", "packet_mean", "event_graph", "msg_core")
 
 PROGRAM = r"""
 #![tactic(auto)]
@@ -28,8 +28,8 @@ use file_judge::judge;
 use msg_core::{Dest, Stray, View};
 use packet_full::Scan;
 use packet_mean::Here;
-use packet_plans::Plans;
 use packet_short::{fits_scan, scan_packet};
+use stack_shapes::{Plans, StackShapes};
 use std::fs;
 use std::io;
 
@@ -113,14 +113,15 @@ fn section(rt: &HostRuntime, input: &mut Input<'_>) -> io::Result<()> {
     let Ok(stack) = judge(rt.alloc(), text) else {
         return println!(rt; "the stack is refused");
     };
-    let Ok(plans) = Plans::of(rt.alloc(), &stack) else {
+    let Ok(StackShapes { plans, entries: _ }) = StackShapes::of(rt.alloc(), &stack) else {
         return println!(rt; "no memory");
     };
+    let mut scan = Scan::none();
     for _ in 0..count {
         let size = input.number() as usize;
         let datagram = input.bytes(size);
-        match scan_packet(&stack, &plans, &here, datagram) {
-            Ok(scan) => say(rt, &plans, &scan)?,
+        match scan_packet(&stack, &plans, &here, datagram, &mut scan) {
+            Ok(()) => say(rt, &plans, &scan)?,
             Err(stray) => {
                 let why = cause(stray);
                 println!(rt; "{why}")?;

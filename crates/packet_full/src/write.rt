@@ -1,6 +1,6 @@
 //! Packets to bytes.
 
-ghost use Rattle.std.specs.Prelude.{◌≡◌, ◌+◌, ◌*◌, ◌^◌, ◌≤◌, ◌∷◌, ◌++◌, [], IfNone, IfOk, IfSome, length, vec_len, vec_capacity};
+ghost use Rattle.std.specs.Prelude.{◌≡◌, ◌+◌, ◌*◌, ◌≤◌, ◌++◌, [], length, vec_len, vec_capacity};
 ghost use Rattle.std.specs.List.{flat_map};
 ghost use Rattle.packet_mean.specs.Spelling as spelling;
 ghost use Rattle.msg_core.specs.declared.packet.Dest.{Dest};
@@ -9,9 +9,8 @@ ghost use Rattle.packet_full.specs.Room.{room_needed};
 ghost use Rattle.packet_full.specs.Sent.{sent_packet};
 
 use crate::front::{EVERYONE, FULL_FORM};
-use msg_core::{Dest, Header, Headers, Memory, Message, Packet};
+use msg_core::{Dest, Header, Headers};
 use packet_mean::Here;
-use std::alloc::Global;
 
 /// The bytes in front of a packet's headers.
 const PREAMBLE_BYTES: usize = 19;
@@ -43,8 +42,8 @@ pub fn put_number(number: u32, into: &mut Vec<u8>)
     into.push_reserved(fourth);
 }
 
-/// Puts the 19 bytes in front of what a member sends.
-fn put_front(form: u8, here: &Here, dest: Dest, into: &mut Vec<u8>)
+/// Puts what stands in front of a form of what a member sends to a destination: 19 bytes.
+pub fn put_preamble(form: u8, here: &Here, dest: Dest, into: &mut Vec<u8>)
     requires { vec_len into.old + 19 ≤ vec_capacity into.old }
     ensures items { into.new.items ≡ into.old.items ++ spelling.preamble_bytes form (sent_packet here.now dest [] []) }
     ensures len { vec_len into.new ≡ vec_len into.old + 19 }
@@ -57,22 +56,6 @@ fn put_front(form: u8, here: &Here, dest: Dest, into: &mut Vec<u8>)
     put_number(here.view.mask, into);
     into.push_reserved(here.rank);
     into.push_reserved(dest_byte(dest));
-}
-
-/// Puts what stands in front of a packet's spelling of a form: 19 bytes.
-pub fn put_preamble(form: u8, packet: &Packet, into: &mut Vec<u8>)
-    requires { vec_len into.old + 19 ≤ vec_capacity into.old }
-    ensures items { into.new.items ≡ into.old.items ++ spelling.preamble_bytes form packet.now }
-    ensures len { vec_len into.new ≡ vec_len into.old + 19 }
-    ensures capacity { vec_capacity into.new ≡ vec_capacity into.old }
-{
-    let here = Here {
-        group: packet.group,
-        stamp: packet.stamp,
-        view: packet.view,
-        rank: packet.sender,
-    };
-    put_front(form, &here, packet.dest, into);
 }
 
 /// Puts a header: its tag, and its numbers.
@@ -88,20 +71,8 @@ fn put_header(header: &Header, into: &mut Vec<u8>)
     }
 }
 
-/// Puts the headers of a message, the lowest layer's first.
-fn put_headers(message: &Message, into: &mut Vec<u8>)
-    requires { vec_len into.old + 17 * length message.now.headers ≤ vec_capacity into.old }
-    ensures items { into.new.items ≡ into.old.items ++ flat_map spelling.header_bytes message.now.headers }
-    ensures len { vec_len into.new ≤ vec_len into.old + 17 * length message.now.headers }
-    ensures capacity { vec_capacity into.new ≡ vec_capacity into.old }
-{
-    for k in 0..message.header_count() {
-        put_header(message.header_at(k), into);
-    }
-}
-
-/// Puts headers in place, the lowest layer's first.
-fn put_headers_of(headers: &Headers, into: &mut Vec<u8>)
+/// Puts headers, the lowest layer's first.
+fn put_headers(headers: &Headers, into: &mut Vec<u8>)
     requires { vec_len into.old + 17 * length headers.now ≤ vec_capacity into.old }
     ensures items { into.new.items ≡ into.old.items ++ flat_map spelling.header_bytes headers.now }
     ensures len { vec_len into.new ≤ vec_len into.old + 17 * length headers.now }
@@ -124,17 +95,6 @@ pub fn put_body(body: &[u8], into: &mut Vec<u8>)
     }
 }
 
-/// Puts a packet in full behind what a vector holds, without memory: there is to be room for 17 bytes of each header, and for the rest.
-pub fn write_full_into(packet: &Packet, into: &mut Vec<u8>)
-    requires { vec_len into.old + room_needed packet.now ≤ vec_capacity into.old }
-    ensures items { into.new.items ≡ into.old.items ++ spelling.full_bytes packet.now }
-    ensures capacity { vec_capacity into.old ≤ vec_capacity into.new }
-{
-    put_preamble(FULL_FORM, packet, into);
-    put_headers(&packet.message, into);
-    put_body(packet.message.body(), into);
-}
-
 /// Puts in full what a member sends to a destination, with these headers and this body, behind what a vector holds. It takes no memory: there
 /// is to be room for 17 bytes of each header, and for the rest.
 pub fn put_full_of(here: &Here, dest: Dest, headers: &Headers, body: &[u8], into: &mut Vec<u8>)
@@ -142,8 +102,8 @@ pub fn put_full_of(here: &Here, dest: Dest, headers: &Headers, body: &[u8], into
     ensures items { into.new.items ≡ into.old.items ++ spelling.full_bytes (sent_packet here.now dest headers.now body.now) }
     ensures capacity { vec_capacity into.old ≤ vec_capacity into.new }
 {
-    put_front(FULL_FORM, here, dest, into);
-    put_headers_of(headers, into);
+    put_preamble(FULL_FORM, here, dest, into);
+    put_headers(headers, into);
     put_body(body, into);
 }
 
@@ -152,24 +112,4 @@ pub fn room_of(headers: &Headers, body: &[u8]) -> usize
     ensures { (here : Here) → (dest : Dest) → result ≡ room_needed (sent_packet here dest headers.now body.now) }
 {
     headers.len() as usize * HEADER_BYTES + PREAMBLE_BYTES + body.len()
-}
-
-/// How much room a packet is given, where a number of 64 bits tells it.
-pub fn room_for(packet: &Packet) -> Option<usize>
-    ensures some { IfSome result (λ room. room ≡ room_needed packet.now) }
-    ensures none { IfNone result (2 ^ 64 ≤ room_needed packet.now) }
-{
-    let headers = packet.message.header_count().checked_mul(HEADER_BYTES)?;
-    let front = headers.checked_add(PREAMBLE_BYTES)?;
-    front.checked_add(packet.message.body().len())
-}
-
-/// A packet in full.
-pub fn write_full(alloc: Global, packet: &Packet) -> Result<Vec<u8>, Memory>
-    ensures { IfOk result (λ bytes. bytes.items ≡ spelling.full_bytes packet.now) }
-{
-    let room = room_for(packet).ok_or(Memory)?;
-    let mut bytes = Vec::with_capacity(alloc, room)?;
-    write_full_into(packet, &mut bytes);
-    Ok(bytes)
 }

@@ -3,7 +3,6 @@ use Rattle.std.proofs.Common.{◌≡◌, ◌≢◌, ℕ, zero, suc, ◌+◌, ◌
 use Rattle.std.specs.Prelude.{◌==◌, ◌&&◌, bytes_eq, flat_map, if◌then◌else◌}
 use Rattle.std.proofs.Math.Seq.{drop-cons}
 use Rattle.std.proofs.lemmas.Bool.{eqb-true, eq-eqb}
-use Rattle.std.proofs.lemmas.List.{get_or_read}
 use Rattle.msg_core.specs.declared.message.Header.{Header}
 use Rattle.packet_mean.specs.Plan.{agree}
 use Rattle.packet_short.specs.Fits.{alike, behind}
@@ -110,11 +109,6 @@ pub empty_list : {X : Type 0} (xs : List X) → length xs ≡ 0 → xs ≡ []
 empty_list [] none = refl
 empty_list (x ∷ xs) none = absurd (omega arith)
 
--- the header of a number, whatever stands for one that isn't there
-pub the_same_header : (hs : List Header) (k : ℕ) (h d : Header) → k < length hs → h ≡ get_or hs k h → h ≡ get_or hs k d
-the_same_header hs k h d below is = get_or_read hs k h below is d
-
 -- all that is planned is left behind a header without fields
-pub all_behind : (planned : List (Option ℕ)) (hs : List Header) (k : ℕ) (h d : Header) → k < length hs → h ≡ get_or hs k h → length h.fields ≡ 0 →
-    Some planned ≡ behind planned (get_or hs k d).fields
-all_behind planned hs k h d below is none = rw (← the_same_header hs k h d below is, empty_list h.fields none) refl
+pub all_behind : (planned : List (Option ℕ)) (fields : List ℕ) → length fields ≡ 0 → Some planned ≡ behind planned fields
+all_behind planned fields none = rw (empty_list fields none) refl

@@ -13,9 +13,9 @@ use Rattle.layer_ast.specs.declared.tokens.Kind.{Kind}
 use Rattle.stack_mean.specs.Plan.{Plan}
 use Rattle.packet_mean.specs.Plan.{agree}
 use Rattle.packet_laws.proofs.Planned.{both}
-use Rattle.packet_plans.specs.declared.types.Plan as code
-use Rattle.packet_plans.specs.Lists.{plan_tree}
-use Rattle.packet_plans.specs.Prints.{IsNext, plan_print, print_at, print_of}
+use Rattle.stack_shapes.specs.declared.types.Plan as code
+use Rattle.stack_shapes.specs.Lists.{plan_tree}
+use Rattle.stack_shapes.specs.Prints.{IsNext, plan_print, print_at, print_of}
 use Rattle.packet_short.specs.Fits.{fits_headers}
 
 -- how many plans are still to be looked at

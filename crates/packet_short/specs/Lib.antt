@@ -1,5 +1,4 @@
 pub mod Again
-pub mod Carried
 pub mod Contents
 pub mod Dealing
 pub mod Fits

@@ -1,31 +1,25 @@
 -- Packets in their short forms.
 use Rattle.std.specs.Prelude.{◌≡◌, ℕ, suc, if◌then◌else◌, List, ◌++◌, flat_map, slice_get, Option, Some, None, option_and_then, Result, Ok, Err}
-use Rattle.std.specs.declared.alloc.Global.{Global}
-use Rattle.std.specs.declared.vec.Vec.{Vec}
 use Rattle.msg_core.specs.declared.packet.Packet.{Packet}
 use Rattle.packet_mean.specs.Plan.{fits, variable}
 use Rattle.packet_mean.specs.Spelling.{number_bytes, short_bytes}
 use Rattle.stack_mean.specs.Plan.{Plan}
 use Rattle.packet_full.specs.Room.{room_needed}
 use Rattle.packet_short.specs.declared.error.NotFitting as refused
-use Rattle.packet_short.specs.declared.error.ShortError.{ShortError}
-use Rattle.packet_short.specs.declared.error.ShortError.TheVariants.{NotFitting, Memory}
 
--- A packet's short form under the plan of a number; nothing where there is no such plan, or the packet doesn't fit it.
+-- A packet's short form under a plan and its number; nothing where the packet doesn't fit it.
+abbrev pub short_under : Plan → (k : ℕ) → Packet → Option (List ℕ)
+short_under plan k packet = if fits plan packet then Some (short_bytes k plan packet) else None
+
+-- Under the plan of a number; nothing where there is no such plan, too.
 abbrev pub shortened : List Plan → (k : ℕ) → Packet → Option (List ℕ)
-shortened plans k packet = option_and_then (λ plan. if fits plan packet then Some (short_bytes k plan packet) else None) (slice_get plans k)
+shortened plans k packet = option_and_then (λ plan. short_under plan k packet) (slice_get plans k)
 
 -- The bytes are put behind others; where there are none, nothing changes.
 abbrev pub Puts : Option (List ℕ) → (old new : List ℕ) → Result (Unit {0}) refused.NotFitting → Type 0
 Puts (Some bytes) old new (Ok done) = new ≡ old ++ bytes
 Puts None old new (Err refusal) = new ≡ old
 Puts _ old new _ = ⊥
-
--- The short form, or that there is none, or want of memory.
-abbrev pub Shortens : Option (List ℕ) → Result (Vec ℕ Global) ShortError → Type 0
-Shortens short (Ok bytes) = short ≡ Some bytes.items
-Shortens short (Err NotFitting) = short ≡ None
-Shortens short (Err Memory) = Unit {0}
 
 -- How much room a short form is given: that of the full one, and a byte for its plan.
 abbrev pub short_room : Packet → ℕ

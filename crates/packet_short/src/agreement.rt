@@ -1,14 +1,11 @@
 //! Whether headers are as a plan says.
 
-ghost use Rattle.std.specs.Prelude.{◌≡◌, ◌<◌, ◌∷◌, [], length, option_map, slice_index_or};
-ghost use Rattle.msg_core.specs.declared.message.Header.{Header};
+ghost use Rattle.std.specs.Prelude.{◌≡◌, ◌∷◌, [], option_map};
 ghost use Rattle.packet_mean.specs.Plan.{agree};
-ghost use Rattle.packet_short.specs.Carried.{headers_in};
 ghost use Rattle.packet_short.specs.Fits.{alike, behind};
 
-use crate::carried::Carried;
-use msg_core::Fields;
-use packet_plans::Plan;
+use msg_core::{Fields, Header, Headers};
+use stack_shapes::Plan;
 
 /// Whether a number is as planned.
 fn agrees(planned: Option<u32>, number: u32) -> bool
@@ -37,16 +34,10 @@ fn behind<'a>(planned: &'a [Option<u32>], fields: &Fields) -> Option<&'a [Option
     Some(left)
 }
 
-/// The planned fields behind those of the header of a number, if its fields agree with theirs. Most headers have none, and aren't copied.
-fn behind_at<'a>(
-    planned: &'a [Option<u32>],
-    headers: &Carried<'_>,
-    number: usize,
-) -> Option<&'a [Option<u32>]>
-    requires { number < length (headers_in headers.now) }
-    ensures { (d : Header) → option_map (λ rest. rest.now) result ≡ behind planned.now (slice_index_or (headers_in headers.now) number d).fields }
+/// The planned fields behind those of a header, if its fields agree with theirs. Most headers have none.
+fn behind_header<'a>(planned: &'a [Option<u32>], header: &Header) -> Option<&'a [Option<u32>]>
+    ensures { option_map (λ rest. rest.now) result ≡ behind planned.now header.now.fields }
 {
-    let header = headers.at(number);
     if header.fields.len() == 0 {
         return Some(planned);
     }
@@ -54,20 +45,21 @@ fn behind_at<'a>(
 }
 
 /// Whether headers have a plan's tags, and fields as planned.
-pub(crate) fn is_alike(plan: &Plan, headers: &Carried<'_>) -> bool
-    ensures { result ≡ alike plan.now.tags.items plan.now.fields.items (headers_in headers.now) }
+pub(crate) fn is_alike(plan: &Plan, headers: &Headers) -> bool
+    ensures { result ≡ alike plan.now.tags.items plan.now.fields.items headers.now }
 {
     let tags = plan.tags.as_slice();
     let mut fields = plan.fields.as_slice();
-    let count = headers.len();
-    if tags.len() != count {
+    let theirs = headers.slice();
+    if tags.len() != theirs.len() {
         return false;
     }
-    for place in 0..count {
-        if tags[place] != headers.at(place).tag {
+    for place in 0..theirs.len() {
+        let header = &theirs[place];
+        if tags[place] != header.tag {
             return false;
         }
-        let Some(rest) = behind_at(fields, headers, place) else {
+        let Some(rest) = behind_header(fields, header) else {
             return false
         };
         fields = rest;

@@ -4,8 +4,8 @@ ghost use Rattle.std.specs.Prelude.{◌≡◌, option_map};
 ghost use Rattle.event_graph.specs.Answer.{stack_tree};
 ghost use Rattle.packet_full.specs.Steps as steps;
 ghost use Rattle.packet_full.specs.Taking.{Takes, left, preamble_tree};
-ghost use Rattle.packet_plans.specs.Lists.{plan_tree};
-ghost use Rattle.packet_plans.specs.Trees.{plans_tree};
+ghost use Rattle.stack_shapes.specs.Lists.{plan_tree};
+ghost use Rattle.stack_shapes.specs.Trees.{plans_tree};
 ghost use Rattle.packet_short.specs.Contents.{Contains, plan_named};
 
 use crate::fit::kind_of;
@@ -13,7 +13,7 @@ use crate::planned::Planned;
 use event_graph::Stack;
 use msg_core::{Dest, Headers, Stray};
 use packet_full::{Cursor, FULL_FORM, Preamble};
-use packet_plans::{Plan, Plans};
+use stack_shapes::{Plan, Plans};
 
 /// The plan that a short datagram names, if it is one of its destination's kind.
 fn named<'a>(plans: &'a Plans, dest: Dest, cursor: &mut Cursor<'_>) -> Option<&'a Plan>

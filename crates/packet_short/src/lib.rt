@@ -2,19 +2,16 @@
 #![tactic(auto)]
 
 mod agreement;
-mod carried;
 mod contents;
 mod error;
 mod fit;
 mod laws;
 mod planned;
-mod read;
 mod scan;
 mod write;
 
-pub use error::{NotFitting, ShortError};
+pub use error::NotFitting;
 pub use fit::{fits, fits_scan};
 pub use laws::written_short_is_read;
-pub use read::read_packet;
 pub use scan::scan_packet;
-pub use write::{compress, compress_into};
+pub use write::put_short_of;

@@ -10,7 +10,7 @@ ghost use Rattle.msg_core.specs.Headers.{most_fields};
 use event_graph::Stack;
 use msg_core::{Fields, Header, Headers};
 use packet_full::{Cursor, form_at};
-use packet_plans::Plan;
+use stack_shapes::Plan;
 
 /// The tags and the fields of a plan that are still to be read.
 #[derive(Drop)]

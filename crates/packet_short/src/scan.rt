@@ -4,14 +4,14 @@ ghost use Rattle.std.specs.Prelude.{◌≤◌, IfOk, length};
 ghost use Rattle.event_graph.specs.Answer.{stack_tree};
 ghost use Rattle.packet_full.specs.Scanned.{Scans};
 ghost use Rattle.packet_mean.specs.Received.{received};
-ghost use Rattle.packet_plans.specs.Trees.{plans_tree};
+ghost use Rattle.stack_shapes.specs.Trees.{plans_tree};
 
 use crate::contents::contents;
 use event_graph::Stack;
 use msg_core::Stray;
 use packet_full::{Opened, Scan, close, open};
 use packet_mean::Here;
-use packet_plans::Plans;
+use stack_shapes::Plans;
 
 /// Reads what a datagram says to a member of a stack with these plans, in full or short, into `scan`, without memory; or tells the first cause
 /// for which it is refused, and `scan` is of no use then. The headers are whole: the constants of a plan stand in them.

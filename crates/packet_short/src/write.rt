@@ -1,19 +1,18 @@
 //! Packets to their short forms.
 
-ghost use Rattle.std.specs.Prelude.{◌≡◌, ◌+◌, ◌*◌, ◌≤◌, ◌∷◌, ◌++◌, [], IfOk, length, flat_map, vec_len, vec_capacity};
+ghost use Rattle.std.specs.Prelude.{◌≡◌, ◌+◌, ◌*◌, ◌≤◌, ◌∷◌, ◌++◌, [], length, flat_map, vec_len, vec_capacity};
+ghost use Rattle.packet_full.specs.Sent.{sent_packet};
 ghost use Rattle.packet_mean.specs.Plan.{variable};
 ghost use Rattle.packet_mean.specs.Spelling as spelling;
-ghost use Rattle.packet_plans.specs.Lists.{plan_tree};
-ghost use Rattle.packet_plans.specs.Trees.{plans_tree};
-ghost use Rattle.packet_short.specs.Shortened.{Puts, PutsVariable, Shortens, short_room, shortened};
+ghost use Rattle.stack_shapes.specs.Lists.{plan_tree};
+ghost use Rattle.packet_short.specs.Shortened.{Puts, PutsVariable, short_room, short_under};
 
-use crate::carried::Carried;
-use crate::error::{NotFitting, ShortError};
+use crate::error::NotFitting;
 use crate::fit::{is_fitting, kind_of};
-use msg_core::{Fields, Memory, Message, Packet};
-use packet_full::{SHORT_FORM, put_body, put_number, put_preamble, room_for};
-use packet_plans::{Plan, Plans};
-use std::alloc::Global;
+use msg_core::{Dest, Fields, Headers};
+use packet_full::{SHORT_FORM, put_body, put_number, put_preamble};
+use packet_mean::Here;
+use stack_shapes::Plan;
 
 /// Puts a number, unless it is planned as a constant.
 fn put_variable(planned: Option<u32>, number: u32, into: &mut Vec<u8>)
@@ -50,74 +49,58 @@ fn put_fields<'a>(
     left
 }
 
-/// Puts the fields of a message's headers that a plan leaves variable.
-fn put_headers(plan: &Plan, message: &Message, into: &mut Vec<u8>)
-    requires { vec_len into.old + 16 * length message.now.headers ≤ vec_capacity into.old }
-    ensures items { into.new.items ≡ into.old.items ++ flat_map spelling.number_bytes (variable plan.now.fields.items (flat_map (λ h. h.fields) message.now.headers)) }
-    ensures len { vec_len into.new ≤ vec_len into.old + 16 * length message.now.headers }
+/// Puts the fields of headers that a plan leaves variable.
+fn put_headers(plan: &Plan, headers: &Headers, into: &mut Vec<u8>)
+    requires { vec_len into.old + 16 * length headers.now ≤ vec_capacity into.old }
+    ensures items { into.new.items ≡ into.old.items ++ flat_map spelling.number_bytes (variable plan.now.fields.items (flat_map (λ h. h.fields) headers.now)) }
+    ensures len { vec_len into.new ≤ vec_len into.old + 16 * length headers.now }
     ensures capacity { vec_capacity into.new ≡ vec_capacity into.old }
 {
     let mut left = plan.fields.as_slice();
-    for number in 0..message.header_count() {
-        left = put_fields(left, &message.header_at(number).fields, into);
+    for header in headers.slice() {
+        left = put_fields(left, &header.fields, into);
     }
 }
 
-/// Puts a packet that fits a plan in its short form.
-fn put_short(plan: &Plan, number: u8, packet: &Packet, into: &mut Vec<u8>)
-    requires { vec_len into.old + short_room packet.now ≤ vec_capacity into.old }
-    ensures items { into.new.items ≡ into.old.items ++ spelling.short_bytes number (plan_tree plan.now) packet.now }
+/// Puts in its short form what fits a plan.
+fn put_fitting(
+    plan: &Plan,
+    number: u8,
+    here: &Here,
+    dest: Dest,
+    headers: &Headers,
+    body: &[u8],
+    into: &mut Vec<u8>,
+)
+    requires { vec_len into.old + short_room (sent_packet here.now dest headers.now body.now) ≤ vec_capacity into.old }
+    ensures items { into.new.items ≡ into.old.items ++ spelling.short_bytes number (plan_tree plan.now) (sent_packet here.now dest headers.now body.now) }
     ensures capacity { vec_capacity into.old ≤ vec_capacity into.new }
 {
-    put_preamble(SHORT_FORM, packet, into);
+    put_preamble(SHORT_FORM, here, dest, into);
     into.push_reserved(number);
-    put_headers(plan, &packet.message, into);
-    put_body(packet.message.body(), into);
+    put_headers(plan, headers, into);
+    put_body(body, into);
 }
 
-/// Puts a packet in its short form under the plan of a number behind what a vector holds, without memory: there is to be room for
-/// 17 bytes of each header, the body and 20 more. Err exactly where there is no such plan or the packet doesn't fit it; then nothing changes.
-pub fn compress_into(
-    plans: &Plans,
+/// Puts in its short form, under a plan and its number, what a member sends to a destination, with these headers and this body, behind what a vector
+/// holds. It takes no memory: there is to be room for 17 bytes of each header, the body and 20 more. Err exactly where it doesn't fit the plan; then
+/// nothing changes.
+pub fn put_short_of(
+    plan: &Plan,
     number: u8,
-    packet: &Packet,
+    here: &Here,
+    dest: Dest,
+    headers: &Headers,
+    body: &[u8],
     into: &mut Vec<u8>,
 ) -> Result<(), NotFitting>
-    requires { vec_len into.old + short_room packet.now ≤ vec_capacity into.old }
-    ensures items { Puts (shortened (plans_tree plans.now) number packet.now) into.old.items into.new.items result }
+    requires { vec_len into.old + short_room (sent_packet here.now dest headers.now body.now) ≤ vec_capacity into.old }
+    ensures items { Puts (short_under (plan_tree plan.now) number (sent_packet here.now dest headers.now body.now)) into.old.items into.new.items result }
     ensures capacity { vec_capacity into.old ≤ vec_capacity into.new }
 {
-    let Some(plan) = plans.get(number) else {
-        return Err(NotFitting)
-    };
-    let headers = Carried::Message(&packet.message);
-    if !is_fitting(plan, kind_of(packet.dest), &headers) {
+    if !is_fitting(plan, kind_of(dest), headers) {
         return Err(NotFitting);
     }
-    put_short(plan, number, packet, into);
+    put_fitting(plan, number, here, dest, headers, body, into);
     Ok(())
-}
-
-/// An empty vector with room for a packet's short form.
-fn with_room(alloc: Global, packet: &Packet) -> Result<Vec<u8>, Memory>
-    ensures items { IfOk result (λ bytes. bytes.items ≡ []) }
-    ensures room { IfOk result (λ bytes. short_room packet.now ≤ vec_capacity bytes) }
-{
-    let room = room_for(packet).ok_or(Memory)?;
-    let room = room.checked_add(1).ok_or(Memory)?;
-    Ok(Vec::with_capacity(alloc, room)?)
-}
-
-/// A packet in its short form under the plan of a number; `NotFitting` exactly where there is no such plan or the packet doesn't fit it.
-pub fn compress(
-    alloc: Global,
-    plans: &Plans,
-    number: u8,
-    packet: &Packet,
-) -> Result<Vec<u8>, ShortError>
-    ensures { Shortens (shortened (plans_tree plans.now) number packet.now) result }
-{
-    let mut bytes = with_room(alloc, packet)?;
-    compress_into(plans, number, packet, &mut bytes)?;
-    Ok(bytes)
 }

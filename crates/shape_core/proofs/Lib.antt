@@ -6,4 +6,4 @@ pub mod Runs
 pub mod Forks
 pub mod Turns
 pub mod Entries
-pub mod Shapes
+pub mod Made

@@ -54,13 +54,16 @@ Sketches r s (Err e) = StopsFor r s.forks e
 abbrev pub held_shape : mean.Shape → mean.Shape
 held_shape s = record s { length = held_at_most s.length }
 
--- The answer for an entry: the very shape that is drawn, its length held within 32 bits, or the very reason for which it has none, or want
--- of memory.
-abbrev pub IsAnswer : Result mean.Shape no_shape.NoShape → Result Shape NoShape → Type 0
-IsAnswer drawn (Ok s) = drawn_from (λ x. Ok (held_shape x)) drawn ≡ Ok (shape_tree s)
-IsAnswer drawn (Err e) = FailsFor drawn e
+-- What is drawn, its length held within 32 bits.
+abbrev pub held : Result mean.Shape no_shape.NoShape → Result mean.Shape no_shape.NoShape
+held drawn = drawn_from (λ s. Ok (held_shape s)) drawn
 
--- Whether memory ran out.
-abbrev pub ran_out : Result Unit NoShape → Bool
-ran_out (Err Memory) = true
-ran_out _ = false
+-- The shape that a run comes to, or the reason for which it stops.
+abbrev pub drawn_of : Result Sketching Stop → Result mean.Shape no_shape.NoShape
+drawn_of (Ok s) = Ok (record { visits = s.visits; outs = s.outs; length = s.length })
+drawn_of (Err stop) = Err stop.reason
+
+-- Whether it met a condition with two predicted ways.
+abbrev pub forks_of : Result Sketching Stop → Bool
+forks_of (Ok s) = s.forks
+forks_of (Err stop) = stop.forks

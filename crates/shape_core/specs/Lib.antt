@@ -4,3 +4,4 @@ pub mod Visits
 pub mod Sketch
 pub mod Entries
 pub mod Answer
+pub mod Cases

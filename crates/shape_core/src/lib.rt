@@ -2,6 +2,7 @@
 //! them; or the first reason for which it has none.
 #![tactic(auto)]
 
+mod absent;
 mod constant;
 mod draw;
 mod error;
@@ -11,7 +12,7 @@ mod types;
 mod visit;
 mod walk;
 
-pub use draw::shape;
-pub use error::NoShape;
+pub use absent::Absent;
+pub use draw::shapes;
 pub use header::DrawnHeader;
-pub use types::{Known, Shape, ShapeOut, ShapeVisit, Source};
+pub use types::{CaseShapes, Known, Shape, ShapeOut, ShapeVisit, Source};

@@ -1,12 +1,13 @@
 //! Datagrams of stacks of several layers: taken, refused, and long ones.
 
+use crate::writing::{full, short};
 use event_graph::Stack;
 use file_judge::judge;
 use msg_core::{Stray, View};
-use packet_full::{Scan, scan_full, write_full};
+use packet_full::{Scan, scan_full};
 use packet_mean::Here;
-use packet_plans::Plans;
-use packet_short::{compress, read_packet, scan_packet};
+use packet_short::scan_packet;
+use stack_shapes::StackShapes;
 use std::alloc::{AllocError, Global};
 use std::process::Abort;
 use std::test::Fail;
@@ -17,6 +18,14 @@ const SECOND: Here = Here {
     stamp: 1,
     view: View { ltime: 0, mask: 3 },
     rank: 1,
+};
+
+/// The member of rank 0.
+const FIRST: Here = Here {
+    group: 1,
+    stamp: 1,
+    view: View { ltime: 0, mask: 3 },
+    rank: 0,
 };
 
 /// A layer of one number below one whose header closes the chain.
@@ -51,14 +60,18 @@ const ORDERED_SHORT: [u8; 33] = [
 fn a_cast_of_four_layers_is_read_in_both_forms(rt: HostRuntime) -> Result<(), Fail> {
     let alloc = rt.alloc();
     let stack = stack(&rt, alloc, b"stack { bottom; mnak; local; total; }");
-    let plans = Plans::of(alloc, &stack)?;
-    let short = read_packet(alloc, &stack, &plans, &SECOND, &ORDERED_SHORT)?;
-    assert_eq!(rt; write_full(alloc, &short)?.as_slice(), ORDERED.as_slice());
-    let full = read_packet(alloc, &stack, &plans, &SECOND, &ORDERED)?;
-    assert_eq!(rt;
-        compress(alloc, &plans, 0, &full)?.as_slice(),
-        ORDERED_SHORT.as_slice()
-    );
+    let plans = StackShapes::of(alloc, &stack)?.plans;
+    let Some(plan) = plans.get(0) else {
+        panic!(rt; "there is no plan")
+    };
+    for bytes in [ORDERED.as_slice(), ORDERED_SHORT.as_slice()] {
+        let mut scan = Scan::none();
+        assert!(rt; scan_packet(&stack, &plans, &SECOND, bytes, &mut scan).is_ok());
+        let again = full(alloc, &FIRST, scan.dest, &scan.headers, b"a")?;
+        assert_eq!(rt; again.as_slice(), ORDERED.as_slice());
+        let again = short(alloc, plan, &FIRST, scan.dest, &scan.headers, b"a")?;
+        assert_eq!(rt; again.as_slice(), ORDERED_SHORT.as_slice());
+    }
     Ok(())
 }
 
@@ -81,7 +94,7 @@ fn longer(alloc: Global, stack: &Stack, more: usize) -> Result<Option<Stray>, Al
 fn long_datagrams_are_judged(rt: HostRuntime) -> Result<(), Fail> {
     let alloc = rt.alloc();
     let stack = stack(&rt, alloc, CLOSING);
-    let plans = Plans::of(alloc, &stack)?;
+    let plans = StackShapes::of(alloc, &stack)?.plans;
     assert_eq!(rt; longer(alloc, &stack, 8190)?, None);
     assert_eq!(rt; longer(alloc, &stack, 8191)?, Some(Stray::Body));
     assert_eq!(rt; longer(alloc, &stack, 65_480)?, Some(Stray::Body));

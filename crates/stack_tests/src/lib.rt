@@ -7,3 +7,5 @@ mod datagrams;
 mod packets;
 #[cfg(test)]
 mod shapes;
+#[cfg(test)]
+mod writing;

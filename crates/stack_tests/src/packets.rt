@@ -1,12 +1,13 @@
 //! A layer whose header has a constant and a variable field: its packets and datagrams in both forms.
 
+use crate::writing::{full, short};
 use event_graph::Stack;
 use file_judge::judge;
-use msg_core::{Dest, Fields, Header, Memory, Message, Packet, Stray, View};
-use packet_full::{Scan, write_full};
+use msg_core::{Dest, Fields, Header, Headers, Stray, View};
+use packet_full::Scan;
 use packet_mean::Here;
-use packet_plans::Plans;
-use packet_short::{ShortError, compress, fits, fits_scan, read_packet, scan_packet};
+use packet_short::{fits, fits_scan, scan_packet};
+use stack_shapes::{Plans, StackShapes};
 use std::alloc::Global;
 use std::process::Abort;
 use std::test::Fail;
@@ -42,56 +43,61 @@ fn stack(rt: &impl Abort, alloc: Global) -> Stack {
     }
 }
 
-/// A cast of two bytes by rank 0 with a number in front of its rank.
-fn cast(alloc: Global, number: u32) -> Result<Packet, Memory> {
-    let mut message = Message::of(alloc, b"hi")?;
-    message.push_header(Header {
+/// The member of rank 0.
+const SENDER: Here = Here {
+    group: 1,
+    stamp: 2,
+    view: VIEW,
+    rank: 0,
+};
+
+/// The headers of a cast by rank 0 with a number in front of its rank.
+fn cast(number: u32) -> Headers {
+    let mut headers = Headers::none();
+    headers.push_front(Header {
         layer: 0,
         tag: 1,
         fields: Fields::of(&[number, 0]),
-    })?;
-    Ok(Packet {
-        group: 1,
-        stamp: 2,
-        view: VIEW,
-        sender: 0,
-        dest: Dest::All,
-        message,
-    })
+    });
+    headers
 }
 
 #[test]
-fn a_cast_is_written_and_read_in_both_forms(rt: HostRuntime) -> Result<(), Fail> {
+fn a_cast_is_written_in_both_forms(rt: HostRuntime) -> Result<(), Fail> {
     let alloc = rt.alloc();
     let stack = stack(&rt, alloc);
-    let plans = Plans::of(alloc, &stack)?;
-    let packet = cast(alloc, 5)?;
-    assert_eq!(rt; fits(&plans, &packet), Some(0));
-    assert_eq!(rt; fits(&plans, &cast(alloc, 6)?), None);
+    let plans = StackShapes::of(alloc, &stack)?.plans;
+    let Some(plan) = plans.get(0) else {
+        panic!(rt; "there is no plan")
+    };
+    assert_eq!(rt; fits(&plans, Dest::All, &cast(5)), Some(0));
+    assert_eq!(rt; fits(&plans, Dest::All, &cast(6)), None);
+    let headers = cast(5);
     assert_eq!(rt;
-        compress(alloc, &plans, 0, &packet)?.as_slice(),
+        full(alloc, &SENDER, Dest::All, &headers, b"hi")?.as_slice(),
+        FULL.as_slice()
+    );
+    assert_eq!(rt;
+        short(alloc, plan, &SENDER, Dest::All, &headers, b"hi")?.as_slice(),
         SHORT.as_slice()
     );
-    assert_eq!(rt; write_full(alloc, &packet)?.as_slice(), FULL.as_slice());
-    assert!(rt;
-        matches!(
-            compress(alloc, &plans, 200, &packet),
-            Err(ShortError::NotFitting)
-        )
-    );
-    let mut scan = Scan::none();
-    if scan_packet(&stack, &plans, &HERE, &SHORT, &mut scan).is_err() {
-        panic!(rt; "the short form is refused");
+    assert!(rt; short(alloc, plan, &SENDER, Dest::All, &cast(6), b"hi")?.is_empty());
+    Ok(())
+}
+
+#[test]
+fn both_forms_are_read(rt: HostRuntime) -> Result<(), Fail> {
+    let alloc = rt.alloc();
+    let stack = stack(&rt, alloc);
+    let plans = StackShapes::of(alloc, &stack)?.plans;
+    for (bytes, body) in [(SHORT.as_slice(), 24), (FULL.as_slice(), 28)] {
+        let mut scan = Scan::none();
+        assert!(rt; scan_packet(&stack, &plans, &HERE, bytes, &mut scan).is_ok());
+        assert_eq!(rt; fits_scan(&plans, &scan), Some(0));
+        assert_eq!(rt; scan.body, body);
+        let again = full(alloc, &SENDER, scan.dest, &scan.headers, b"hi")?;
+        assert_eq!(rt; again.as_slice(), FULL.as_slice());
     }
-    assert_eq!(rt; fits_scan(&plans, &scan), Some(0));
-    assert_eq!(rt; scan.body, 24);
-    let again = read_packet(alloc, &stack, &plans, &HERE, &SHORT)?;
-    assert_eq!(rt; write_full(alloc, &again)?.as_slice(), FULL.as_slice());
-    let full = read_packet(alloc, &stack, &plans, &HERE, &FULL)?;
-    assert_eq!(rt;
-        compress(alloc, &plans, 0, &full)?.as_slice(),
-        SHORT.as_slice()
-    );
     Ok(())
 }
 
@@ -116,7 +122,7 @@ fn changed(stack: &Stack, plans: &Plans, first: usize, second: usize, byte: u8) 
 fn each_prefix_is_judged(rt: HostRuntime) -> Result<(), Fail> {
     let alloc = rt.alloc();
     let stack = stack(&rt, alloc);
-    let plans = Plans::of(alloc, &stack)?;
+    let plans = StackShapes::of(alloc, &stack)?.plans;
     for length in 0..27 {
         let cause = match length {
             0..19 => Some(Stray::Short),
@@ -152,7 +158,7 @@ const CHANGES: [(usize, usize, u8, Option<Stray>); 7] = [
 fn each_plan_and_the_first_cause_are_judged(rt: HostRuntime) -> Result<(), Fail> {
     let alloc = rt.alloc();
     let stack = stack(&rt, alloc);
-    let plans = Plans::of(alloc, &stack)?;
+    let plans = StackShapes::of(alloc, &stack)?.plans;
     for number in 0..=255 {
         let is_plan = changed(&stack, &plans, 19, 19, number).is_none();
         assert_eq!(rt; is_plan, number == 0);

@@ -1,13 +1,10 @@
 //! Stacks of silent layers: their weight, their shapes and their plans.
 
-use entry_shapes::{EntryOf, EntryShapes};
 use event_graph::Stack;
 use file_judge::judge;
 use layer_ast::{Dir, Kind};
-use layer_eval::Predicted;
-use layer_mean::Case;
-use packet_plans::Plans;
-use shape_core::{Known, NoShape, Source, shape};
+use shape_core::{Absent, Known, Source, shapes};
+use stack_shapes::{EntryOf, StackShapes};
 use std::alloc::Global;
 use std::process::Abort;
 use std::test::Fail;
@@ -37,7 +34,10 @@ fn a_cast_passes_down(rt: HostRuntime) -> Result<(), Fail> {
         kind: Kind::Cast,
         tags: Vec::new(alloc),
     };
-    let shape = shape(alloc, &stack, &cast, Case::First)?;
+    let shapes = shapes(alloc, &stack, &cast)?;
+    let Ok(shape) = &shapes.first else {
+        panic!(rt; "the cast has no shape")
+    };
     assert_eq!(rt; shape.length, 1);
     assert_eq!(rt; shape.visits.len(), 2);
     assert_eq!(rt; shape.visits[0].place, 1);
@@ -64,18 +64,9 @@ fn a_strange_header_is_never_predicted(rt: HostRuntime) -> Result<(), Fail> {
         kind: Kind::Cast,
         tags: vec![in alloc; 0, 1]?,
     };
-    assert!(rt;
-        matches!(
-            shape(alloc, &stack, &packet, Case::First),
-            Err(NoShape::Rare(1))
-        )
-    );
-    assert!(rt;
-        matches!(
-            shape(alloc, &stack, &packet, Case::Second),
-            Err(NoShape::Same)
-        )
-    );
+    let shapes = shapes(alloc, &stack, &packet)?;
+    assert!(rt; matches!(shapes.first, Err(Absent::Rare(1))));
+    assert!(rt; matches!(shapes.second, Err(Absent::Same)));
     Ok(())
 }
 
@@ -83,8 +74,8 @@ fn a_strange_header_is_never_predicted(rt: HostRuntime) -> Result<(), Fail> {
 fn own_casts_and_sends_have_plans(rt: HostRuntime) -> Result<(), Fail> {
     let alloc = rt.alloc();
     let stack = two_silent(&rt, alloc);
-    let plans = Plans::of(alloc, &stack)?;
-    let list = plans.slice();
+    let shapes = StackShapes::of(alloc, &stack)?;
+    let list = shapes.plans.slice();
     assert_eq!(rt; list.len(), 2);
     assert_eq!(rt; list[0].kind, Kind::Cast);
     assert_eq!(rt; list[1].kind, Kind::Send);
@@ -97,11 +88,11 @@ fn own_casts_and_sends_have_plans(rt: HostRuntime) -> Result<(), Fail> {
 fn predicted_steps_with_an_entry_are_common(rt: HostRuntime) -> Result<(), Fail> {
     let alloc = rt.alloc();
     let stack = two_silent(&rt, alloc);
-    let plans = Plans::of(alloc, &stack)?;
-    let shapes = EntryShapes::of(alloc, &stack, &plans)?;
-    assert!(rt; shapes.is_common(EntryOf::Cast, Predicted::usual()));
-    assert!(rt; shapes.is_common(EntryOf::Send, Predicted::usual()));
-    assert!(rt; !shapes.is_common(EntryOf::Cast, Predicted::unusual()));
-    assert!(rt; !shapes.is_common(EntryOf::None, Predicted::usual()));
+    let entries = StackShapes::of(alloc, &stack)?.entries;
+    assert!(rt; entries.is_common(EntryOf::Cast, true, true));
+    assert!(rt; entries.is_common(EntryOf::Send, true, false));
+    assert!(rt; !entries.is_common(EntryOf::Cast, false, true));
+    assert!(rt; !entries.is_common(EntryOf::Plan(2), true, true));
+    assert!(rt; !entries.is_common(EntryOf::None, true, true));
     Ok(())
 }

@@ -1,7 +1,7 @@
 use Rattle.std.proofs.lemmas.Bool.{eq-eqb}
 use Rattle.event_graph.specs.Answer.{stack_tree}
 use Rattle.packet_full.specs.Taking.{left, preamble_tree}
-use Rattle.packet_plans.specs.Trees.{plans_tree}
+use Rattle.stack_shapes.specs.Trees.{plans_tree}
 use Rattle.packet_full.proofs.Taken.{full_contents, no_full_contents}
 use Rattle.packet_short.proofs.Short.{no_full, no_plan, not_dealt, dealt_contents}
 use Rattle.packet_short.proofs.contents.contents.Goals as goal

@@ -1,14 +1,13 @@
 use Rattle.std.proofs.Common.{map}
-use Rattle.packet_plans.specs.Trees.{plans_tree}
-use Rattle.packet_plans.specs.Prints.{print_of}
-use Rattle.packet_short.specs.Carried.{headers_in}
+use Rattle.stack_shapes.specs.Trees.{plans_tree}
+use Rattle.stack_shapes.specs.Prints.{print_of}
 use Rattle.packet_short.specs.Fits.{fits_headers}
 use Rattle.packet_short.proofs.Least.{Stands, still}
 use Rattle.packet_short.proofs.fit.least.Given as goal
 
 abbrev pub invariant-loop-next : goal.invariant-loop-next
 invariant-loop-next l =
-    Stands (plans_tree l.plans) (fits_headers l.kind (headers_in l.headers)) (print_of l.kind (map (λ h. h.tag) (headers_in l.headers))) l.next
+    Stands (plans_tree l.plans) (fits_headers l.kind l.headers) (print_of l.kind (map (λ h. h.tag) l.headers)) l.next
 
 abbrev pub decreases-loop-next : goal.decreases-loop-next
 decreases-loop-next l = still (plans_tree l.plans) l.next

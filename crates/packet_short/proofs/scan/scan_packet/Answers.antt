@@ -1,5 +1,5 @@
 use Rattle.event_graph.specs.Answer.{stack_tree}
-use Rattle.packet_plans.specs.Trees.{plans_tree}
+use Rattle.stack_shapes.specs.Trees.{plans_tree}
 use Rattle.packet_full.proofs.Steps.{not_opened, not_contents, closed_scan}
 use Rattle.packet_full.proofs.Taken.{are_bytes}
 use Rattle.packet_short.proofs.Took.{any_ends}

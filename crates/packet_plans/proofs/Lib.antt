@@ -1,3 +1,0 @@
-pub mod Indexing
-pub mod Gathered
-pub mod Groups

@@ -1,0 +1,5 @@
+pub mod Indexing
+pub mod Gathered
+pub mod Groups
+pub mod Common
+pub mod Held

@@ -1,0 +1,5 @@
+pub mod Lists
+pub mod Prints
+pub mod Trees
+pub mod Shapes
+pub mod Entries
