@@ -55,102 +55,72 @@ pub fn number(alloc: Global, names: &Names, e: &ast::Expression) -> Result<Expre
         ast::Expression::Ltime { .. } => Ok(Expression::Ltime),
         ast::Expression::Named { name, index } => match index {
             None => Ok(named(names, name)),
-            Some(index) => {
-                let index = number(alloc, names, index)?;
-                Ok(Expression::Element {
-                    cell: names.place.cell(name),
-                    index: Box::new(alloc, index)?,
-                })
-            }
-        },
-        ast::Expression::Square { name, row, column } => {
-            let row = number(alloc, names, row)?;
-            let column = number(alloc, names, column)?;
-            Ok(Expression::Square {
+            Some(index) => Ok(Expression::Element {
                 cell: names.place.cell(name),
-                row: Box::new(alloc, row)?,
-                column: Box::new(alloc, column)?,
-            })
-        }
-        ast::Expression::Rows { queue, .. } => {
-            let index = queue_index(alloc, names, queue)?;
-            Ok(Expression::Rows {
-                cell: names.place.cell(&queue.name),
-                index: Box::new(alloc, index)?,
-            })
-        }
+                index: boxed(alloc, names, index)?,
+            }),
+        },
+        ast::Expression::Square { name, row, column } => Ok(Expression::Square {
+            cell: names.place.cell(name),
+            row: boxed(alloc, names, row)?,
+            column: boxed(alloc, names, column)?,
+        }),
+        ast::Expression::Rows { queue, .. } => Ok(Expression::Rows {
+            cell: names.place.cell(&queue.name),
+            index: boxed_index(alloc, names, queue)?,
+        }),
         ast::Expression::Item {
             queue,
             row,
             label,
             ..
-        } => {
-            let index = queue_index(alloc, names, queue)?;
-            let row = number(alloc, names, row)?;
-            Ok(Expression::Item {
-                cell: names.place.cell(&queue.name),
-                index: Box::new(alloc, index)?,
-                row: Box::new(alloc, row)?,
-                number: names.place.item(&queue.name, label),
-            })
-        }
-        ast::Expression::Size { message: whole, .. } => {
-            let whole = message(alloc, names, whole)?;
-            Ok(Expression::Size(Box::new(alloc, whole)?))
+        } => Ok(Expression::Item {
+            cell: names.place.cell(&queue.name),
+            index: boxed_index(alloc, names, queue)?,
+            row: boxed(alloc, names, row)?,
+            number: names.place.item(&queue.name, label),
+        }),
+        ast::Expression::Size { message, .. } => {
+            Ok(Expression::Size(boxed_message(alloc, names, message)?))
         }
         ast::Expression::Binary {
             left,
             operator,
             right,
             ..
-        } => {
-            let left = number(alloc, names, left)?;
-            let right = number(alloc, names, right)?;
-            Ok(Expression::Binary {
-                operator: *operator,
-                left: Box::new(alloc, left)?,
-                right: Box::new(alloc, right)?,
-            })
-        }
+        } => Ok(Expression::Binary {
+            operator: *operator,
+            left: boxed(alloc, names, left)?,
+            right: boxed(alloc, names, right)?,
+        }),
         ast::Expression::Apply {
             function,
             operand,
             ..
-        } => {
-            let operand = number(alloc, names, operand)?;
-            Ok(Expression::Apply {
-                function: *function,
-                operand: Box::new(alloc, operand)?,
-            })
-        }
+        } => Ok(Expression::Apply {
+            function: *function,
+            operand: boxed(alloc, names, operand)?,
+        }),
         ast::Expression::Pick {
             condition,
             first,
             second,
             ..
-        } => {
-            let condition = number(alloc, names, condition)?;
-            let first = number(alloc, names, first)?;
-            let second = number(alloc, names, second)?;
-            pick(alloc, condition, first, second)
-        }
+        } => Ok(Expression::Pick {
+            condition: boxed(alloc, names, condition)?,
+            first: boxed(alloc, names, first)?,
+            second: boxed(alloc, names, second)?,
+        }),
     }
 }
 
-/// A choice between two numbers.
-fn pick(
-    alloc: Global,
-    condition: Expression,
-    first: Expression,
-    second: Expression,
-) -> Result<Expression, AllocError>
-    ensures { IfOk result (λ x. expression_tree x ≡ tree.pick (expression_tree condition) (expression_tree first) (expression_tree second)) }
+/// The number of an expression, in a box.
+#[cycle(values)]
+fn boxed(alloc: Global, names: &Names, e: &ast::Expression) -> Result<Box<Expression>, AllocError>
+    ensures { IfOk result (λ x. expression_tree x.value ≡ spec.number_of (names_of names.now) (written.expression_tree e.now)) }
 {
-    Ok(Expression::Pick {
-        condition: Box::new(alloc, condition)?,
-        first: Box::new(alloc, first)?,
-        second: Box::new(alloc, second)?,
-    })
+    let number = number(alloc, names, e)?;
+    Ok(Box::new(alloc, number)?)
 }
 
 /// The index of a queue among those of its cell: a queue that is alone has 0.
@@ -162,6 +132,15 @@ pub fn queue_index(alloc: Global, names: &Names, queue: &Queue) -> Result<Expres
         None => Ok(Expression::Number(0)),
         Some(index) => number(alloc, names, index),
     }
+}
+
+/// The index of a queue, in a box.
+#[cycle(values)]
+fn boxed_index(alloc: Global, names: &Names, queue: &Queue) -> Result<Box<Expression>, AllocError>
+    ensures { IfOk result (λ x. expression_tree x.value ≡ spec.queue_index (names_of names.now) (written.queue_tree queue.now)) }
+{
+    let index = queue_index(alloc, names, queue)?;
+    Ok(Box::new(alloc, index)?)
 }
 
 /// The message of a message expression.
@@ -179,6 +158,19 @@ fn message(
     }
 }
 
+/// The message of a message expression, in a box.
+#[cycle(values)]
+fn boxed_message(
+    alloc: Global,
+    names: &Names,
+    m: &ast::MessageExpression,
+) -> Result<Box<MessageExpression>, AllocError>
+    ensures { IfOk result (λ x. message_tree x.value ≡ spec.message_of (names_of names.now) (written.message_tree m.now)) }
+{
+    let message = message(alloc, names, m)?;
+    Ok(Box::new(alloc, message)?)
+}
+
 /// A message that is no bare name.
 #[cycle(values)]
 pub fn built(alloc: Global, names: &Names, b: &Built) -> Result<MessageExpression, AllocError>
@@ -186,64 +178,31 @@ pub fn built(alloc: Global, names: &Names, b: &Built) -> Result<MessageExpressio
 {
     match b {
         Built::Nothing { .. } => Ok(MessageExpression::Nothing),
-        Built::Held { queue, row, .. } => {
-            let index = queue_index(alloc, names, queue)?;
-            let row = number(alloc, names, row)?;
-            Ok(MessageExpression::Held {
-                cell: names.place.cell(&queue.name),
-                index: Box::new(alloc, index)?,
-                row: Box::new(alloc, row)?,
-                carried: held_in(names, &queue.name),
-            })
-        }
+        Built::Held { queue, row, .. } => Ok(MessageExpression::Held {
+            cell: names.place.cell(&queue.name),
+            index: boxed_index(alloc, names, queue)?,
+            row: boxed(alloc, names, row)?,
+            carried: held_in(names, &queue.name),
+        }),
         Built::Cut {
-            message: whole,
+            message,
             from,
             length,
             ..
-        } => {
-            let whole = message(alloc, names, whole)?;
-            let from = number(alloc, names, from)?;
-            let length = number(alloc, names, length)?;
-            cut(alloc, whole, from, length)
-        }
-        Built::Tail {
-            message: whole,
-            from,
-            ..
-        } => {
-            let whole = message(alloc, names, whole)?;
-            let from = number(alloc, names, from)?;
-            Ok(MessageExpression::Tail {
-                message: Box::new(alloc, whole)?,
-                from: Box::new(alloc, from)?,
-            })
-        }
-        Built::Join { first, second, .. } => {
-            let first = message(alloc, names, first)?;
-            let second = message(alloc, names, second)?;
-            Ok(MessageExpression::Join {
-                first: Box::new(alloc, first)?,
-                second: Box::new(alloc, second)?,
-            })
-        }
+        } => Ok(MessageExpression::Cut {
+            message: boxed_message(alloc, names, message)?,
+            from: boxed(alloc, names, from)?,
+            length: boxed(alloc, names, length)?,
+        }),
+        Built::Tail { message, from, .. } => Ok(MessageExpression::Tail {
+            message: boxed_message(alloc, names, message)?,
+            from: boxed(alloc, names, from)?,
+        }),
+        Built::Join { first, second, .. } => Ok(MessageExpression::Join {
+            first: boxed_message(alloc, names, first)?,
+            second: boxed_message(alloc, names, second)?,
+        }),
     }
-}
-
-/// So many bytes of a message from a place on.
-fn cut(
-    alloc: Global,
-    message: MessageExpression,
-    from: Expression,
-    length: Expression,
-) -> Result<MessageExpression, AllocError>
-    ensures { IfOk result (λ x. message_tree x ≡ tree.cut (message_tree message) (expression_tree from) (expression_tree length)) }
-{
-    Ok(MessageExpression::Cut {
-        message: Box::new(alloc, message)?,
-        from: Box::new(alloc, from)?,
-        length: Box::new(alloc, length)?,
-    })
 }
 
 /// An argument as a number.
