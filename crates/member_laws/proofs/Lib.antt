@@ -1,1 +1,10 @@
 pub mod Members
+pub mod Bare
+pub mod Wires
+pub mod Ends
+pub mod Numbered
+pub mod Nodes
+pub mod SmallStacks
+pub mod Outputs
+pub mod Lists
+pub mod Fit

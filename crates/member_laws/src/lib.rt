@@ -1,7 +1,15 @@
-//! Laws of members and worlds, each the contract of a function that does nothing: what they keep and send is chained.
+//! Laws of members, their steps and worlds, each the contract of a function that does nothing: what they keep and send is chained, what a
+//! step sends fits its plans and is spelled by its bytes, and its run ends within the weight of its entry.
 #![tactic(auto)]
 
+pub mod samples;
+
 ghost use Rattle.member_laws.specs.Members.{EntersInRange, EventsKeepChains, FirstTasksAreChained, FirstWorldIsChained, MomentsAreChained, OpenedIsChained, StepsKeepChains};
+ghost use Rattle.member_laws.specs.Nodes.{NodesAreChained};
+ghost use Rattle.member_laws.specs.Plans.{InputsAreInRange, PlansAreNumbered, WorldsAreChained};
+ghost use Rattle.member_laws.specs.Steps.{ChainedLines, ChainedTurns, PacketsFit, StepsEnd, TypedRunsAreBare, WiresAreSpelled};
+ghost use Rattle.member_laws.specs.Fit.{PredictedPacketsFit, ShortWiresSpell};
+ghost use Rattle.member_laws.specs.PlanSamples.{KeptStepIsShort};
 
 /// An input that is not refused enters as a body, a number or a packet in range.
 pub fn enters_in_range()
@@ -36,4 +44,70 @@ pub fn events_keep_chains()
 /// Along a run each world is chained.
 pub fn moments_are_chained()
     ensures { MomentsAreChained }
+{}
+
+/// Parts that a run of a typed stack reads have no headers.
+pub fn typed_runs_are_bare()
+    ensures { TypedRunsAreBare }
+{}
+
+/// Each packet of a step that is sent short fits the plan under which it is.
+pub fn packets_fit()
+    ensures { PacketsFit }
+{}
+
+/// The bytes of every packet that a step sends spell it.
+pub fn wires_are_spelled()
+    ensures { WiresAreSpelled }
+{}
+
+/// A turn of a chained line of a stack without cycles is one of which all is known.
+pub fn chained_turns()
+    ensures { ChainedTurns }
+{}
+
+/// So is a chained line.
+pub fn chained_lines()
+    ensures { ChainedLines }
+{}
+
+/// The run of a step of an accepted stack ends within the weight of its entry.
+pub fn steps_end()
+    ensures { StepsEnd }
+{}
+
+/// The constants of a typed stack's plans are below 2^32.
+pub fn plans_are_numbered()
+    ensures { PlansAreNumbered }
+{}
+
+/// What a member of a typed stack is given enters in range.
+pub fn inputs_are_in_range()
+    ensures { InputsAreInRange }
+{}
+
+/// Along a run of the world of a typed stack each world is chained.
+pub fn worlds_are_chained()
+    ensures { WorldsAreChained }
+{}
+
+/// The world of a node is chained at each event of its journal.
+pub fn nodes_are_chained()
+    ensures { NodesAreChained }
+{}
+
+/// Each packet of a step that is sent short fits the plan under which it is.
+pub fn predicted_packets_fit()
+    ensures { PredictedPacketsFit }
+{}
+
+/// What is sent of a packet that can be spelled spells it, short or in full.
+pub fn short_wires_spell()
+    ensures { ShortWiresSpell }
+{}
+
+/// A cast over four layers whose packet is sent short, by evaluation.
+#[tactic(auto, unfolding(layer_mean::specs::Visit::step, layer_mean::specs::Queue::run, stack_mean::specs::Shape::drawn_shape, stack_mean::specs::Shape::has_second_case))]
+pub fn kept_step_is_short()
+    ensures { KeptStepIsShort }
 {}

@@ -1,9 +1,0 @@
-pub mod Bare
-pub mod Wires
-pub mod Ends
-pub mod Numbered
-pub mod Nodes
-pub mod SmallStacks
-pub mod Outputs
-pub mod Lists
-pub mod Fit

@@ -1,5 +1,0 @@
-use Rattle.step_laws.proofs.Ends.{chained_lines}
-use Rattle.step_laws.proofs.chained_lines.Goals as goal
-
-pub returns : goal.returns
-returns c = chained_lines

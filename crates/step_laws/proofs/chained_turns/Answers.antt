@@ -1,5 +1,0 @@
-use Rattle.step_laws.proofs.Ends.{chained_turns}
-use Rattle.step_laws.proofs.chained_turns.Goals as goal
-
-pub returns : goal.returns
-returns c = chained_turns

@@ -1,5 +1,0 @@
-use Rattle.step_laws.proofs.Nodes.{nodes_are_chained}
-use Rattle.step_laws.proofs.nodes_are_chained.Goals as goal
-
-pub returns : goal.returns
-returns c = nodes_are_chained

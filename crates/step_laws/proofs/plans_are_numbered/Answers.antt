@@ -1,5 +1,0 @@
-use Rattle.step_laws.proofs.Numbered.{plans_are_numbered}
-use Rattle.step_laws.proofs.plans_are_numbered.Goals as goal
-
-pub returns : goal.returns
-returns c = plans_are_numbered

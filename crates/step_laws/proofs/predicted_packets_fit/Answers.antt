@@ -1,5 +1,0 @@
-use Rattle.step_laws.proofs.Fit.{predicted_packets_fit}
-use Rattle.step_laws.proofs.predicted_packets_fit.Goals as goal
-
-pub returns : goal.returns
-returns c = predicted_packets_fit

@@ -1,5 +1,0 @@
-use Rattle.step_laws.proofs.Fit.{short_wires_spell}
-use Rattle.step_laws.proofs.short_wires_spell.Goals as goal
-
-pub returns : goal.returns
-returns c = short_wires_spell

@@ -1,5 +1,0 @@
-use Rattle.step_laws.proofs.Bare.{typed_runs_are_bare}
-use Rattle.step_laws.proofs.typed_runs_are_bare.Goals as goal
-
-pub returns : goal.returns
-returns c = typed_runs_are_bare

@@ -1,5 +1,0 @@
-use Rattle.step_laws.proofs.Wires.{wires_are_spelled}
-use Rattle.step_laws.proofs.wires_are_spelled.Goals as goal
-
-pub returns : goal.returns
-returns c = wires_are_spelled
