@@ -8,12 +8,12 @@ use Rattle.stack_mean.specs.Plans.{plans_of}
 use Rattle.chain_laws.specs.Runs.{TypedStack}
 use Rattle.event_graph.specs.Answer.{stack_tree}
 use Rattle.event_graph.specs.declared.stack.Stack.{Stack}
-use Rattle.packet_plans.specs.Trees.{plans_tree}
-use Rattle.packet_plans.specs.declared.kept.Plans.{Plans}
-use Rattle.entry_shapes.specs.Shapes.{short_shapes}
+use Rattle.stack_shapes.specs.Trees.{plans_tree}
+use Rattle.stack_shapes.specs.declared.kept.Plans.{Plans}
+use Rattle.stack_shapes.specs.Shapes.{short_shapes}
 use Rattle.member_laws.specs.Members.{IsView, IsInput, IsEntered, IsChainedMember}
 use Rattle.member_laws.proofs.Members.{opened_is_chained}
-use Rattle.step_laws.proofs.Numbered.{inputs_are_in_range}
+use Rattle.member_laws.proofs.Numbered.{inputs_are_in_range}
 use Rattle.file_layer.specs.Making.{Making}
 use Rattle.bypass_member.specs.Judged.{entry_meant}
 use Rattle.bypass_member.specs.Making.{IsOpening}

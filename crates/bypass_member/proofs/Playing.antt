@@ -33,8 +33,8 @@ use Rattle.chain_laws.proofs.Lists.{each_so}
 use Rattle.run_mean.specs.Member.{Entered, app_cast, app_send, app_leave, clock_tick, from_peer, Output, output_of, first_task, most_turns, Step, step_from}
 use Rattle.member_laws.specs.Members.{IsHere, IsEntered}
 use Rattle.member_laws.proofs.Members.{first_tasks_are_chained, steps_keep_chains}
-use Rattle.step_laws.specs.Steps.{IsStep}
-use Rattle.step_laws.proofs.Ends.{steps_end}
+use Rattle.member_laws.specs.Steps.{IsStep}
+use Rattle.member_laws.proofs.Ends.{steps_end}
 use Rattle.layer_eval.specs.Did.{as_predicted}
 use Rattle.layer_eval.specs.declared.predicted.Predicted.{Predicted}
 use Rattle.pool_message.specs.Moves.{Returned}

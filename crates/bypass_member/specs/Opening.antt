@@ -9,8 +9,8 @@ use Rattle.stack_mean.specs.Plan.{Plan}
 use Rattle.stack_mean.specs.Plans.{plans_of}
 use Rattle.chain_laws.specs.Runs.{TypedStack}
 use Rattle.event_graph.specs.Answer.{stack_tree}
-use Rattle.packet_plans.specs.Trees.{plans_tree}
-use Rattle.entry_shapes.specs.Shapes.{short_shapes}
+use Rattle.stack_shapes.specs.Trees.{plans_tree}
+use Rattle.stack_shapes.specs.Shapes.{short_shapes}
 use Rattle.run_mean.specs.Member.{opened}
 use Rattle.file_layer.specs.Making.{Making}
 use Rattle.bypass_member.specs.Making.{MadeAtMost}

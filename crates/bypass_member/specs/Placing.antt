@@ -7,8 +7,8 @@ use Rattle.msg_core.specs.declared.packet.View.{View}
 use Rattle.stack_mean.specs.Plans.{plans_of}
 use Rattle.chain_laws.specs.Runs.{TypedStack}
 use Rattle.event_graph.specs.Answer.{stack_tree}
-use Rattle.packet_plans.specs.Trees.{plans_tree}
-use Rattle.entry_shapes.specs.Shapes.{short_shapes}
+use Rattle.stack_shapes.specs.Trees.{plans_tree}
+use Rattle.stack_shapes.specs.Shapes.{short_shapes}
 use Rattle.member_reads.specs.Shown.{member_in}
 use Rattle.bypass_member.specs.Placed.{Placed}
 use Rattle.bypass_member.specs.Viewing.{IsAt}

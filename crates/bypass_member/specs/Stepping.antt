@@ -10,8 +10,8 @@ use Rattle.run_mean.specs.Member.{Entered, Output, Step, step_from, member_behin
 use Rattle.chain_laws.specs.Runs.{TypedStack}
 use Rattle.member_laws.specs.Members.{IsHere}
 use Rattle.event_graph.specs.Answer.{stack_tree}
-use Rattle.packet_plans.specs.Trees.{plans_tree}
-use Rattle.entry_shapes.specs.Shapes.{short_shapes}
+use Rattle.stack_shapes.specs.Trees.{plans_tree}
+use Rattle.stack_shapes.specs.Shapes.{short_shapes}
 use Rattle.layer_eval.specs.Did.{as_predicted}
 use Rattle.layer_eval.specs.declared.predicted.Predicted.{Predicted}
 use Rattle.step_outputs.specs.Gathered.{Gathered}

@@ -16,7 +16,7 @@ ghost use Rattle.bypass_member.specs.Judged.{entry_meant, body_of, LiesWithin};
 use crate::entry::Entry;
 use event_graph::Stack;
 use layer_ast::{Dir, Kind};
-use layer_desk::Envelope;
+use layer_mean::Envelope;
 use msg_core::{Dest, Headers};
 use packet_full::Scan;
 use packet_mean::Here;

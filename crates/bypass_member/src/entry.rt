@@ -2,25 +2,24 @@
 
 ghost use Rattle.std.specs.Prelude.{◌≡◌, ◌≤◌, nat_lt, length, IfOk};
 ghost use Rattle.event_graph.specs.Answer.{stack_tree};
-ghost use Rattle.entry_shapes.specs.Entries.{entry_for};
+ghost use Rattle.stack_shapes.specs.Entries.{entry_for};
 ghost use Rattle.member_laws.specs.Members.{IsInput};
 ghost use Rattle.msg_core.specs.Parts.{longest_body};
 ghost use Rattle.packet_full.specs.Scanned.{Scans};
 ghost use Rattle.packet_mean.specs.Received.{received};
 ghost use Rattle.packet_mean.specs.Spelling.{AreBytes};
 ghost use Rattle.packet_mean.specs.declared.here.Here.{Here};
-ghost use Rattle.packet_plans.specs.Trees.{plans_tree};
+ghost use Rattle.stack_shapes.specs.Trees.{plans_tree};
 ghost use Rattle.run_mean.specs.Member.{entered};
 ghost use Rattle.view_core.specs.Steps.{input_meant};
 ghost use Rattle.bypass_member.specs.Judged.{entry_meant, Judges, LiesWithin};
 
-use entry_shapes::EntryOf;
 use event_graph::Stack;
 use msg_core::{LONGEST_BODY, Stray};
 use packet_full::Scan;
 use packet_mean::Here;
-use packet_plans::Plans;
 use packet_short::{fits_scan, scan_packet};
+use stack_shapes::{EntryOf, Plans};
 use view_core::{Input, Refusal};
 
 /// An input that isn't refused.

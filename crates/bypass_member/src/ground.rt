@@ -7,12 +7,11 @@ ghost use Rattle.msg_core.specs.declared.packet.View.{View};
 ghost use Rattle.bypass_member.specs.Behind.{view_behind};
 ghost use Rattle.bypass_member.specs.Placing.{IsRankIn};
 
-use entry_shapes::EntryShapes;
 use event_graph::Stack;
 use msg_core::{Headers, View};
 use packet_full::member_count;
 use packet_mean::Here;
-use packet_plans::Plans;
+use stack_shapes::{EntryShapes, Plans};
 use view_core::{Change, rank};
 
 /// What a member in a view works over: its stack with what is known of it, headers that are none, where it stands, its id, and how many members

@@ -1,8 +1,7 @@
 //! What a group is opened with.
 
-use entry_shapes::EntryShapes;
 use event_graph::Stack;
-use packet_plans::Plans;
+use stack_shapes::{EntryShapes, Plans};
 use std::rc::Rc;
 
 /// A group to be opened: the stack that its members run, with its plans and the shapes of its entries, the group's number, and its stamp.

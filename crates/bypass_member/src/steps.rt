@@ -73,7 +73,9 @@ pub(crate) fn take(
 {
     let what = entry_of(ground.plans, &entry);
     let predicted = play(works, ground, entry, out, visits);
-    let common = ground.entries.is_common(what, predicted);
+    let common = ground
+        .entries
+        .is_common(what, predicted.first, predicted.second);
     let change = change_view(
         works,
         ground.stack,

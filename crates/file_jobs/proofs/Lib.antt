@@ -1,2 +1,4 @@
 pub mod Texts
 pub mod Stops
+pub mod SecondStops
+pub mod Typed

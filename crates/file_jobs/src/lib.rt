@@ -1,5 +1,5 @@
 //! The jobs that read one file and write one line: `check` judges a stack file, and `audit` a law on a report; and the read of a stack
-//! file for every job that has one.
+//! file and of a second file, a script or a plan, for every job that has one.
 #![tactic(auto)]
 
 mod audit;
@@ -7,8 +7,10 @@ mod check;
 mod judged;
 mod lines;
 mod report;
+mod second;
 mod stack;
 
 pub use audit::audit_report;
 pub use check::check_stack;
+pub use second::{fetch_second, refusal};
 pub use stack::fetch_stack;

@@ -9,9 +9,10 @@ use Rattle.msg_core.specs.Chain.{plain}
 use Rattle.msg_core.specs.declared.message.Header.{Header}
 use Rattle.layer_ast.specs.declared.tokens.Dir.{Dir}
 use Rattle.layer_mean.specs.Effect.{sent_as}
-use Rattle.layer_desk.specs.Laid.{lifted, event_in, sends, sends_first, passes_on}
+use Rattle.layer_desk.specs.Laid.{lifted, sends, sends_first, passes_on}
+use Rattle.layer_mean.specs.Envelope.{event_in}
 use Rattle.layer_desk.specs.Spent.{Begun}
-use Rattle.layer_desk.specs.declared.envelope.Envelope.{Envelope}
+use Rattle.layer_mean.specs.declared.envelope.Envelope.{Envelope}
 use Rattle.pool_message.specs.Seen.{bodiless, refs, seen, Lies, refs_if, seen_if, LiesIf, event_refs, event_seen, EventLies}
 use Rattle.pool_message.specs.Moves.{Kept, Derived}
 use Rattle.pool_message.specs.Sent.{sent_behind, pool_event}

@@ -3,8 +3,9 @@ use Rattle.std.specs.Prelude.{ℕ, List, [], ◌++◌, None, option_to_list}
 use Rattle.msg_core.specs.Chain.{plain}
 use Rattle.layer_mean.specs.Event.{arguments}
 use Rattle.layer_mean.specs.Visit.{with_room}
-use Rattle.layer_desk.specs.Laid.{Laid, event_in}
-use Rattle.layer_desk.specs.declared.envelope.Envelope.{Envelope}
+use Rattle.layer_desk.specs.Laid.{Laid}
+use Rattle.layer_mean.specs.Envelope.{event_in}
+use Rattle.layer_mean.specs.declared.envelope.Envelope.{Envelope}
 
 -- The event's numbers, the fields of a header, and so many more.
 abbrev pub entry_numbers : Envelope → List ℕ → ℕ → List ℕ

@@ -3,7 +3,8 @@
 use crate::desk::FileDesk;
 use crate::{enters, leaves, lifts, puts, reads, sends, takes, writes};
 use layer_ast::Dir;
-use layer_desk::{Desk, Envelope, NoRoom, Start};
+use layer_desk::{Desk, NoRoom, Start};
+use layer_mean::Envelope;
 use msg_core::{Fields, Header};
 use slot_pool::Pool;
 use typed_layer::{Carried, Taken};

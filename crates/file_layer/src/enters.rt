@@ -2,7 +2,8 @@
 
 ghost use Rattle.std.specs.Prelude.{◌≡◌, ◌+◌, ◌≤◌, [], ◌++◌, None, length, vec_capacity};
 ghost use Rattle.layer_mean.specs.Event.{arguments};
-ghost use Rattle.layer_desk.specs.Laid.{event_in, enters};
+ghost use Rattle.layer_desk.specs.Laid.{enters};
+ghost use Rattle.layer_mean.specs.Envelope.{event_in};
 ghost use Rattle.layer_desk.specs.Need.{entry_need};
 ghost use Rattle.layer_desk.specs.Spent.{SpentAtMost, Suffices};
 ghost use Rattle.file_layer.specs.Entered.{entry_numbers, with_numbers, with_arrived, with_bare};
@@ -13,7 +14,8 @@ ghost use Rattle.file_layer.specs.Stock.{laid};
 use crate::desk::FileDesk;
 use crate::leaves::forget_messages;
 use layer_ast::Kind;
-use layer_desk::{Envelope, Start};
+use layer_desk::Start;
+use layer_mean::Envelope;
 use msg_core::Fields;
 use slot_pool::Pool;
 

@@ -18,8 +18,8 @@ ghost use Rattle.file_layer.specs.Stock.{kept_refs};
 
 use crate::desk::FileDesk;
 use layer_ast::Dir;
-use layer_desk::Envelope;
 use layer_eval::{Predicted, take_event};
+use layer_mean::Envelope;
 use pool_message::Events;
 use slot_pool::Pool;
 use typed_layer::TypedLayer;

@@ -12,7 +12,8 @@ use Rattle.layer_mean.specs.Value.{Scope}
 use Rattle.layer_mean.specs.Effect.{with_slot, with_taken, sent_as}
 use Rattle.layer_mean.specs.Event.{arguments}
 use Rattle.layer_mean.specs.Visit.{no_scope, with_room}
-use Rattle.layer_desk.specs.declared.envelope.Envelope.{Envelope}
+use Rattle.layer_mean.specs.Envelope.{event_in}
+use Rattle.layer_mean.specs.declared.envelope.Envelope.{Envelope}
 
 -- The layer's state; the scope of the handler's block; the message of the event, until it is bound or sent on; the messages that
 -- are in hand, the one that was laid there last in front; and what was sent.
@@ -22,10 +23,6 @@ pub record Laid : Type 0 where
   pub arrived : Option Content
   pub hand : List Content
   pub sent : List (Dir × Event)
-
--- An event of which all but its message is known.
-abbrev pub event_in : Envelope → Option Content → Event
-event_in e message = record { kind = e.kind; peer = e.peer; a = e.a; b = e.b; message = message }
 
 -- A number of the scope, of a cell or of a square cell is set.
 abbrev pub bound : ℕ → ℕ → Laid → Laid
@@ -97,15 +94,6 @@ first_header (Some m) = first_of m.headers
 
 abbrev pub header_popped : Laid → Laid
 header_popped p = record p { arrived = option_map popped p.arrived }
-
--- What a popped header says; where there is none the tag is 0, and there are no fields.
-abbrev pub said_tag : Option Header → ℕ
-said_tag None = 0
-said_tag (Some h) = h.tag
-
-abbrev pub said_fields : Option Header → List ℕ
-said_fields None = []
-said_fields (Some h) = h.fields
 
 -- A block is entered: its scope has the event's numbers, the fields of the popped header and the message that arrived, and behind
 -- them so many numbers and messages that the block declares.

@@ -10,13 +10,15 @@ ghost use Rattle.layer_mean.specs.State.{number_at, flat_index, rows_at, row_at,
 ghost use Rattle.layer_mean.specs.Value.{number_in, message_in};
 ghost use Rattle.layer_mean.specs.Effect.{sent_as};
 ghost use Rattle.typed_layer.specs.View.{carried_tree, taken_tree};
-ghost use Rattle.layer_desk.specs.Laid.{Laid, bound, assigned, assigned_square, lifted, changed, joined, queued, queued_first, is_found, taken_row, event_in, sends, sends_first, first_header, header_popped, enters, passes_on, left, said_tag, said_fields};
+ghost use Rattle.layer_desk.specs.Laid.{Laid, bound, assigned, assigned_square, lifted, changed, joined, queued, queued_first, is_found, taken_row, sends, sends_first, first_header, header_popped, enters, passes_on, left};
+ghost use Rattle.layer_mean.specs.Envelope.{event_in};
+ghost use Rattle.layer_mean.specs.Headers.{said_tag, said_fields};
 ghost use Rattle.layer_desk.specs.Need.{Layout, Room, nothing_needed, one_slot, one_place, one_in_hand, held_need, room_need, taken_need, entry_need, passing_need};
 ghost use Rattle.layer_desk.specs.Spent.{Begun, SpentAtMost, Spent, Lifted, Suffices};
 
-use crate::envelope::Envelope;
 use crate::no_room::NoRoom;
 use layer_ast::Dir;
+use layer_mean::Envelope;
 use msg_core::{Fields, Header};
 use slot_pool::Pool;
 use std::marker::Brand;

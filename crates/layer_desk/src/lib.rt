@@ -3,11 +3,9 @@
 #![tactic(auto)]
 
 mod desk;
-mod envelope;
 mod laws;
 mod no_room;
 
 pub use desk::{Desk, Start};
-pub use envelope::Envelope;
 pub use laws::places_are_of_emissions;
 pub use no_room::NoRoom;

@@ -10,8 +10,9 @@ use Rattle.typed_layer.specs.View.{expression_tree, message_tree, content_tree, 
 use Rattle.typed_layer.specs.declared.tree.Content.{Content}
 use Rattle.typed_layer.specs.declared.tree.Emission.{Emission}
 use Rattle.typed_layer.specs.declared.tree.MessageExpression as rust_message
-use Rattle.layer_desk.specs.declared.envelope.Envelope.{Envelope}
-use Rattle.layer_desk.specs.Laid.{Laid, event_in}
+use Rattle.layer_mean.specs.declared.envelope.Envelope.{Envelope}
+use Rattle.layer_desk.specs.Laid.{Laid}
+use Rattle.layer_mean.specs.Envelope.{event_in}
 use Rattle.layer_eval.specs.Worth.{numbers_of, message_of}
 use Rattle.layer_eval.specs.Owed.{owed_event}
 

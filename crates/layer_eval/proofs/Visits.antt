@@ -13,8 +13,9 @@ use Rattle.layer_mean.specs.Value.{Scope}
 use Rattle.layer_mean.specs.Effect.{in_order, acts}
 use Rattle.layer_eval.specs.Did.{as_predicted}
 use Rattle.layer_mean.specs.Visit.{no_scope, Met, met, Visited, with_room, expecting, handler_for, handled, unhandled, step}
-use Rattle.layer_desk.specs.declared.envelope.Envelope.{Envelope}
-use Rattle.layer_desk.specs.Laid.{Laid, event_in}
+use Rattle.layer_mean.specs.declared.envelope.Envelope.{Envelope}
+use Rattle.layer_desk.specs.Laid.{Laid}
+use Rattle.layer_mean.specs.Envelope.{event_in}
 use Rattle.layer_eval.specs.declared.predicted.Predicted.{Predicted}
 use Rattle.layer_eval.specs.Visit.{Visits, visited, meets, handler_visited, passed}
 

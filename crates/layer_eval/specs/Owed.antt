@@ -6,7 +6,8 @@ use Rattle.layer_ast.specs.declared.tokens.Dir.{Dir}
 use Rattle.layer_mean.specs.declared.run.Event.{Event}
 use Rattle.layer_mean.specs.Tree.{StatementTree, bind, assign, assign_square, EmissionTree, MessageTree, message}
 use Rattle.layer_mean.specs.Effect.{sent_as}
-use Rattle.layer_desk.specs.Laid.{Laid, event_in}
+use Rattle.layer_desk.specs.Laid.{Laid}
+use Rattle.layer_mean.specs.Envelope.{event_in}
 use Rattle.layer_desk.specs.Need.{Room, Need}
 use Rattle.layer_desk.specs.Spent.{SpentAtMost, Lacks}
 use Rattle.layer_desk.specs.declared.no_room.NoRoom.{NoRoom}

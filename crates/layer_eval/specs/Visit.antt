@@ -7,8 +7,9 @@ use Rattle.layer_mean.specs.Tree.{Expected, always, common, rare, HandlerTree, L
 use Rattle.layer_mean.specs.Value.{is_true}
 use Rattle.layer_mean.specs.Effect.{Decision, usual, unusual}
 use Rattle.layer_mean.specs.Visit.{met, Visited, no_scope, handler_for, handled, unhandled, step}
-use Rattle.layer_desk.specs.declared.envelope.Envelope.{Envelope}
-use Rattle.layer_desk.specs.Laid.{Laid, event_in}
+use Rattle.layer_mean.specs.declared.envelope.Envelope.{Envelope}
+use Rattle.layer_desk.specs.Laid.{Laid}
+use Rattle.layer_mean.specs.Envelope.{event_in}
 use Rattle.layer_desk.specs.Need.{Layout, Need, visit_need}
 use Rattle.layer_eval.specs.declared.predicted.Predicted.{Predicted}
 use Rattle.layer_eval.specs.Did.{as_predicted}

@@ -8,7 +8,8 @@ ghost use Rattle.layer_eval.specs.Owed.{settled};
 
 use crate::effect::{envelope, no_header, write_header};
 use layer_ast::{Dir, Kind};
-use layer_desk::{Desk, Envelope, NoRoom, Start};
+use layer_desk::{Desk, NoRoom, Start};
+use layer_mean::Envelope;
 use msg_core::Header;
 use slot_pool::Pool;
 use std::marker::Model;

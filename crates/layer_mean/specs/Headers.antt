@@ -1,5 +1,6 @@
 -- Which headers a layer has.
-use Rattle.std.specs.Prelude.{ℕ, false, ◌∷◌, slice_get, codes, Option}
+use Rattle.std.specs.Prelude.{ℕ, false, List, [], ◌∷◌, slice_get, codes, Option, Some, None}
+use Rattle.msg_core.specs.declared.message.Header.{Header}
 use Rattle.layer_mean.specs.Tree.{HeaderTree, LayerTree}
 
 -- The header `none`, which each layer has beside those that it declares: no fields, and the layers above follow.
@@ -9,3 +10,12 @@ header_none = record { name = codes "none"; fields = 0; ends = false }
 -- The header that a tag of a layer stands for: `none` for 0, and the declared ones from 1 on.
 abbrev pub declared : LayerTree → ℕ → Option HeaderTree
 declared layer tag = slice_get (header_none ∷ layer.headers) tag
+
+-- What a popped header says; where there is none the tag is 0, and there are no fields.
+abbrev pub said_tag : Option Header → ℕ
+said_tag None = 0
+said_tag (Some h) = h.tag
+
+abbrev pub said_fields : Option Header → List ℕ
+said_fields None = []
+said_fields (Some h) = h.fields

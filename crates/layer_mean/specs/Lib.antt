@@ -1,4 +1,5 @@
 pub mod Event
+pub mod Envelope
 pub mod Tree
 pub mod Headers
 pub mod State

@@ -2,6 +2,8 @@
 //! tasks and the predicted way, as definitions; and codes of the trees, so that contracts may see a struct as a record that holds them.
 #![tactic(auto)]
 
+mod envelope;
 mod run;
 
+pub use envelope::Envelope;
 pub use run::{Case, Event, Row};

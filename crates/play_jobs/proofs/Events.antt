@@ -13,7 +13,7 @@ use Rattle.script_mean.specs.declared.event.ScriptEvent.{ScriptEvent}
 use Rattle.script_mean.specs.declared.script.GroupLine.{GroupLine}
 use Rattle.script_mean.specs.declared.script.Script.{Script}
 use Rattle.std.specs.Prelude.{not}
-use Rattle.play_jobs.specs.Second.{longest_second}
+use Rattle.file_jobs.specs.Second.{longest_second}
 
 -- as many events as lines
 events_length : (members : ℕ) (lines : List (ℕ × List ℕ)) (events : List ScriptEvent) → events_of members lines ≡ Ok events → length events ≡ length lines

@@ -1,4 +1,2 @@
-pub mod Stops
-pub mod Typed
 pub mod Events
 pub mod Plays

@@ -20,7 +20,7 @@ use Rattle.program_mean.specs.Second.{crowded, after_script}
 use Rattle.job_ends.specs.Comes.{Around, Good, Comes}
 use Rattle.job_ends.proofs.Comes.{written}
 use Rattle.file_jobs.specs.Stack.{IsStack}
-use Rattle.play_jobs.specs.Second.{IsSpelled}
+use Rattle.file_jobs.specs.Second.{IsSpelled}
 use Rattle.stack_play.specs.Play.{Plays}
 use Rattle.play_jobs.specs.Ends.{end_of}
 use Rattle.stack_play.specs.declared.error.PlayError.{PlayError}

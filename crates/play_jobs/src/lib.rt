@@ -5,8 +5,6 @@ mod load;
 mod played;
 mod replay;
 mod script;
-mod second;
 
 pub use load::load_stack;
 pub use replay::replay_script;
-pub use second::{fetch_second, refusal};

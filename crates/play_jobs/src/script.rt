@@ -1,9 +1,9 @@
 //! Scripts, read from a shelf and judged.
 
 ghost use Rattle.script_mean.specs.Script.{IsRunnable, script_of};
-ghost use Rattle.play_jobs.specs.Second.{Fetches, Judges};
+ghost use Rattle.file_jobs.specs.Second.{Fetches, Judges};
 
-use crate::second::{fetch_second, refusal};
+use file_jobs::{fetch_second, refusal};
 use job_ends::Ending;
 use outside::Shelf;
 use script_mean::Script;

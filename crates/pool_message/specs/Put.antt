@@ -4,7 +4,7 @@ use Rattle.circular_buffer.specs.Buffer.{Buffer, buffer}
 use Rattle.slot_pool.specs.Held.{Held, IsFull}
 use Rattle.msg_core.specs.Chain.{Content}
 use Rattle.layer_ast.specs.declared.tokens.Dir.{Dir}
-use Rattle.layer_desk.specs.declared.envelope.Envelope.{Envelope}
+use Rattle.layer_mean.specs.declared.envelope.Envelope.{Envelope}
 use Rattle.pool_message.specs.Moves.{Made}
 use Rattle.pool_message.specs.Sent.{pool_event}
 use Rattle.pool_message.specs.declared.event.PoolEvent.{PoolEvent}

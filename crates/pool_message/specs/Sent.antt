@@ -8,7 +8,7 @@ use Rattle.msg_core.specs.declared.message.Header.{Header}
 use Rattle.layer_ast.specs.declared.tokens.Dir.{Dir}
 use Rattle.layer_ast.specs.declared.tokens.Dir.TheVariants.{Up, Down}
 use Rattle.layer_ast.specs.declared.tokens.Kind.TheVariants as kind
-use Rattle.layer_desk.specs.declared.envelope.Envelope.{Envelope}
+use Rattle.layer_mean.specs.declared.envelope.Envelope.{Envelope}
 use Rattle.layer_mean.specs.declared.run.Event.{Event}
 use Rattle.pool_message.specs.Seen.{event_refs, event_seen, EventLies}
 use Rattle.pool_message.specs.declared.event.PoolEvent.{PoolEvent}

@@ -2,7 +2,7 @@
 
 use crate::place::Place;
 use layer_ast::Kind;
-use layer_desk::Envelope;
+use layer_mean::Envelope;
 
 /// What travels between adjacent layers. Numbers that its kind doesn't have are 0, and a Cast and a Send alone carry a message.
 pub struct PoolEvent {

@@ -16,7 +16,7 @@ use crate::message::PoolMessage;
 use crate::messages::Messages;
 use crate::place::Place;
 use layer_ast::Dir;
-use layer_desk::Envelope;
+use layer_mean::Envelope;
 use msg_core::{Fields, Header, Headers};
 use slot_pool::{Memory, Pool};
 use std::alloc::Global;

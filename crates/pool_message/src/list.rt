@@ -18,7 +18,7 @@ use crate::part::Part;
 use crate::place::Place;
 use circular_buffer::HeapCircularBuffer;
 use layer_ast::Dir;
-use layer_desk::Envelope;
+use layer_mean::Envelope;
 use msg_core::{Header, Headers};
 use slot_pool::{Memory, Pool};
 use std::alloc::Global;

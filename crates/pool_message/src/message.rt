@@ -18,7 +18,7 @@ impl PoolMessage {
     ghost use Rattle.std.specs.Prelude.{◌≡◌, ℕ, ◌+◌, ◌<◌, ◌≤◌, List, [], ◌∷◌, ◌++◌, map, length, Some, None};
     ghost use Rattle.std.specs.List.{range_with_len};
     ghost use Rattle.slot_pool.specs.References.{Covers};
-    ghost use Rattle.layer_desk.specs.Laid.{said_tag, said_fields};
+    ghost use Rattle.layer_mean.specs.Headers.{said_tag, said_fields};
     ghost use Rattle.msg_core.specs.Chain.{first_of, rest_of};
     ghost use Rattle.msg_core.specs.Headers.{most_headers};
     ghost use Rattle.msg_core.specs.Parts as parts;

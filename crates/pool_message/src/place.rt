@@ -29,7 +29,7 @@ impl Model for Place {
 impl Place {
     ghost use Rattle.std.specs.Prelude.{◌≡◌, ◌<◌, length, Some, None, option_copied, option_map, [], IfSome};
     ghost use Rattle.slot_pool.specs.References.{Covers};
-    ghost use Rattle.layer_desk.specs.Laid.{said_tag, said_fields};
+    ghost use Rattle.layer_mean.specs.Headers.{said_tag, said_fields};
     ghost use Rattle.msg_core.specs.Headers.{most_headers};
     ghost use Rattle.pool_message.specs.Seen.{refs, refs_if, bodiless};
     ghost use Rattle.pool_message.specs.Sent.{first_header, with_header, without_first};

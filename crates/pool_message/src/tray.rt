@@ -15,7 +15,7 @@ use crate::message::PoolMessage;
 use crate::messages::Messages;
 use crate::place::Place;
 use layer_ast::Dir;
-use layer_desk::Envelope;
+use layer_mean::Envelope;
 use msg_core::{Fields, Header};
 use slot_pool::{Memory, Pool};
 use std::alloc::Global;
@@ -63,7 +63,7 @@ impl Tray {
     ghost use Rattle.std.specs.Prelude.{◌≡◌, nat_lt, ◌+◌, ◌-◌, ◌<◌, ◌≤◌, [], ◌∷◌, ◌++◌, drop, length, slice_get, slice_index_or, slice_set, Some, None, option_copied, option_map, option_to_list, IfOk, IfSome};
     ghost use Rattle.circular_buffer.specs.Buffer.{buffer, last_item};
     ghost use Rattle.slot_pool.specs.References.{Covers};
-    ghost use Rattle.layer_desk.specs.Laid.{said_tag, said_fields};
+    ghost use Rattle.layer_mean.specs.Headers.{said_tag, said_fields};
     ghost use Rattle.msg_core.specs.Headers.{most_headers};
     ghost use Rattle.pool_message.specs.Seen.{refs, refs_if, bodiless};
     ghost use Rattle.pool_message.specs.Sent.{first_sent, most_sent, first_header, with_header, without_first, sent_behind, envelope_of, CanPass};

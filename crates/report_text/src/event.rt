@@ -2,7 +2,7 @@
 
 ghost use Rattle.std.specs.Prelude.{◌≡◌, ◌+◌, ◌^◌, ◌<◌, ◌∷◌, ◌++◌, [], OnOk, length};
 ghost use Rattle.event_graph.specs.Answer.{stack_tree};
-ghost use Rattle.packet_plans.specs.Trees.{plans_tree};
+ghost use Rattle.stack_shapes.specs.Trees.{plans_tree};
 ghost use Rattle.run_mean.specs.Lines as report;
 ghost use Rattle.run_mean.specs.Report.{end_line, packet_given, visits_line};
 ghost use Rattle.script_mean.specs.Event.{member_of};
@@ -19,23 +19,8 @@ use crate::state::write_member;
 use msg_core::Memory;
 use outside::{Sink, SinkError, put_line};
 use report_lines::{Line, absent_line, out_line, refused_line, view_line};
-use script_mean::ScriptEvent;
+use script_mean::{ScriptEvent, member_of};
 use view_core::{Change, Did, Refusal, Stepped};
-
-/// The member that an event names.
-pub fn member_of(event: &ScriptEvent) -> u8
-    ensures { result ≡ member_of event.now }
-{
-    match event {
-        ScriptEvent::Cast(id, _)
-        | ScriptEvent::Send(id, _, _)
-        | ScriptEvent::Leave(id)
-        | ScriptEvent::Tick(id, _)
-        | ScriptEvent::Give(_, id)
-        | ScriptEvent::Raw(id, _)
-        | ScriptEvent::Show(id) => *id,
-    }
-}
 
 /// The packet that an event gives, 0 for none.
 fn packet_given(event: &ScriptEvent) -> u32

@@ -12,7 +12,7 @@ mod state;
 mod tally;
 
 pub use counts::Counts;
-pub use event::{member_of, write_change, write_end, write_event, write_refusal, write_visits};
+pub use event::{write_change, write_end, write_event, write_refusal, write_visits};
 pub use laws::{counted_is_the_tally, counted_with_the_moment, told_in_full, told_is_the_moment};
 pub use manner::{Manner, Outcome};
 pub use output::{number_behind, put_output};

@@ -1,9 +1,9 @@
 //! How lines are written, and what of.
 
 use member_reads::Shown;
-use packet_plans::Plans;
 use report_lines::NamedStack;
 use script_mean::ScriptEvent;
+use stack_shapes::Plans;
 use step_outputs::Outputs;
 use view_core::Did;
 

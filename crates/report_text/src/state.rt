@@ -126,8 +126,8 @@ fn write_cell<O: Sink>(
     }
 }
 
-/// Puts the lines of a layer's cells. They have numbers of eight bits: a layer with more than 256 cells, which no file declares, is answered
-/// as want of memory.
+/// Puts the lines of a layer's cells. They have numbers of eight bits: beyond this bound of the type, a layer with more than 256 cells, which
+/// no file declares, is answered as want of memory is.
 fn write_layer<O: Sink>(
     pen: &mut Pen,
     stack: &NamedStack,

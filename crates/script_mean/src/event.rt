@@ -1,4 +1,8 @@
 //! The events of a script.
+
+ghost use Rattle.std.specs.Prelude.{◌≡◌};
+ghost use Rattle.script_mean.specs.Event.{member_of};
+
 use crate::bytes::Bytes;
 
 /// One event of a script. A member is named by its number, from 0.
@@ -18,4 +22,19 @@ pub enum ScriptEvent {
     Raw(u8, Bytes),
     /// The member's state is shown.
     Show(u8),
+}
+
+/// The member that an event names.
+pub fn member_of(event: &ScriptEvent) -> u8
+    ensures { result ≡ member_of event.now }
+{
+    match event {
+        ScriptEvent::Cast(id, _)
+        | ScriptEvent::Send(id, _, _)
+        | ScriptEvent::Leave(id)
+        | ScriptEvent::Tick(id, _)
+        | ScriptEvent::Give(_, id)
+        | ScriptEvent::Raw(id, _)
+        | ScriptEvent::Show(id) => *id,
+    }
 }

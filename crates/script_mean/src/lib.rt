@@ -13,7 +13,7 @@ mod plan_examples;
 mod script;
 
 pub use crate::bytes::Bytes;
-pub use crate::event::ScriptEvent;
+pub use crate::event::{ScriptEvent, member_of};
 pub use crate::event_lines::{events_read_back, say_events};
 pub use crate::events::Events;
 pub use crate::examples::{find_faults, spell_scripts};

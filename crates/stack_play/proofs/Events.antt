@@ -24,8 +24,8 @@ use Rattle.view_core.specs.declared.step.Did.TheVariants.{Stepped, Absent, Shown
 use Rattle.view_core.specs.declared.step.Stepped.TheVariants.{Taken, Refused}
 use Rattle.report_text.specs.Told.{told_lines}
 use Rattle.report_text.proofs.Moments.{told_is_moment}
-use Rattle.world_core.specs.Feeding.{IsFed}
-use Rattle.world_core.specs.Standing.{Peopled, Stands}
+use Rattle.group_feed.specs.Feeding.{IsFed}
+use Rattle.group_feed.specs.Standing.{Peopled, Stands}
 use Rattle.stack_play.specs.Turns.{moment_at, TellsEvent}
 use Rattle.stack_play.specs.declared.run.Run.{Run}
 

@@ -17,7 +17,7 @@ use Rattle.outside.specs.Tells.{Tells}
 use Rattle.outside.proofs.Gaining.{gains_none, gains_then, cut_short}
 use Rattle.run_mean.specs.World.{first_world, happens}
 use Rattle.run_mean.specs.Report.{moments}
-use Rattle.world_core.specs.Standing.{Stands}
+use Rattle.group_feed.specs.Standing.{Stands}
 use Rattle.stack_play.specs.Turns.{IsReady, IsAtFirst, Keeps, moment_at, IsTold}
 use Rattle.stack_play.specs.declared.run.Run.{Run}
 use Rattle.stack_play.proofs.Moments.{stands_at, front, front_more, stands_more, rest, whole}

@@ -5,8 +5,8 @@ use Rattle.layer_mean.specs.Tree.{LayerTree}
 use Rattle.stack_mean.specs.Acceptance.{rows_of, largest_weight, most_rows}
 use Rattle.stack_mean.specs.Plans.{plans_of}
 use Rattle.event_graph.specs.Answer.{stack_tree}
-use Rattle.packet_plans.specs.Trees.{plans_tree}
-use Rattle.entry_shapes.specs.Shapes.{short_shapes}
+use Rattle.stack_shapes.specs.Trees.{plans_tree}
+use Rattle.stack_shapes.specs.Shapes.{short_shapes}
 use Rattle.file_layer.specs.Making.{making}
 use Rattle.program_mean.specs.Output.{HasRoom}
 use Rattle.stack_play.specs.Turns.{IsAtFirst}

@@ -13,7 +13,7 @@ use Rattle.outside.specs.Lines.{Gains, Wrote}
 use Rattle.outside.specs.Tells.{Tells}
 use Rattle.report_text.specs.Counts.{counts_of}
 use Rattle.report_text.specs.declared.counts.Counts.{Counts}
-use Rattle.world_core.specs.Standing.{Stands}
+use Rattle.group_feed.specs.Standing.{Stands}
 use Rattle.stack_play.specs.declared.run.Run.{Run}
 
 -- A run is over this stack with these plans, and has room for the outputs of a step.

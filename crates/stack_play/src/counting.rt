@@ -6,7 +6,7 @@ ghost use Rattle.chain_laws.specs.Runs.{TypedStack};
 ghost use Rattle.script_mean.specs.Event.{member_of};
 ghost use Rattle.stack_mean.specs.Plans.{plans_of};
 ghost use Rattle.event_graph.specs.Answer.{stack_tree};
-ghost use Rattle.packet_plans.specs.Trees.{plans_tree};
+ghost use Rattle.stack_shapes.specs.Trees.{plans_tree};
 ghost use Rattle.job_mean.specs.Job.{layered};
 ghost use Rattle.script_text.specs.Course.{script_for};
 ghost use Rattle.run_mean.specs.Report.{run_of};
@@ -15,7 +15,7 @@ ghost use Rattle.run_mean.specs.World as mean;
 ghost use Rattle.outside.specs.Lines.{Wrote};
 ghost use Rattle.outside.specs.Tells.{tells_of};
 ghost use Rattle.report_text.specs.Counts.{counts_of, no_counts};
-ghost use Rattle.world_core.specs.Standing.{Stands};
+ghost use Rattle.group_feed.specs.Standing.{Stands};
 ghost use Rattle.stack_play.specs.Play.{Plays, most_events};
 ghost use Rattle.stack_play.specs.Turns.{CountsEvent, IsAtFirst, IsReady, Keeps};
 
@@ -23,15 +23,15 @@ use crate::error::{PlayError, with_room};
 use crate::opening::open;
 use crate::run::{Opened, Run};
 use event_graph::Stack;
+use group_feed::Feed;
 use msg_core::Memory;
 use outside::{Sink, SinkError};
-use packet_plans::Plans;
 use report_text::{Tally, write_tally};
 use script_mean::ScriptEvent;
 use script_text::{Generation, Workload};
+use stack_shapes::Plans;
 use std::alloc::Global;
 use step_outputs::an_accepted_stack_is_light;
-use world_core::Feed;
 
 /// The group of a script that is made.
 const GROUP: u32 = 1;

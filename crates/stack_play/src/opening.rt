@@ -9,13 +9,12 @@ ghost use Rattle.msg_core.specs.View.{most_members};
 use crate::error::PlayError;
 use crate::run::{Opened, Parts, Run};
 use bypass_member::{OpenError, Opening};
-use entry_shapes::EntryShapes;
 use event_graph::Stack;
 use file_layer::Maker;
 use msg_core::Memory;
-use packet_plans::Plans;
 use report_lines::NamedStack;
 use report_text::Pen;
+use stack_shapes::StackShapes;
 use std::alloc::Global;
 use std::rc::Rc;
 use step_outputs::Outputs;
@@ -27,8 +26,7 @@ fn prepare(alloc: Global, stack: Stack) -> Result<Parts, Memory>
 {
     let (maker, stack) = Maker::of(alloc, stack)?;
     let stack = NamedStack::of(alloc, stack)?;
-    let plans = Plans::of(alloc, stack.stack())?;
-    let entries = EntryShapes::of(alloc, stack.stack(), &plans)?;
+    let StackShapes { plans, entries } = StackShapes::of(alloc, stack.stack())?;
     let outputs = Outputs::fresh(alloc, stack.stack())?;
     Ok(Parts {
         maker,

@@ -7,13 +7,13 @@ ghost use Rattle.script_mean.specs.Event.{member_of};
 ghost use Rattle.script_mean.specs.Script.{IsRunnable};
 ghost use Rattle.stack_mean.specs.Plans.{plans_of};
 ghost use Rattle.event_graph.specs.Answer.{stack_tree};
-ghost use Rattle.packet_plans.specs.Trees.{plans_tree};
+ghost use Rattle.stack_shapes.specs.Trees.{plans_tree};
 ghost use Rattle.job_mean.specs.Job.{layered};
 ghost use Rattle.run_mean.specs.Report.{end_line, mode_if, moment_lines, output_in, run_of, visits_of};
 ghost use Rattle.run_mean.specs.World as mean;
 ghost use Rattle.outside.specs.Lines.{Wrote};
 ghost use Rattle.outside.specs.Tells.{tells_of};
-ghost use Rattle.world_core.specs.Standing.{Stands};
+ghost use Rattle.group_feed.specs.Standing.{Stands};
 ghost use Rattle.stack_play.specs.Play.{Plays, most_events};
 ghost use Rattle.stack_play.specs.Turns.{IsAtFirst, IsReady, Keeps, SomeWorld, TellsEvent, visits_if};
 
@@ -21,13 +21,13 @@ use crate::error::{PlayError, with_room};
 use crate::opening::open;
 use crate::run::{Opened, Run};
 use event_graph::Stack;
+use group_feed::Feed;
 use msg_core::Memory;
 use outside::{Sink, SinkError};
-use report_text::{Manner, Outcome, Pen, member_of, write_end, write_event, write_visits};
-use script_mean::{Script, ScriptEvent};
+use report_text::{Manner, Outcome, Pen, write_end, write_event, write_visits};
+use script_mean::{Script, ScriptEvent, member_of};
 use std::alloc::Global;
 use step_outputs::an_accepted_stack_is_light;
-use world_core::Feed;
 
 /// Plays a script in the world in which it begins, layer by layer, and writes its report: with the packets' bytes and the number of visits
 /// where these are wanted.

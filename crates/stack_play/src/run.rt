@@ -1,10 +1,9 @@
 //! A group at work, with what its steps and lines are made in.
 
-use entry_shapes::EntryShapes;
 use file_layer::Maker;
-use packet_plans::Plans;
 use report_lines::NamedStack;
 use report_text::Pen;
+use stack_shapes::{EntryShapes, Plans};
 use std::rc::Rc;
 use step_outputs::Outputs;
 use world_core::World;

@@ -4,7 +4,7 @@ use Rattle.circular_buffer.specs.Buffer.{Buffer, buffer}
 use Rattle.slot_pool.specs.Held.{Held, IsFull, spare}
 use Rattle.slot_pool.specs.References.{Moved}
 use Rattle.msg_core.specs.Chain.{Content}
-use Rattle.layer_desk.specs.Laid.{event_in}
+use Rattle.layer_mean.specs.Envelope.{event_in}
 use Rattle.layer_mean.specs.declared.run.Event.{Event}
 use Rattle.layer_mean.specs.Queue.{Task}
 use Rattle.pool_message.specs.Seen.{event_refs, EventLies}

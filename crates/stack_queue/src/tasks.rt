@@ -9,8 +9,8 @@ use crate::places::{beyond, end_first, first_way, go_on, put_place, stand_alone}
 use circular_buffer::HeapCircularBuffer;
 use event_graph::Stack;
 use layer_ast::Dir;
-use layer_desk::Envelope;
 use layer_eval::Predicted;
+use layer_mean::Envelope;
 use layer_stage::Stage;
 use msg_core::Headers;
 use pool_message::{Events, PoolEvent};

@@ -5,7 +5,7 @@ use Rattle.std.proofs.Math.Seq.{drop-append_seam}
 use Rattle.std.proofs.lemmas.Option.{slice_get_past}
 use Rattle.std.proofs.lemmas.List.{drop-append-le, take-append-le, length-drop, take_all}
 use Rattle.world_core.specs.Parts.{parts_from, EndAt, start_of}
-use Rattle.world_core.specs.Standing.{spelled_number}
+use Rattle.group_feed.specs.Standing.{spelled_number}
 
 -- there are as many parts as ends
 pub count_of : (bytes : List ℕ) (from : ℕ) (ends : List ℕ) → length (parts_from bytes from ends) ≡ length ends

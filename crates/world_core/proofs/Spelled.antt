@@ -7,7 +7,7 @@ use Rattle.std.proofs.lemmas.Option.{get_or_from_slice_get, slice_get_within}
 use Rattle.std.specs.List.{filter_map}
 use Rattle.packet_mean.specs.Spelling.{full_bytes}
 use Rattle.run_mean.specs.Member.{Output, packet_in}
-use Rattle.world_core.specs.Standing.{spelled_of}
+use Rattle.group_feed.specs.Standing.{spelled_of}
 
 -- those among two lists of outputs
 pub spelled_append : (xs ys : List (Output × Option ℕ)) → spelled_of (xs ++ ys) ≡ spelled_of xs ++ spelled_of ys

@@ -24,9 +24,9 @@ use Rattle.view_core.specs.declared.step.Did.TheVariants as told
 use Rattle.view_core.specs.declared.step.Stepped.{Stepped}
 use Rattle.view_core.specs.declared.step.Stepped.TheVariants.{Taken, Refused}
 use Rattle.bypass_member.specs.Placed.{Placed, Steps, here_in, step_at, step_in, step_of, member_after}
-use Rattle.world_core.specs.Feeding.{IsFed}
+use Rattle.group_feed.specs.Feeding.{IsFed}
 use Rattle.world_core.specs.Seats.{Seat, member_of, seat_of, seat, seats, AreSeated}
-use Rattle.world_core.specs.Standing.{Peopled, Stands, Stays, spelled_number, spelled_of}
+use Rattle.group_feed.specs.Standing.{Peopled, Stands, Stays, spelled_number, spelled_of}
 
 -- outputs without their plans
 without_plans : (plans : List Plan) (next : Option ℕ) (outputs : List Output) → map (λ o. o.0) (with_plans plans next outputs) ≡ outputs

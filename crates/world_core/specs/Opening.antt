@@ -15,7 +15,7 @@ use Rattle.bypass_member.specs.declared.error.OpenError.{OpenError}
 use Rattle.bypass_member.specs.declared.error.OpenError.TheVariants.{TooLarge, Memory}
 use Rattle.bypass_member.specs.declared.opening.Opening.{Opening}
 use Rattle.world_core.specs.Seats.{member_of, seat_of, seats}
-use Rattle.world_core.specs.Standing.{Peopled, Stands}
+use Rattle.group_feed.specs.Standing.{Peopled, Stands}
 
 -- So many members are in the first view, and no packet was sent; as many layers were made as they have.
 pub record IsBegun (o : Opening) (n : ℕ) (before after : Making) (c : Peopled) : Type 0 where

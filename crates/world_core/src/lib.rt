@@ -1,13 +1,11 @@
 //! A group at work: its members, and every packet ever sent in it.
 #![tactic(auto)]
 
-mod feed;
 mod laws;
 mod members;
 mod packets;
 mod world;
 
-pub use feed::Feed;
 pub use laws::visits_are_few;
 // A crate can name a world in a contract only if the types of its fields are exported.
 #[doc(hidden)]

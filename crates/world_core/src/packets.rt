@@ -6,7 +6,7 @@ ghost use Rattle.packet_full.specs.Sent.{sent_packet};
 ghost use Rattle.packet_mean.specs.Spelling.{full_bytes};
 ghost use Rattle.step_outputs.specs.Views.{output_meant};
 ghost use Rattle.world_core.specs.Parts.{parts_from, start_of, EndAt};
-ghost use Rattle.world_core.specs.Standing.{spelled_number, spelled_of};
+ghost use Rattle.group_feed.specs.Standing.{spelled_number, spelled_of};
 
 use msg_core::Memory;
 use packet_full::{put_full_of, room_of};

@@ -8,21 +8,21 @@ ghost use Rattle.run_mean.specs.Member.{out as is_in_none};
 ghost use Rattle.run_mean.specs.World as mean;
 ghost use Rattle.view_core.specs.Steps.{input_meant};
 ghost use Rattle.bypass_member.specs.Opening.{CanOpen};
-ghost use Rattle.world_core.specs.Feeding.{Fed};
+ghost use Rattle.group_feed.specs.Feeding.{Fed};
 ghost use Rattle.world_core.specs.Opening.{Begins};
-ghost use Rattle.world_core.specs.Standing.{Stands, Stays};
+ghost use Rattle.group_feed.specs.Standing.{Stands, Stays};
 ghost use Rattle.msg_core.specs.View.{most_members};
 
-use crate::feed::Feed;
 use crate::members::{close_all, open_all};
 use crate::packets::Packets;
 use bypass_member::{Member, OpenError, Opening};
 use event_graph::Stack;
 use file_layer::Maker;
+use group_feed::Feed;
 use member_reads::Shown;
 use msg_core::Memory;
-use packet_plans::Plans;
 use script_mean::ScriptEvent;
+use stack_shapes::Plans;
 use std::alloc::{AllocError, Global};
 use std::marker::Model;
 use std::rc::Rc;
@@ -45,9 +45,9 @@ impl Model for World {
     ghost use Rattle.std.specs.Rc.{rc_value};
     ghost use Rattle.layer_mean.specs.Codes.{stack_code};
     ghost use Rattle.event_graph.specs.Answer.{stack_tree};
-    ghost use Rattle.packet_plans.specs.Trees.{plans_tree};
+    ghost use Rattle.stack_shapes.specs.Trees.{plans_tree};
     ghost use Rattle.world_core.specs.Seats.{member_of, AreSeated};
-    ghost use Rattle.world_core.specs.Standing.{Peopled};
+    ghost use Rattle.group_feed.specs.Standing.{Peopled};
 
     ghost Value = { Peopled };
 

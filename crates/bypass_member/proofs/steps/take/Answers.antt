@@ -1,3 +1,5 @@
+use Rattle.std.proofs.Common.{ap}
+use Rattle.layer_eval.specs.declared.predicted.Predicted.{Predicted}
 use Rattle.bypass_member.specs.Judged.{entry_meant}
 use Rattle.bypass_member.specs.Stepping.{stack_of, plans_in, step_over}
 use Rattle.bypass_member.specs.Working.{states_in}
@@ -12,5 +14,6 @@ returns-clause-taken c =
     c.play-predicted.ensures.played
     (c.is_common-common.ensures.common (stack_of c.args.ground.now) (plans_in c.args.ground.now)
     (step_over c.args.ground.now (states_in c.args.works.now) (entry_meant c.args.ground.now.here c.args.entry)) c.requires.ground.entries
-    (c.entry_of-what.ensures c.args.ground.now.here) c.play-predicted.ensures.played.predicted)
+    (c.entry_of-what.ensures c.args.ground.now.here) (ap (λ (p : Predicted). p.first) c.play-predicted.ensures.played.predicted)
+    (ap (λ (p : Predicted). p.second) c.play-predicted.ensures.played.predicted))
     c.change_view-change.ensures

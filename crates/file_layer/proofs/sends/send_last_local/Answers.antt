@@ -2,7 +2,8 @@ use Rattle.std.proofs.Common.{◌≡◌, [], ◌∷◌, ◌++◌, Some, map, get
 use Rattle.circular_buffer.specs.Buffer.{buffer}
 use Rattle.msg_core.specs.Chain.{plain}
 use Rattle.layer_mean.specs.Effect.{sent_as}
-use Rattle.layer_desk.specs.Laid.{event_in, sends}
+use Rattle.layer_desk.specs.Laid.{sends}
+use Rattle.layer_mean.specs.Envelope.{event_in}
 use Rattle.layer_desk.specs.Need.{Layout}
 use Rattle.pool_message.specs.Seen.{bodiless, refs, seen}
 use Rattle.pool_message.specs.Sent.{sent_behind, pool_event}

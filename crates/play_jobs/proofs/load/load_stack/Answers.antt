@@ -3,7 +3,7 @@ use Rattle.event_graph.specs.Answer.{stack_tree}
 use Rattle.job_mean.specs.Job.{layered, load}
 use Rattle.job_ends.specs.Comes.{around, Comes}
 use Rattle.play_jobs.proofs.Plays.{load_comes}
-use Rattle.play_jobs.proofs.Typed.{means_typed}
+use Rattle.file_jobs.proofs.Typed.{means_typed}
 use Rattle.play_jobs.proofs.load.load_stack.Goals as goal
 
 pub play_load-requires-clause-typed : goal.play_load-requires-clause-typed

@@ -5,8 +5,8 @@ use Rattle.job_ends.specs.Comes.{around, Comes}
 use Rattle.job_ends.specs.Shown.{shown}
 use Rattle.play_jobs.proofs.Events.{few_read}
 use Rattle.play_jobs.proofs.Plays.{replay_comes}
-use Rattle.play_jobs.proofs.Stops.{stops}
-use Rattle.play_jobs.proofs.Typed.{means_typed}
+use Rattle.file_jobs.proofs.SecondStops.{stops}
+use Rattle.file_jobs.proofs.Typed.{means_typed}
 use Rattle.play_jobs.proofs.replay.replay_script.Goals as goal
 
 pub play-requires-clause-typed : goal.play-requires-clause-typed

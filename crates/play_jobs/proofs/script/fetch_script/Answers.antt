@@ -1,6 +1,6 @@
 use Rattle.script_mean.specs.Script.{IsRunnable, script_of}
 use Rattle.job_ends.specs.Shown.{shown}
-use Rattle.play_jobs.proofs.Stops.{fetches, large_script, stops_unread}
+use Rattle.file_jobs.proofs.SecondStops.{fetches, large_script, stops_unread}
 use Rattle.play_jobs.proofs.script.fetch_script.Goals as goal
 
 pub returns-in-Ok : goal.returns-in-Ok

@@ -1,7 +1,7 @@
 use Rattle.std.proofs.Common.{sym, subst}
 use Rattle.script_mean.specs.Script.{script_of}
-use Rattle.play_jobs.specs.Second.{Refused}
-use Rattle.play_jobs.proofs.Stops.{refused_so}
+use Rattle.file_jobs.specs.Second.{Refused}
+use Rattle.file_jobs.proofs.SecondStops.{refused_so}
 use Rattle.play_jobs.proofs.script.judged.Goals as goal
 
 pub returns-in-Err : goal.returns-in-Err

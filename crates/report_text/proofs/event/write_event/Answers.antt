@@ -1,6 +1,6 @@
 use Rattle.std.proofs.Common.{ap, sym, ◌∙◌}
 use Rattle.event_graph.specs.Answer.{stack_tree}
-use Rattle.packet_plans.specs.Trees.{plans_tree}
+use Rattle.stack_shapes.specs.Trees.{plans_tree}
 use Rattle.script_mean.specs.Event.{member_of}
 use Rattle.outside.proofs.Turns.{wrote_as}
 use Rattle.report_text.specs.Numbered.{full_annex}

@@ -1,5 +1,5 @@
 use Rattle.std.proofs.lemmas.Result.{err_from_is_err_and}
-use Rattle.sink_lines.proofs.Turns.{wrote_both, wrote_part}
+use Rattle.outside.proofs.Turns.{wrote_both, wrote_part}
 use Rattle.report_text.proofs.output.write_output.Goals as goal
 
 pub returns-in_err-put_output : goal.returns-in_err-put_output

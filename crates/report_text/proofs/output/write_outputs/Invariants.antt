@@ -1,8 +1,8 @@
 use Rattle.std.proofs.Common.{◌≡◌, ◌+◌, ◌≤◌, take}
 use Rattle.event_graph.specs.Answer.{stack_tree}
 use Rattle.run_mean.specs.Report.{lines_of_outputs}
-use Rattle.sink_lines.specs.Lines.{Gains}
-use Rattle.sink_lines.specs.Tells.{tells_of}
+use Rattle.outside.specs.Lines.{Gains}
+use Rattle.outside.specs.Tells.{tells_of}
 use Rattle.report_text.specs.Numbered.{full_annex, number_after}
 use Rattle.report_text.proofs.output.write_outputs.Given as goal
 

@@ -1,5 +1,5 @@
 use Rattle.event_graph.specs.Answer.{stack_tree}
-use Rattle.packet_plans.specs.Trees.{plans_tree}
+use Rattle.stack_shapes.specs.Trees.{plans_tree}
 use Rattle.stack_play.proofs.Counted.{counted_event}
 use Rattle.stack_play.proofs.Events.{happened}
 use Rattle.stack_play.specs.declared.run.Run.{Run}

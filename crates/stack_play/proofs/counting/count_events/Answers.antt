@@ -1,6 +1,6 @@
 use Rattle.std.proofs.Common.{arith}
 use Rattle.event_graph.specs.Answer.{stack_tree}
-use Rattle.packet_plans.specs.Trees.{plans_tree}
+use Rattle.stack_shapes.specs.Trees.{plans_tree}
 use Rattle.stack_play.proofs.Counted.{first_counted, next_counted, few_counted, all_counted, one_of_them}
 use Rattle.stack_play.proofs.counting.count_events.Goals as goal
 

@@ -1,5 +1,5 @@
 use Rattle.event_graph.specs.Answer.{stack_tree}
-use Rattle.packet_plans.specs.Trees.{plans_tree}
+use Rattle.stack_shapes.specs.Trees.{plans_tree}
 use Rattle.script_text.specs.Course.{script_for}
 use Rattle.stack_play.proofs.Counted.{CountedSoFar}
 use Rattle.stack_play.proofs.counting.count_events.Given as goal

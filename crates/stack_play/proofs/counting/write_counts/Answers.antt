@@ -1,6 +1,6 @@
 use Rattle.std.proofs.Common.{ap, ◌∙◌}
 use Rattle.event_graph.specs.Answer.{stack_tree}
-use Rattle.packet_plans.specs.Trees.{plans_tree}
+use Rattle.stack_shapes.specs.Trees.{plans_tree}
 use Rattle.report_text.proofs.Gained.{counted_tally}
 use Rattle.report_text.specs.Counts.{tally_lines}
 use Rattle.outside.proofs.Turns.{wrote_as}

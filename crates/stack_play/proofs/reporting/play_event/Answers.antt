@@ -3,7 +3,7 @@ use Rattle.std.specs.Prelude.{slice_index_or}
 use Rattle.run_mean.specs.Member.{out}
 use Rattle.stack_play.proofs.Events.{happened, told_event}
 use Rattle.event_graph.specs.Answer.{stack_tree}
-use Rattle.packet_plans.specs.Trees.{plans_tree}
+use Rattle.stack_shapes.specs.Trees.{plans_tree}
 use Rattle.report_text.proofs.Moments.{told_full}
 use Rattle.stack_play.specs.declared.run.Run.{Run}
 use Rattle.stack_play.proofs.reporting.play_event.Goals as goal

@@ -1,7 +1,7 @@
 use Rattle.std.proofs.Common.{◌<◌, ◌∙◌, length, get_or, ap, arith}
 use Rattle.std.proofs.lemmas.Result.{err_from_is_err_and}
 use Rattle.event_graph.specs.Answer.{stack_tree}
-use Rattle.packet_plans.specs.Trees.{plans_tree}
+use Rattle.stack_shapes.specs.Trees.{plans_tree}
 use Rattle.stack_play.proofs.Held.{held_more, held_cut}
 use Rattle.stack_play.proofs.reporting.write_events.Goals as goal
 

@@ -1,5 +1,5 @@
 use Rattle.event_graph.specs.Answer.{stack_tree}
-use Rattle.packet_plans.specs.Trees.{plans_tree}
+use Rattle.stack_shapes.specs.Trees.{plans_tree}
 use Rattle.outside.specs.Tells.{tells_of}
 use Rattle.stack_play.proofs.Held.{Held}
 use Rattle.stack_play.proofs.reporting.write_events.Given as goal

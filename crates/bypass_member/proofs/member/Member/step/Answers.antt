@@ -2,7 +2,7 @@ use Rattle.std.proofs.Common.{◌≡◌, Option, Err, refl, sym, ap, subst, arit
 use Rattle.std.specs.Rc.{rc_value}
 use Rattle.msg_core.specs.declared.packet.View.{View}
 use Rattle.event_graph.specs.Answer.{stack_tree}
-use Rattle.packet_plans.specs.Trees.{plans_tree}
+use Rattle.stack_shapes.specs.Trees.{plans_tree}
 use Rattle.step_outputs.specs.Gathered.{Gathered}
 use Rattle.view_core.specs.Refusals.{refusal_meant}
 use Rattle.view_core.specs.Steps.{input_meant}

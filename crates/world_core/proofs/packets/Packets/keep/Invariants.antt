@@ -1,5 +1,5 @@
 use Rattle.std.proofs.Common.{◌≡◌, ◌++◌, take}
-use Rattle.world_core.specs.Standing.{spelled_of}
+use Rattle.group_feed.specs.Standing.{spelled_of}
 use Rattle.world_core.proofs.packets.Packets.keep.Given as goal
 
 abbrev pub invariant-loop-k : goal.invariant-loop-k

@@ -1,7 +1,7 @@
 use Rattle.std.proofs.Common.{ap}
 use Rattle.event_graph.specs.Answer.{stack_tree}
 use Rattle.file_layer.specs.Making.{making}
-use Rattle.packet_plans.specs.Trees.{plans_tree}
+use Rattle.stack_shapes.specs.Trees.{plans_tree}
 use Rattle.world_core.proofs.Begun.{begun, begun_seated}
 use Rattle.world_core.proofs.world.World.begin.Goals as goal
 

@@ -21,7 +21,7 @@ use Rattle.job_ends.proofs.Comes.{longer}
 use Rattle.file_jobs.specs.Stack.{IsStack}
 use Rattle.job_ends.specs.Shown.{shown}
 use Rattle.job_ends.specs.declared.ending.Ending.{Ending}
-use Rattle.play_jobs.specs.Second.{IsText, IsLarge, Unread, StopsAt, Fetches, Refused, Judges, refused_as, longest_second}
+use Rattle.file_jobs.specs.Second.{IsText, IsLarge, Unread, StopsAt, Fetches, Refused, Judges, refused_as, longest_second}
 
 -- A text of too many bytes.
 pub large : (name : Text) (told : Option Shelved) (reads reads_after : ℕ) →

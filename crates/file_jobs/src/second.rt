@@ -2,7 +2,7 @@
 
 ghost use Rattle.std.specs.Prelude.{◌≡◌};
 ghost use Rattle.job_ends.specs.Shown.{shown};
-ghost use Rattle.play_jobs.specs.Second.{Reads, refused_as};
+ghost use Rattle.file_jobs.specs.Second.{Reads, refused_as};
 
 use job_ends::Ending;
 use outside::{Got, Shelf, ShelfError};

@@ -11,7 +11,7 @@ use Rattle.job_mean.specs.Status.{Ended, second_refused, read_failed, no_memory,
 use Rattle.file_jobs.specs.Stack.{IsMissed}
 use Rattle.job_ends.specs.Shown.{shown}
 use Rattle.job_ends.specs.declared.ending.Ending.{Ending}
-use Rattle.play_jobs.specs.declared.second.TheConstants.{LONGEST_SECOND}
+use Rattle.file_jobs.specs.declared.second.TheConstants.{LONGEST_SECOND}
 
 -- The most bytes of a second file.
 abbrev pub longest_second : ℕ

@@ -5,7 +5,7 @@ use Rattle.run_mean.specs.Member.{Output}
 use Rattle.run_mean.specs.World.{Happening}
 use Rattle.view_core.specs.Happenings.{DidIs}
 use Rattle.view_core.specs.declared.step.Did.{Did}
-use Rattle.world_core.specs.Standing.{Peopled, Stands, Stays}
+use Rattle.group_feed.specs.Standing.{Peopled, Stands, Stays}
 
 -- The event was fed: the world behind it, and what is told of it, are those of what happened.
 pub record IsFed (c : Peopled) (h : Happening) (c' : Peopled) (outs : List (Output × Option ℕ)) (before after : ℕ) (did : Did) : Type 0 where

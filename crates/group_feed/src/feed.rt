@@ -4,8 +4,8 @@ ghost use Rattle.std.specs.Prelude.{◌≡◌, ◌+◌, ◌^◌, ◌<◌, ◌≤
 ghost use Rattle.stack_mean.specs.Acceptance.{largest_weight};
 ghost use Rattle.script_mean.specs.Event.{member_of};
 ghost use Rattle.run_mean.specs.World as mean;
-ghost use Rattle.world_core.specs.Feeding.{Fed};
-ghost use Rattle.world_core.specs.Standing.{Peopled, Stands, Stays};
+ghost use Rattle.group_feed.specs.Feeding.{Fed};
+ghost use Rattle.group_feed.specs.Standing.{Peopled, Stands, Stays};
 
 use msg_core::Memory;
 use script_mean::ScriptEvent;

@@ -1,6 +1,6 @@
 use Rattle.std.proofs.Common.{rules}
-use Rattle.play_jobs.proofs.Stops.{large}
-use Rattle.play_jobs.proofs.second.fetch_second.Goals as goal
+use Rattle.file_jobs.proofs.SecondStops.{large}
+use Rattle.file_jobs.proofs.second.fetch_second.Goals as goal
 
 pub returns-in-Ok-TooLong : goal.returns-in-Ok-TooLong
 returns-in-Ok-TooLong g c = large _ _ _ _ (rw c.in-Ok-TooLong.field-0-is at c.in-Ok-TooLong.ensures.answered) (search rules)

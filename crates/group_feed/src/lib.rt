@@ -1,0 +1,6 @@
+//! What it is to feed a group with events: its meaning, and what its answers say, for whatever keeps the group's members.
+#![tactic(auto)]
+
+mod feed;
+
+pub use feed::Feed;
