@@ -29,7 +29,10 @@ pub fn short(
     headers: &Headers,
     body: &[u8],
 ) -> Result<Vec<u8>, AllocError> {
-    let mut bytes = Vec::with_capacity(alloc, room_of(headers, body) + 1)?;
+    let Some(room) = room_of(headers, body).checked_add(1) else {
+        return Err(AllocError);
+    };
+    let mut bytes = Vec::with_capacity(alloc, room)?;
     let _is_put = put_short_of(plan, 0, here, dest, headers, body, &mut bytes);
     Ok(bytes)
 }
