@@ -394,7 +394,7 @@ pub enum Built {
 }
 
 /// An operator between two numbers.
-#[derive(Clone, Copy, PartialEq, Eq, Debug)]
+#[derive(Clone, Copy, PartialEq, Eq, Hash, Debug)]
 pub enum Operator {
     /// `+`
     Add,
@@ -427,7 +427,7 @@ pub enum Operator {
 }
 
 /// A function of one number.
-#[derive(Clone, Copy, PartialEq, Eq, Debug)]
+#[derive(Clone, Copy, PartialEq, Eq, Hash, Debug)]
 pub enum Function {
     /// `not`
     Not,
