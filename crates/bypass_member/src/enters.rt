@@ -17,9 +17,10 @@ use crate::entry::Entry;
 use event_graph::Stack;
 use layer_ast::{Dir, Kind};
 use layer_mean::Envelope;
-use msg_core::{Dest, Headers};
+use msg_core::Headers;
 use packet_full::Scan;
 use packet_mean::Here;
+use packet_short::kind_of;
 use slot_pool::Pool;
 use stack_queue::{BareTask, Tasks};
 
@@ -45,16 +46,6 @@ fn of_peer(kind: Kind, peer: u32) -> Envelope
         peer,
         a: 0,
         b: 0,
-    }
-}
-
-/// The kind of a packet to a destination.
-fn kind_of(dest: Dest) -> Kind
-    ensures { result ≡ mean.kind_of dest }
-{
-    match dest {
-        Dest::All => Kind::Cast,
-        Dest::Rank(_) => Kind::Send,
     }
 }
 

@@ -17,7 +17,7 @@ pub enum NoRoom {
     /// A message would have more headers than there are places above.
     #[error("headers")]
     Headers,
-    /// The desk wasn't made for this layer: a queue's rows, or the names of a scope, are more than it has places for.
+    /// The desk wasn't made for this layer: the rows of a queue are more than it has places for.
     #[error("misfit")]
     Misfit,
 }

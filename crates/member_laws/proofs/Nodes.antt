@@ -1,9 +1,8 @@
 -- A node's journal is made of bytes and numbers where its plan, its clock and its network are.
-use Rattle.std.proofs.Common.{ℕ, zero, suc, ◌+◌, ◌==◌, Bool, List, [], ◌∷◌, ◌++◌, map, length, Option, Some, None}
+use Rattle.std.proofs.Common.{ℕ, zero, suc, ◌+◌, List, [], ◌∷◌, ◌++◌, map, length, Option, Some, None}
 use Rattle.std.specs.Prelude.{take, drop, zip}
-use Rattle.std.specs.List.{AllByRecursion, filter}
+use Rattle.std.specs.List.{AllByRecursion}
 use Rattle.packet_mean.specs.ChainedState.{IsNumber}
-use Rattle.script_mean.specs.declared.event.ScriptEvent.{ScriptEvent}
 use Rattle.script_mean.specs.declared.event.ScriptEvent.TheVariants.{Tick}
 use Rattle.script_mean.specs.declared.plan.NodePlan.{NodePlan}
 use Rattle.run_mean.specs.Journal.{Heard, datagram, silence, failure, Note, fed, deaf, hearing, journal, planned_events, while_patient, notes_from, notes_of}
@@ -11,7 +10,7 @@ use Rattle.run_mean.specs.World.{first_world}
 use Rattle.chain_laws.proofs.Lists.{each_map, each_append, each_take, each_drop}
 use Rattle.member_laws.specs.Members.{IsGivenEvent}
 use Rattle.member_laws.proofs.Members.{first_world_is_chained}
-use Rattle.member_laws.specs.Nodes.{IsHeard, IsGivenNode, NodesAreChained}
+use Rattle.member_laws.specs.Nodes.{IsHeard, NodesAreChained}
 use Rattle.member_laws.proofs.Numbered.{each_filter, worlds_are_chained}
 
 -- a note whose event is made of bytes and numbers

@@ -19,7 +19,7 @@ use packet_full::Scan;
 use stack_shapes::{Plan, Plans, Print};
 
 /// The kind of a packet to a destination.
-pub(crate) fn kind_of(dest: Dest) -> Kind
+pub fn kind_of(dest: Dest) -> Kind
     ensures { result ≡ mean.kind_of dest }
 {
     match dest {

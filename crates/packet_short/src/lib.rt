@@ -11,7 +11,7 @@ mod scan;
 mod write;
 
 pub use error::NotFitting;
-pub use fit::{fits, fits_scan};
+pub use fit::{fits, fits_scan, kind_of};
 pub use laws::written_short_is_read;
 pub use scan::scan_packet;
 pub use write::put_short_of;

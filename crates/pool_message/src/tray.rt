@@ -178,13 +178,6 @@ impl Tray {
         }
     }
 
-    /// How many messages a scope may have.
-    pub fn messages_places(&self) -> usize
-        ensures { result ≡ self.now.messages.capacity }
-    {
-        self.messages.capacity()
-    }
-
     /// Whether the scope has a message number `k`.
     pub fn has_message(&self, k: usize) -> bool
         ensures { result ≡ nat_lt k (length self.now.messages.items) }

@@ -1,5 +1,5 @@
 -- The ids of a view, from a place of its mask on.
-use Rattle.std.proofs.Common.{◌≡◌, ℕ, suc, ◌+◌, ◌-◌, ◌<◌, ◌^◌, Bool, true, false, refl, sym, ap, ◌∙◌, arith, ◌≤◌, List, [], ◌∷◌, Option, Some, None, ◌≢◌, inl, inr}
+use Rattle.std.proofs.Common.{◌≡◌, ℕ, suc, ◌+◌, ◌-◌, ◌<◌, ◌^◌, Bool, true, false, refl, ap, ◌∙◌, arith, ◌≤◌, List, [], ◌∷◌, Option, Some, None, ◌≢◌, inl, inr}
 use Rattle.std.proofs.lemmas.Bool.Decides.{eqb_tells}
 use Rattle.std.specs.Prelude.{◌==◌, cond, if◌then◌else◌}
 use Rattle.std.specs.Int.{bit_at}

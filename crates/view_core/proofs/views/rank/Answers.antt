@@ -1,5 +1,4 @@
-use Rattle.std.proofs.Common.{◌≡◌, ◌∙◌, sym, arith, ap, ◌+◌}
-use Rattle.msg_core.specs.View as members
+use Rattle.std.proofs.Common.{◌∙◌, sym, arith, ap, ◌+◌}
 use Rattle.view_core.proofs.Ids.{rank_from, rank_begins, rank_ends, rank_here, rank_past, rank_without}
 use Rattle.view_core.proofs.views.rank.Goals as goal
 use Rattle.view_core.proofs.views.rank.Goals.{then-has+else-other-id, else-has}
