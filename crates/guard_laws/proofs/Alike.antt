@@ -62,7 +62,7 @@ module _ (i : Input) (kept : Kept) (ss : List State) where
   core_alike body body is = refl
   core_alike (noted k) (noted j) is = ap (λ k. length (core_at i kept (noted k)).body) (eqb-true k j is)
   core_alike (taken_message r x) (taken_message q y) is =
-      ap (λ r. length (core_at i kept (taken_message r x)).body) (eqb-true r q is) ∙ held_bytes x y (slice_index_or kept.rows q None)
+      ap (λ r. length (core_at i kept (taken_message r x)).body) (eqb-true r q (and_parts (r == q) _ is).0) ∙ held_bytes x y (slice_index_or kept.rows q None)
   core_alike nothing nothing is = refl
   core_alike _ _ is = absurd (false≢true is)
 
@@ -107,7 +107,8 @@ module _ (i : Input) (kept : Kept) (ss : List State) where
     message_alike (core c) (core d) is = core_alike c d is
     message_alike (held p c e r a) (held q d f t b) is =
         let x = and_parts (p == q) _ is in let y = and_parts (c == d) _ x.1 in let w = and_parts (same_number e f) _ y.1 in
-        let ep = eqb-true p q x.0 in let ec = eqb-true c d y.0 in let ee = number_alike e f w.0 in let er = number_alike r t w.1 in
+        let v = and_parts (same_number r t) _ w.1 in
+        let ep = eqb-true p q x.0 in let ec = eqb-true c d y.0 in let ee = number_alike e f w.0 in let er = number_alike r t v.0 in
         (λ z. length (message_in a (row_at (state_of ss (ep z)) (ec z) (ee z) (er z))).body)
         ∙ held_bytes a b (row_at (state_of ss q) d (number_of i kept ss f) (number_of i kept ss t))
     message_alike (cut m f n) (cut w g k) is =
