@@ -96,6 +96,13 @@ abbrev pub bypass_lines : List LayerTree → List Plan → Bypasses → List (Li
 bypass_lines stack plans b = entry_lines stack b 0 (codes "cast") ++ entry_lines stack b 1 (codes "send") ++ plans_lines stack b 0 plans
     ++ end_line b ∷ []
 
+-- The same as it is printed, each line with its end.
+abbrev pub ended_line : List ℕ → List ℕ
+ended_line line = line ++ codes "\n"
+
+abbrev pub printed_lines : List LayerTree → List Plan → Bypasses → List (List ℕ)
+printed_lines stack plans b = map ended_line (bypass_lines stack plans b)
+
 -- Their traces as a file: those that were made, each with its notes.
 abbrev pub trace_lines : List LayerTree → List ℕ → Made → List (List ℕ)
 trace_lines stack heading (fused trace guarded) = heading ∷ operation_lines true stack trace
