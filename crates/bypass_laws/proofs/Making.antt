@@ -29,8 +29,9 @@ use Rattle.trace_form_laws.proofs.Plans.{plans_are_entries}
 use Rattle.trace_form_laws.proofs.WellFormed.{traces_are_well_formed}
 use Rattle.bypass_mean.specs.Bypasses.{Entry, cast_entry, send_entry, plan_entry}
 use Rattle.bypass_laws.specs.Stack.{lack_of, a_write, trace_writes, HasOutputs, IsTrace, IsMade, IsSecond}
-use Rattle.bypass_laws.specs.Making.{made_with, made_of, second_of, Guards, IsSound, simplest, MadeAreOfStack, SimplestAreOfStack}
+use Rattle.bypass_laws.specs.Making.{made_with, made_of, second_of, Guards, Reduces, IsSound, simplest, MadeAreOfStack, SimplestAreOfStack}
 use Rattle.guard_mean.specs.Prune.{hoist}
+use Rattle.guard_laws.proofs.NoSimpler.{simplified_is_reduced}
 use Rattle.bypass_laws.proofs.Guards.{hoisting_guards, simplifying_guards}
 
 -- an accepted stack has no cycle
@@ -54,7 +55,7 @@ writes_count (o ∷ os) = omega (arith, sum_by-cons a_write o os, sum_by-cons co
   one (take p c e) = omega arith
   one (output dir kind numbers message) = omega arith
 
-module _ (stack : List LayerTree) (sound : IsSound stack) (guard : List Operation → Guarded) (guards : Guards guard stack) where
+module _ (stack : List LayerTree) (sound : IsSound stack) (guard : List Operation → Guarded) (guards : Guards guard stack) (reduces : Reduces guard) where
   trace_is : (case : Case) (e : Entry) (s : Shape) (trace : List Operation) → IsEntry stack e.known → shape stack e.known case ≡ Ok s →
       trace_of case stack e.known e.fields ≡ Ok trace → nat_le s.length longest_shape ≡ true → told_by_shape s ≡ told_by_trace trace →
       IsTrace case stack e trace
@@ -81,6 +82,7 @@ module _ (stack : List LayerTree) (sound : IsSound stack) (guard : List Operatio
               within = ap lack_of drawn ∙ ap (λ c. if c then None else Some long) is;
               trace_is = trace_is case e s trace entry drawn made is same;
               guard_is = guards case e trace made;
+              reduced = reduces trace;
             }
 
         go : (x : Result Shape NoShape) (r : Result (List Operation) NoShape) → shape stack e.known case ≡ x → trace_of case stack e.known e.fields ≡ r →
@@ -106,18 +108,19 @@ module _ (stack : List LayerTree) (sound : IsSound stack) (guard : List Operatio
   plans_second (plan ∷ plans) h = (second_is (plan_entry plan) h.0, plans_second plans h.1)
 
 pub made_are_of_stack : MadeAreOfStack
-made_are_of_stack guard stack sound guards =
+made_are_of_stack guard stack sound guards reduces =
     let plans = plans_are_entries stack (typed_is_orderly stack sound.typed) in record {
       made = (
-        made_is stack sound guard guards First cast_entry (record { carried = refl; tags = tt }),
-        (made_is stack sound guard guards First send_entry (record { carried = refl; tags = tt }), plans_made stack sound guard guards (plans_of stack) plans),
+        made_is stack sound guard guards reduces First cast_entry (record { carried = refl; tags = tt }),
+        (made_is stack sound guard guards reduces First send_entry (record { carried = refl; tags = tt }), plans_made stack sound guard guards reduces (plans_of stack) plans),
       );
       second = (
-        second_is stack sound guard guards cast_entry (record { carried = refl; tags = tt }),
-        (second_is stack sound guard guards send_entry (record { carried = refl; tags = tt }), plans_second stack sound guard guards (plans_of stack) plans),
+        second_is stack sound guard guards reduces cast_entry (record { carried = refl; tags = tt }),
+        (second_is stack sound guard guards reduces send_entry (record { carried = refl; tags = tt }), plans_second stack sound guard guards reduces (plans_of stack) plans),
       );
     }
 
 pub simplest_are_of_stack : SimplestAreOfStack
 simplest_are_of_stack stack sound =
     made_are_of_stack simplest stack sound (simplifying_guards hoist stack (hoisting_guards stack sound.named))
+    (λ operations. simplified_is_reduced (hoist operations))

@@ -1,5 +1,5 @@
 -- Bypasses that are made of the definition's traces, by a way of guarding these; and that they are the stack's.
-use Rattle.std.specs.Prelude.{◌≡◌, if◌then◌else◌, List, map, Option, Some, None, Result, Ok, Err}
+use Rattle.std.specs.Prelude.{◌≡◌, true, if◌then◌else◌, List, map, Option, Some, None, Result, Ok, Err}
 use Rattle.layer_mean.specs.declared.run.Case.{Case}
 use Rattle.layer_mean.specs.declared.run.Case.TheVariants.{First, Second}
 use Rattle.layer_mean.specs.Tree.{LayerTree}
@@ -11,6 +11,7 @@ use Rattle.file_laws.specs.Named.{NamedStack}
 use Rattle.trace_mean.specs.Trace.{Operation, Guarded}
 use Rattle.trace_mean.specs.Fuse.{trace_of}
 use Rattle.guard_mean.specs.Prune.{hoist}
+use Rattle.guard_mean.specs.Reduced.{is_reduced}
 use Rattle.guard_mean.specs.Simplify.{simplified}
 use Rattle.bypass_mean.specs.Bypasses.{Entry, entries_of, Made, fused, absent, Bypasses}
 use Rattle.bypass_laws.specs.Stack.{lack_of, IsGuard, AreOfStack}
@@ -38,6 +39,10 @@ abbrev pub Guards : (List Operation → Guarded) → List LayerTree → Type 0
 Guards guard stack = (case : Case) (e : Entry) (trace : List Operation) → trace_of case stack e.known e.fields ≡ Ok trace →
     IsGuard stack e trace (guard trace)
 
+-- A way of guarding that leaves nothing to make simpler.
+abbrev pub Reduces : (List Operation → Guarded) → Type 0
+Reduces guard = (operations : List Operation) → is_reduced (guard operations) ≡ true
+
 -- A stack of typed layers that name only what is there, and that is accepted.
 pub record IsSound (stack : List LayerTree) : Type 0 where
   pub typed : TypedStack stack
@@ -46,7 +51,7 @@ pub record IsSound (stack : List LayerTree) : Type 0 where
 
 -- So what is made of it is its own.
 abbrev pub MadeAreOfStack : Type 0
-MadeAreOfStack = (guard : List Operation → Guarded) (stack : List LayerTree) → IsSound stack → Guards guard stack →
+MadeAreOfStack = (guard : List Operation → Guarded) (stack : List LayerTree) → IsSound stack → Guards guard stack → Reduces guard →
     AreOfStack stack (bypasses_of guard stack)
 
 -- Hoisting is such a way, and what is simplified behind such a way is one, too.

@@ -20,6 +20,7 @@ use Rattle.trace_form_laws.specs.Entries.{entry_node}
 use Rattle.trace_form_laws.specs.There.{AreThere}
 use Rattle.trace_form_laws.specs.WellFormed.{IsWellFormed}
 use Rattle.guard_mean.specs.Closed.{is_closed}
+use Rattle.guard_mean.specs.Reduced.{is_reduced}
 use Rattle.guard_mean.specs.Perform.{holds, ended, performed}
 use Rattle.bypass_mean.specs.Bypasses.{Entry, entries_of, Made, fused, absent, Bypasses}
 
@@ -67,11 +68,13 @@ pub record IsGuard (stack : List LayerTree) (e : Entry) (trace : List Operation)
   pub joins : trace_joins guarded.operations ≤ trace_joins trace
   pub outputs : trace_outputs guarded.operations ≤ trace_outputs trace
 
--- What is made of an entry in a case: a trace and a guarded handler of it exactly where its shape is within the limit, and else the reason.
+-- What is made of an entry in a case: a trace and a guarded handler of it, which can't be made simpler, exactly where its shape is within the limit,
+-- and else the reason.
 pub record IsFused (case : Case) (stack : List LayerTree) (e : Entry) (trace : List Operation) (guarded : Guarded) : Type 0 where
   pub within : lack_of (shape stack e.known case) ≡ None
   pub trace_is : IsTrace case stack e trace
   pub guard_is : IsGuard stack e trace guarded
+  pub reduced : is_reduced guarded ≡ true
 
 abbrev pub IsMade : Case → List LayerTree → Entry → Made → Type 0
 IsMade case stack e (fused trace guarded) = IsFused case stack e trace guarded
