@@ -1,0 +1,7 @@
+pub mod Chains
+pub mod Follows
+pub mod Joins
+pub mod Loops
+pub mod Planned
+pub mod Printed
+pub mod Read

@@ -1,0 +1,9 @@
+pub mod Cells
+pub mod Counts
+pub mod Entries
+pub mod Headers
+pub mod Lines
+pub mod Nodes
+pub mod Operations
+pub mod Texts
+pub mod Written

@@ -1,0 +1,196 @@
+//! The lines of what is made of entries.
+
+ghost use Rattle.std.specs.Prelude.{◌≡◌, ◌++◌, ◌∷◌, [], OnOk, codes, option_map};
+ghost use Rattle.std.specs.Fmt.{decimal};
+ghost use Rattle.bypass_mean.specs.Lines.{ended_line, guarded_lines, made_lines, reason_text};
+ghost use Rattle.event_graph.specs.Answer.{stack_tree};
+ghost use Rattle.outside.specs.Lines.{Wrote};
+ghost use Rattle.outside.specs.Tells.{tells_of};
+ghost use Rattle.shape_core.specs.Cases.{reason_tree};
+ghost use Rattle.synth_print.specs.Entries.{case_lines, heading, name_text, second_lines};
+ghost use Rattle.synth_print.specs.Lines.{ended};
+ghost use Rattle.trace_core.specs.Bypasses.{first_tree, made_tree, second_tree};
+ghost use Rattle.trace_core.specs.Trees.{guarded_tree};
+
+use crate::handler::write_handler;
+use crate::name::Name;
+use event_graph::Stack;
+use msg_core::Memory;
+use outside::{Sink, SinkError, put_line};
+use report_lines::Line;
+use shape_core::Absent;
+use std::alloc::Global;
+use trace_core::{Cases, Guarded, Made};
+
+/// How an entry is called.
+pub(crate) fn push_name(line: &mut Line, name: Name) -> Result<(), Memory>
+    ensures { OnOk result (line.new ≡ line.old ++ name_text name) }
+{
+    match name {
+        Name::Cast => line.text(b"cast"),
+        Name::Send => line.text(b"send"),
+        Name::Plan(number) => {
+            line.text(b"plan ")?;
+            line.number(number)
+        }
+    }
+}
+
+/// What the lines of a case of an entry begin with.
+fn push_heading(line: &mut Line, name: Name, second: bool) -> Result<(), Memory>
+    ensures { OnOk result (line.new ≡ line.old ++ heading name second) }
+{
+    line.text(b"entry ")?;
+    push_name(line, name)?;
+    if second {
+        line.text(b" second")
+    } else {
+        Ok(())
+    }
+}
+
+/// A word and a place.
+fn push_placed(line: &mut Line, word: &[u8], place: u8) -> Result<(), Memory>
+    ensures { OnOk result (line.new ≡ line.old ++ word.now ++ decimal place) }
+{
+    line.text(word)?;
+    line.number(u64::from(place))
+}
+
+/// Why there is no trace.
+fn push_reason(line: &mut Line, reason: Absent) -> Result<(), Memory>
+    ensures { OnOk result (line.new ≡ line.old ++ reason_text (reason_tree reason)) }
+{
+    match reason {
+        Absent::Loop(place) => push_placed(line, b"loop ", place),
+        Absent::Rare(place) => push_placed(line, b"rare ", place),
+        Absent::Stored(place) => push_placed(line, b"stored ", place),
+        Absent::Long => line.text(b"long"),
+        Absent::Same => line.text(b"same"),
+    }
+}
+
+/// Builds the line of a case without a trace.
+fn build_absent(line: &mut Line, name: Name, second: bool, reason: Absent) -> Result<(), Memory>
+    ensures { OnOk result (line.new ≡ line.old ++ ended_line (heading name second ++ codes " absent " ++ reason_text (reason_tree reason))) }
+{
+    push_heading(line, name, second)?;
+    line.text(b" absent ")?;
+    push_reason(line, reason)?;
+    line.text(b"\n")
+}
+
+/// Puts the line of a case without a trace.
+fn write_absent<O: Sink>(
+    line: &mut Line,
+    name: Name,
+    second: bool,
+    reason: Absent,
+    out: &mut O,
+) -> Result<(), SinkError>
+    ensures { Wrote (ended_line (heading name second ++ codes " absent " ++ reason_text (reason_tree reason)) ∷ [])
+        (tells_of O.Sink out.old) (tells_of O.Sink out.new) result }
+{
+    line.clear();
+    match build_absent(line, name, second, reason) {
+        Ok(()) => put_line(line.slice(), out),
+        Err(Memory) => Err(SinkError::Memory),
+    }
+}
+
+/// Builds the first line of a case with a trace.
+fn build_fused(line: &mut Line, name: Name, second: bool) -> Result<(), Memory>
+    ensures { OnOk result (line.new ≡ line.old ++ ended_line (heading name second ++ codes " fused")) }
+{
+    push_heading(line, name, second)?;
+    line.text(b" fused\n")
+}
+
+/// Puts the first line of a case with a trace.
+fn write_heading<O: Sink>(
+    line: &mut Line,
+    name: Name,
+    second: bool,
+    out: &mut O,
+) -> Result<(), SinkError>
+    ensures { Wrote (ended_line (heading name second ++ codes " fused") ∷ [])
+        (tells_of O.Sink out.old) (tells_of O.Sink out.new) result }
+{
+    line.clear();
+    match build_fused(line, name, second) {
+        Ok(()) => put_line(line.slice(), out),
+        Err(Memory) => Err(SinkError::Memory),
+    }
+}
+
+/// Puts the lines of a case with a trace.
+fn write_fused<O: Sink>(
+    alloc: Global,
+    line: &mut Line,
+    stack: &Stack,
+    name: Name,
+    second: bool,
+    guarded: &Guarded,
+    out: &mut O,
+) -> Result<(), SinkError>
+    ensures { Wrote (ended_line (heading name second ++ codes " fused") ∷ ended (guarded_lines (stack_tree stack.now) (guarded_tree guarded.now)))
+        (tells_of O.Sink out.old) (tells_of O.Sink out.new) result }
+{
+    write_heading(line, name, second, out)?;
+    write_handler(alloc, line, stack, guarded, out)
+}
+
+/// Puts the lines of what is made of an entry in a case.
+fn write_made<O: Sink>(
+    alloc: Global,
+    line: &mut Line,
+    stack: &Stack,
+    name: Name,
+    second: bool,
+    made: &Made,
+    out: &mut O,
+) -> Result<(), SinkError>
+    ensures { Wrote (ended (made_lines (stack_tree stack.now) (heading name second) (made_tree made.now)))
+        (tells_of O.Sink out.old) (tells_of O.Sink out.new) result }
+{
+    match made {
+        Made::Fused(bypass) => {
+            write_fused(alloc, line, stack, name, second, &bypass.guarded, out)
+        }
+        Made::Absent(reason) => write_absent(line, name, second, *reason, out),
+    }
+}
+
+/// Puts the lines of what is made of an entry in its second case, if there is one.
+fn write_second<O: Sink>(
+    alloc: Global,
+    line: &mut Line,
+    stack: &Stack,
+    name: Name,
+    made: &Option<Made>,
+    out: &mut O,
+) -> Result<(), SinkError>
+    ensures { Wrote (second_lines (stack_tree stack.now) name (option_map made_tree made.now))
+        (tells_of O.Sink out.old) (tells_of O.Sink out.new) result }
+{
+    match made {
+        Some(made) => write_made(alloc, line, stack, name, true, made, out),
+        None => Ok(()),
+    }
+}
+
+/// Puts the lines of what is made of an entry: in its first case, and in its second where there is one.
+pub(crate) fn write_cases<O: Sink>(
+    alloc: Global,
+    line: &mut Line,
+    stack: &Stack,
+    name: Name,
+    cases: &Cases,
+    out: &mut O,
+) -> Result<(), SinkError>
+    ensures { Wrote (case_lines (stack_tree stack.now) name (first_tree cases.now) (second_tree cases.now))
+        (tells_of O.Sink out.old) (tells_of O.Sink out.new) result }
+{
+    write_made(alloc, line, stack, name, false, &cases.first, out)?;
+    write_second(alloc, line, stack, name, &cases.second, out)
+}

@@ -1,0 +1,84 @@
+//! Symbols and words of operators, functions, directions and kinds.
+#![tactic(auto, unfolding(layer_ast::specs::Spelling::kinds, layer_ast::specs::Spelling::reserved, layer_ast::specs::Spelling::symbols))]
+
+ghost use Rattle.std.specs.Prelude.{◌≡◌};
+ghost use Rattle.bypass_mean.specs.Lines.{packet_word};
+ghost use Rattle.bypass_mean.specs.Text.{sign_text};
+ghost use Rattle.job_mean.specs.Status as status;
+ghost use Rattle.layer_ast.specs.Printed.{direction_sign, function_sign, operator_sign};
+
+use layer_ast::{Dir, Function, Kind, Operator};
+
+/// The symbol or word of an operator.
+pub(crate) fn operator_text(operator: Operator) -> &'static [u8]
+    ensures { result.now ≡ sign_text (operator_sign operator) }
+{
+    match operator {
+        Operator::Add => b"+",
+        Operator::Subtract => b"-",
+        Operator::Multiply => b"*",
+        Operator::Equal => b"==",
+        Operator::NotEqual => b"!=",
+        Operator::Less => b"<",
+        Operator::LessOrEqual => b"<=",
+        Operator::Greater => b">",
+        Operator::GreaterOrEqual => b">=",
+        Operator::And => b"and",
+        Operator::Or => b"or",
+        Operator::BitAnd => b"&",
+        Operator::BitOr => b"|",
+        Operator::BitXor => b"^",
+    }
+}
+
+/// The word of a function.
+pub(crate) fn function_text(function: Function) -> &'static [u8]
+    ensures { result.now ≡ sign_text (function_sign function) }
+{
+    match function {
+        Function::Not => b"not",
+        Function::Bit => b"bit",
+        Function::Count => b"count",
+        Function::Lowest => b"lowest",
+    }
+}
+
+/// The word of a direction.
+pub(crate) fn direction_text(dir: Dir) -> &'static [u8]
+    ensures { result.now ≡ sign_text (direction_sign dir) }
+{
+    match dir {
+        Dir::Up => b"up",
+        Dir::Down => b"down",
+    }
+}
+
+/// The word of a kind of event.
+pub(crate) fn kind_text(kind: Kind) -> &'static [u8]
+    ensures { result.now ≡ status.kind_word kind }
+{
+    match kind {
+        Kind::Cast => b"Cast",
+        Kind::Send => b"Send",
+        Kind::Timer => b"Timer",
+        Kind::Suspect => b"Suspect",
+        Kind::Stable => b"Stable",
+        Kind::Ack => b"Ack",
+        Kind::Elect => b"Elect",
+        Kind::Block => b"Block",
+        Kind::BlockOk => b"BlockOk",
+        Kind::Flushed => b"Flushed",
+        Kind::View => b"View",
+        Kind::Leave => b"Leave",
+    }
+}
+
+/// The word of the packets of a kind.
+pub(crate) fn packet_text(kind: Kind) -> &'static [u8]
+    ensures { result.now ≡ packet_word kind }
+{
+    match kind {
+        Kind::Cast => b"cast",
+        _ => b"send",
+    }
+}
