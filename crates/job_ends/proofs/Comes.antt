@@ -9,7 +9,6 @@ use Rattle.program_laws.proofs.Files.{one_meaning}
 use Rattle.job_mean.specs.Job.{Job, check, synth, replay, load, node, audit}
 use Rattle.job_mean.specs.Status.{Ended, done, breached, write_failed, no_memory}
 use Rattle.program_mean.specs.Headline.{Run, second_for, whole_end, WritesOf}
-use Rattle.layer_mean.specs.Tree.{LayerTree}
 use Rattle.script_mean.specs.Generate.{generate}
 use Rattle.script_mean.specs.declared.script.Script.{Script}
 use Rattle.script_mean.specs.Script.{ScriptFault}
@@ -19,8 +18,10 @@ use Rattle.stack_mean.specs.Plans.{plans_of}
 use Rattle.run_mean.specs.Report.{output_in}
 use Rattle.run_mean.specs.Tally.{tally, accepted_lines}
 use Rattle.program_mean.specs.Output.{finding_line}
+use Rattle.bypass_mean.specs.Lines.{printed_lines}
+use Rattle.bypass_laws.specs.Printed.{synth_lines, synth_text}
 use Rattle.std.specs.Prelude.{Result, Ok}
-use Rattle.job_ends.specs.Comes.{Around, Beside, Finds, file_name, IsOutput, Good, Writes, Comes}
+use Rattle.job_ends.specs.Comes.{Around, Beside, Finds, file_name, Synthesized, IsOutput, Good, Writes, Comes}
 
 -- A job's output was written, or begun.
 pub written : (job : Job) (a : Around) (good : Good job a.told) (end : Ended) → a.reads_after ≡ a.reads →
@@ -48,12 +49,17 @@ longer (Some shelf) name most h = found (found_in shelf name) h where
   found None h = absurd h
   found (Some file) h = (file, refl, h)
 
+-- What a synthesis writes is what is printed of its stack.
+printed : (file : List ℕ) (lines : List (List ℕ)) (o : Synthesized file lines) → lines ≡ synth_lines o.stack
+printed file lines o = o.written ∙ ap (printed_lines o.stack (plans_of o.stack)) o.simplest
+
 -- An output as the program's definitions have it.
-pub writes_of : (print : List LayerTree → List ℕ) (job : Job) (r : Run) (file second : List ℕ) (lines : List (List ℕ)) →
-    IsOutput job file second lines → r.sent ≡ [] → WritesOf print job r file second (concat lines)
-writes_of print (check name) r file second lines o none = (record { stack = o.stack; means = o.means; written = ap concat o.written }, none)
-writes_of print (synth name) r file second lines o none = absurd o
-writes_of print (replay name script mode wire count) r file second lines o none = (
+pub writes_of : (job : Job) (r : Run) (file second : List ℕ) (lines : List (List ℕ)) → IsOutput job file second lines → r.sent ≡ [] →
+    WritesOf synth_text job r file second (concat lines)
+writes_of (check name) r file second lines o none = (record { stack = o.stack; means = o.means; written = ap concat o.written }, none)
+writes_of (synth name) r file second lines o none =
+    (record { stack = o.stack; means = o.means; written = ap concat (printed file lines o) }, none)
+writes_of (replay name script mode wire count) r file second lines o none = (
   record {
     stack = o.stack;
     means = o.means;
@@ -64,10 +70,10 @@ writes_of print (replay name script mode wire count) r file second lines o none 
   },
   none,
 )
-writes_of print (load name seed events members raw mode) r file second lines o none =
+writes_of (load name seed events members raw mode) r file second lines o none =
     (record { stack = o.stack; means = o.means; room = o.room; written = ap concat o.written }, none)
-writes_of print (node name plan turns me patience mode) r file second lines o none = absurd o
-writes_of print (audit name law) r file second lines o none =
+writes_of (node name plan turns me patience mode) r file second lines o none = absurd o
+writes_of (audit name law) r file second lines o none =
     (record { finding = o.finding; found = o.found; written = ap concat o.written ∙ append-nil (finding_line o.finding) }, none)
 
 -- Files have one output.
@@ -75,7 +81,8 @@ pub output_once : (job : Job) (file second : List ℕ) (one other : List (List �
     one ≡ other
 output_once (check name) file second one other x y =
     x.written ∙ ap accepted_lines (one_meaning file x.stack y.stack x.means y.means) ∙ sym y.written
-output_once (synth name) file second one other x y = absurd x
+output_once (synth name) file second one other x y =
+    printed file one x ∙ ap synth_lines (one_meaning file x.stack y.stack x.means y.means) ∙ sym (printed file other y)
 output_once (replay name script mode wire count) file second one other x y =
     let stack = one_meaning file x.stack y.stack x.means y.means in
     let both : ◌≡◌ {A = Result Script ScriptFault} (Ok x.script) (Ok y.script) = sym x.spelled ∙ y.spelled in

@@ -8,9 +8,9 @@ use Rattle.audit_mean.specs.Finding.{AuditFault}
 use Rattle.std.specs.Io.KnownBytes.{Appends}
 use Rattle.clap.specs.Walk.{Text}
 use Rattle.outside.proofs.Appended.{appends_none}
-use Rattle.layer_mean.specs.Tree.{LayerTree}
 use Rattle.job_mean.specs.Job.{Job, check, synth, replay, load, node, audit, job_of_words}
 use Rattle.job_mean.specs.Status.{Ended, done, breached, file_refused, report_refused, words_refused, second_refused, read_failed, write_failed, link_failed, no_memory, status_number, error_line}
+use Rattle.bypass_laws.specs.Printed.{synth_text}
 use Rattle.program_mean.specs.Judged.{IsGood}
 use Rattle.program_mean.specs.Headline.{second_for, OfJob, ReadsStack, IsNoReport, whole_end, WritesOf, WritesWhole, WroteNothing, Began, Ends, Says, whole, cut_off, out_of_memory}
 use Rattle.program_mean.specs.Judged.{Means}
@@ -32,7 +32,7 @@ pub record Reached (words : List Text) (job : Option Job) (a : Around) (end : En
   pub beside : IfSome job (λ j. Beside j a.told (second_for j second))
   pub written : List ℕ
   pub put : Appends a.output.contents a.output_after.contents written
-  pub ends : (print : List LayerTree → List ℕ) (e : Errors) (said : List ℕ) → Ends print (run_of words a e file second written said) end
+  pub ends : (e : Errors) (said : List ℕ) → Ends synth_text (run_of words a e file second written said) end
 
 -- a sink that is as it was gained nothing
 pub same_gained : (old new : Tells) → new ≡ old → Appends old.contents new.contents []
@@ -65,18 +65,18 @@ module _ (words : List Text) (a : Around) (job : Job) (is : job_of_words words �
       (sound, subst (λ o. IsSomeAnd o (λ t. Holds job file t)) (sym beside) holds)
 
   -- an output that was written in part
-  began : (good : Good job a.told) (second : Option (List ℕ)) (written rest : List ℕ) (print : List LayerTree → List ℕ) (e : Errors) (said : List ℕ) →
+  began : (good : Good job a.told) (second : Option (List ℕ)) (written rest : List ℕ) (e : Errors) (said : List ℕ) →
       a.reads_after ≡ a.reads → second_for job second ≡ Some good.second → concat good.lines ≡ written ++ rest →
-      Began print (run_of words a e (Some good.file) second written said)
-  began good second written rest print e said sound beside all = record {
+      Began synth_text (run_of words a e (Some good.file) second written said)
+  began good second written rest e said sound beside all = record {
     clock = [];
     heard = [];
     sent = [];
     rest = rest;
-    whole = job_holds (λ j f t. WritesOf print j (run_of words a e (Some good.file) second written said) f t (written ++ rest))
+    whole = job_holds (λ j f t. WritesOf synth_text j (run_of words a e (Some good.file) second written said) f t (written ++ rest))
         e good.file second good.second written said sound beside
-        (subst (λ out. WritesOf print job (run_of words a e (Some good.file) second written said) good.file good.second out) all
-        (writes_of print job _ good.file good.second good.lines good.output refl));
+        (subst (λ out. WritesOf synth_text job (run_of words a e (Some good.file) second written said) good.file good.second out) all
+        (writes_of job _ good.file good.second good.lines good.output refl));
     heard_all = inl refl;
   }
 
@@ -87,12 +87,12 @@ module _ (words : List Text) (a : Around) (job : Job) (is : job_of_words words �
 
   -- a whole output was written
   whole_ends : (end : Ended) (w : Whole job a end) (second : Option (List ℕ)) → second_for job second ≡ Some w.good.second →
-      (print : List LayerTree → List ℕ) (e : Errors) (said : List ℕ) →
-      WritesWhole print (run_of words a e (Some w.good.file) second (concat w.good.lines) said) end
-  whole_ends end w second beside print e said = (
-    job_holds (λ j f t. WritesOf print j (run_of words a e (Some w.good.file) second (concat w.good.lines) said) f t (concat w.good.lines) × (whole_end j f ≡ end))
+      (e : Errors) (said : List ℕ) →
+      WritesWhole synth_text (run_of words a e (Some w.good.file) second (concat w.good.lines) said) end
+  whole_ends end w second beside e said = (
+    job_holds (λ j f t. WritesOf synth_text j (run_of words a e (Some w.good.file) second (concat w.good.lines) said) f t (concat w.good.lines) × (whole_end j f ≡ end))
         e w.good.file second w.good.second (concat w.good.lines) said w.sound beside
-        (writes_of print job _ w.good.file w.good.second w.good.lines w.good.output refl, w.ends),
+        (writes_of job _ w.good.file w.good.second w.good.lines w.good.output refl, w.ends),
     w.written.sound,
     inl refl,
   )
@@ -106,7 +106,7 @@ module _ (words : List Text) (a : Around) (job : Job) (is : job_of_words words �
     beside = s.1;
     written = [];
     put = same_gained a.output a.output_after same;
-    ends = λ print e said.
+    ends = λ e said.
         record { rose = rose; unread = some_job _ (inl refl); nothing = nothing words a e None s.0 said };
   }
   unfound_reached (inr n) same rose = let none = second_missed job a.told n.none in record {
@@ -116,7 +116,7 @@ module _ (words : List Text) (a : Around) (job : Job) (is : job_of_words words �
     beside = beside_as None None none n.none;
     written = [];
     put = same_gained a.output a.output_after same;
-    ends = λ print e said. record {
+    ends = λ e said. record {
       rose = rose;
       unread = some_job (λ j. (◌≡◌ {A = Option (List ℕ)} (Some n.file) None) ⊎ ((second_for j None ≡ None) × IsGood n.file))
           (inr (none, record { stack = n.stack; means = n.means }));
@@ -150,7 +150,7 @@ module _ (words : List Text) (a : Around) (job : Job) (is : job_of_words words �
     beside = s.1;
     written = [];
     put = same_gained a.output a.output_after r.untouched;
-    ends = λ print e said. record {
+    ends = λ e said. record {
       sound = r.sound;
       job = some_job ReadsStack r.cause.reads;
       refused = r.cause.refused;
@@ -164,7 +164,7 @@ module _ (words : List Text) (a : Around) (job : Job) (is : job_of_words words �
     beside = beside_as None (Some []) s.0 s.1;
     written = [];
     put = same_gained a.output a.output_after r.untouched;
-    ends = λ print e said. record {
+    ends = λ e said. record {
       refused = job_holds (λ j f t. IsNoReport j f fault) e r.cause.file None [] [] said r.sound s.0 r.cause.refused;
       nothing = nothing words a e (Some r.cause.file) None said;
     };
@@ -176,7 +176,7 @@ module _ (words : List Text) (a : Around) (job : Job) (is : job_of_words words �
     beside = beside_as s.0 (Some r.cause.second) s.1 r.cause.beside;
     written = [];
     put = same_gained a.output a.output_after r.untouched;
-    ends = λ print e said. record {
+    ends = λ e said. record {
       stack = r.cause.stack;
       refused = job_holds (λ j f t. Means f r.cause.stack × (second_fault j r.cause.stack t ≡ Some fault)) e r.cause.file s.0 r.cause.second [] said
           r.sound s.1 (r.cause.means, r.cause.refused);
@@ -193,7 +193,7 @@ module _ (words : List Text) (a : Around) (job : Job) (is : job_of_words words �
         beside = beside_as s.0 (Some w.good.second) s.1 w.good.beside;
         written = f.0;
         put = f.2;
-        ends = λ print e said. (w.written.rose, began w.good s.0 f.0 f.1 print e said w.sound s.1 f.3);
+        ends = λ e said. (w.written.rose, began w.good s.0 f.0 f.1 e said w.sound s.1 f.3);
       }
   reached no_memory (inl same) = let f = next_file job a.told in let s = next_second job a.told in record {
     file = f.0;
@@ -202,7 +202,7 @@ module _ (words : List Text) (a : Around) (job : Job) (is : job_of_words words �
     beside = s.1;
     written = [];
     put = same_gained a.output a.output_after same;
-    ends = λ print e said. inl (nothing words a e f.0 s.0 said);
+    ends = λ e said. inl (nothing words a e f.0 s.0 said);
   }
   reached no_memory (inr w) =
       let s = second_read job a.told w.good.second w.good.beside in
@@ -213,7 +213,7 @@ module _ (words : List Text) (a : Around) (job : Job) (is : job_of_words words �
         beside = beside_as s.0 (Some w.good.second) s.1 w.good.beside;
         written = f.0;
         put = f.2;
-        ends = λ print e said. inr (began w.good s.0 f.0 f.1 print e said w.sound s.1 f.3);
+        ends = λ e said. inr (began w.good s.0 f.0 f.1 e said w.sound s.1 f.3);
       }
   reached _ w = absurd w
 
@@ -226,7 +226,7 @@ jobless_reached words a is words_refused n = record {
   beside = tt;
   written = [];
   put = same_gained a.output a.output_after n.untouched;
-  ends = λ print e said. (is, n.unread, nothing words a e None None said);
+  ends = λ e said. (is, n.unread, nothing words a e None None said);
 }
 jobless_reached words a is no_memory n = record {
   file = None;
@@ -235,7 +235,7 @@ jobless_reached words a is no_memory n = record {
   beside = tt;
   written = [];
   put = same_gained a.output a.output_after n.untouched;
-  ends = λ print e said. inl (nothing words a e None None said);
+  ends = λ e said. inl (nothing words a e None None said);
 }
 jobless_reached words a is _ n = absurd n
 
@@ -291,7 +291,7 @@ seen_so words job a e end r s = let says = spoke words a e r.file r.second r.wri
   put = r.put;
   said = says.said;
   heard = says.heard;
-  ran = λ print. record { end = end; ends = r.ends print e says.said; says = says.says; lost = inl refl };
+  ran = record { end = end; ends = r.ends e says.said; says = says.says; lost = inl refl };
 }
 
 pub seen : (words : List Text) (job : Job) (a : Around) (e : Errors) (end : Ended) → job_of_words words ≡ Some job → Comes job a end → Said end e →

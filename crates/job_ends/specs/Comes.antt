@@ -19,6 +19,10 @@ use Rattle.job_mean.specs.Job.{Mode, Job, check, synth, replay, load, node, audi
 use Rattle.job_mean.specs.Status.{FileFault, SecondFault, Ended, done, breached, file_refused, report_refused, words_refused, second_refused, read_failed, write_failed, no_memory}
 use Rattle.run_mean.specs.Report.{output_in}
 use Rattle.run_mean.specs.Tally.{tally, accepted_lines}
+use Rattle.bypass_mean.specs.Bypasses.{Bypasses}
+use Rattle.bypass_mean.specs.Lines.{printed_lines}
+use Rattle.bypass_laws.specs.Making.{bypasses_of, simplest}
+use Rattle.bypass_laws.specs.Stack.{AreOfStack}
 use Rattle.program_mean.specs.Judged.{Means, Refuses}
 use Rattle.program_mean.specs.Output.{HasRoom, finding_line}
 use Rattle.program_mean.specs.Second.{second_fault}
@@ -85,6 +89,15 @@ pub record Checked (file : List ℕ) (lines : List (List ℕ)) : Type 0 where
   pub means : Means file stack
   pub written : lines ≡ accepted_lines stack
 
+-- That of a synthesis: the text of bypasses that are the stack's, those that the definitions make.
+pub record Synthesized (file : List ℕ) (lines : List (List ℕ)) : Type 0 where
+  pub stack : List LayerTree
+  pub means : Means file stack
+  pub bypasses : Bypasses
+  pub of_stack : AreOfStack stack bypasses
+  pub simplest : bypasses ≡ bypasses_of simplest stack
+  pub written : lines ≡ printed_lines stack (plans_of stack) bypasses
+
 -- That of an audit.
 pub record Audited (file : List ℕ) (law : Law) (lines : List (List ℕ)) : Type 0 where
   pub finding : Finding
@@ -109,6 +122,7 @@ pub record Loaded (file : List ℕ) (seed events members : ℕ) (raw : Bool) (mo
 
 abbrev pub IsOutput : Job → (file second : List ℕ) → (lines : List (List ℕ)) → Type 0
 IsOutput (check name) file second lines = Checked file lines
+IsOutput (synth name) file second lines = Synthesized file lines
 IsOutput (audit name law) file second lines = Audited file law lines
 IsOutput (replay name script mode wire count) file second lines = Replayed file second mode wire count lines
 IsOutput (load name seed events members raw mode) file second lines = Loaded file seed events members raw mode lines

@@ -2,8 +2,8 @@
 use Rattle.std.specs.Prelude.{ℕ, List, [], Option, IfSome}
 use Rattle.std.specs.Io.KnownBytes.{Appends}
 use Rattle.clap.specs.Walk.{Text}
-use Rattle.layer_mean.specs.Tree.{LayerTree}
 use Rattle.job_mean.specs.Job.{Job}
+use Rattle.bypass_laws.specs.Printed.{synth_text}
 use Rattle.program_mean.specs.Headline.{Counted, Run, second_for, Ran}
 use Rattle.outside.specs.Said.{Errors}
 use Rattle.job_ends.specs.Comes.{Around, Finds, Beside}
@@ -30,7 +30,7 @@ run_of words a e file second written said = record {
 }
 
 -- What the reads of a job's files find, where the shelf tells, what the sinks gained, and that this is a run of the program: it ended in one
--- way, for the cause of its status. No bypass is printed, so nothing is said of how they are.
+-- way, for the cause of its status. Of a stack `synth` prints the text of its simplest bypasses.
 pub record Seen (words : List Text) (job : Option Job) (a : Around) (e : Errors) : Type 0 where
   pub file : Option (List ℕ)
   pub second : Option (List ℕ)
@@ -40,4 +40,4 @@ pub record Seen (words : List Text) (job : Option Job) (a : Around) (e : Errors)
   pub put : Appends a.output.contents a.output_after.contents written
   pub said : List ℕ
   pub heard : Appends e.before.contents e.after.contents said
-  pub ran : (print : List LayerTree → List ℕ) → Ran print (run_of words a e file second written said)
+  pub ran : Ran synth_text (run_of words a e file second written said)

@@ -7,11 +7,11 @@ use Rattle.clap.specs.Walk.{Text}
 use Rattle.outside.specs.Count.{last_count}
 use Rattle.outside.specs.declared.sink.SinkError.{SinkError}
 use Rattle.outside.specs.declared.sink.SinkError.TheVariants as sink
-use Rattle.layer_mean.specs.Tree.{LayerTree}
 use Rattle.stack_mean.specs.Plans.{plans_of}
 use Rattle.job_mean.specs.Job.{Job, job_of_words, layered}
 use Rattle.job_mean.specs.Status.{FileFault, SecondFault, Ended, done, file_refused, second_refused, read_failed, write_failed, link_failed, no_memory}
 use Rattle.run_mean.specs.Journal.{Handed, note_lines, node_lines}
+use Rattle.bypass_laws.specs.Printed.{synth_text}
 use Rattle.program_mean.specs.Headline.{Run, OfJob, ReadsStack, second_for, whole_end, WritesOf, WroteNothing, Began, Ends, Says, LinksFail, whole, cut_off, out_of_memory, gone_on, node_words}
 use Rattle.program_mean.specs.Output.{Surroundings, NodeWords, failed, noted, played, handed_by}
 use Rattle.program_mean.specs.Judged.{Means, IsGood}
@@ -47,8 +47,8 @@ record Reached (words : List Text) (w : Node) (a : Around) (n : Beyond) (end : E
   lost : (n.sends_after ≡ n.sends + length surroundings.lost) ⊎ (n.sends_after ≡ last_count)
   written : List ℕ
   put : Appends a.output.contents a.output_after.contents written
-  ends : (print : List LayerTree → List ℕ) (e : Errors) (said : List ℕ) →
-      Ends print (run_of words a n e file second surroundings sent written said) end
+  ends : (e : Errors) (said : List ℕ) →
+      Ends synth_text (run_of words a n e file second surroundings sent written said) end
 
 -- a clock that told nothing
 told_nothing : (clock : Option (List ℕ)) → Told clock clock []
@@ -103,8 +103,8 @@ module _ (words : List Text) (w : Node) (a : Around) (n : Beyond) (is : job_of_w
       lost = r.served.told.sends;
       written = concat lines;
       put = r.served.written.gained;
-      ends = λ print e said. (
-        job_holds (λ job file second. WritesOf print job (the_run (Some r.good.file) (Some r.good.second) r.served.s sent (concat lines) e said) file second (concat lines) × (whole_end job file ≡ done))
+      ends = λ e said. (
+        job_holds (λ job file second. WritesOf synth_text job (the_run (Some r.good.file) (Some r.good.second) r.served.s sent (concat lines) e said) file second (concat lines) × (whole_end job file ≡ done))
             r.good r.served.s sent (concat lines) e said r.sound (
               record {
                 node = r.good.node;
@@ -135,7 +135,7 @@ module _ (words : List Text) (w : Node) (a : Around) (n : Beyond) (is : job_of_w
     lost = inl (r.served.sends ∙ omega arith);
     written = [];
     put = same_gained a.output a.output_after r.served.untouched;
-    ends = λ print e said. (
+    ends = λ e said. (
       ap (λ t. t.faults) r.served.untouched,
       job_holds (λ job file second. LinksFail job (the_run (Some r.good.file) (Some r.good.second) nothing_told [] [] e said) file second)
           r.good nothing_told [] [] e said r.sound
@@ -173,7 +173,7 @@ module _ (words : List Text) (w : Node) (a : Around) (n : Beyond) (is : job_of_w
       lost = r.served.told.sends;
       written = concat deaf_lines;
       put = r.served.written.gained;
-      ends = λ print e said. (
+      ends = λ e said. (
         r.served.written.sound,
         job_holds (λ job file second. LinksFail job (the_run (Some r.good.file) (Some r.good.second) r.served.s deaf_sent (concat deaf_lines) e said) file second)
             r.good r.served.s deaf_sent (concat deaf_lines) e said r.sound
@@ -206,14 +206,14 @@ module _ (words : List Text) (w : Node) (a : Around) (n : Beyond) (is : job_of_w
     broken_lines = node_lines good.node.stack (plans_of good.node.stack) (failed r.s) (noted good.node.plan broken_words on)
         (played good.node.stack good.node.plan broken_words on)
 
-    began : (part rest : List ℕ) → concat broken_lines ≡ part ++ rest → (print : List LayerTree → List ℕ) (errors : Errors) (said : List ℕ) →
-        Began print (the_run (Some good.file) (Some good.second) r.s r.sent part errors said)
-    began part rest all print errors said = record {
+    began : (part rest : List ℕ) → concat broken_lines ≡ part ++ rest → (errors : Errors) (said : List ℕ) →
+        Began synth_text (the_run (Some good.file) (Some good.second) r.s r.sent part errors said)
+    began part rest all errors said = record {
       clock = r.clock_on;
       heard = r.heard_on;
       sent = r.sent_on;
       rest = rest;
-      whole = job_holds (λ job file second. WritesOf print job (gone_on (the_run (Some good.file) (Some good.second) r.s r.sent part errors said) r.clock_on r.heard_on r.sent_on)
+      whole = job_holds (λ job file second. WritesOf synth_text job (gone_on (the_run (Some good.file) (Some good.second) r.s r.sent part errors said) r.clock_on r.heard_on r.sent_on)
           file second (part ++ rest)) good r.s r.sent part errors said sound (record {
             node = good.node;
             moments = r.moments;
@@ -227,8 +227,8 @@ module _ (words : List Text) (w : Node) (a : Around) (n : Beyond) (is : job_of_w
 
   -- so it ended, behind that part
   broken : (end : Ended) (e : SinkError) (r : Ran w a n (Broken e)) (part : List ℕ) → Appends a.output.contents a.output_after.contents part →
-      ((print : List LayerTree → List ℕ) (errors : Errors) (said : List ℕ) →
-      Ends print (the_run (Some r.good.file) (Some r.good.second) r.served.s r.served.sent part errors said) end) → Reached words w a n end
+      ((errors : Errors) (said : List ℕ) →
+      Ends synth_text (the_run (Some r.good.file) (Some r.good.second) r.served.s r.served.sent part errors said) end) → Reached words w a n end
   broken end e r part put ends = record {
     file = Some r.good.file;
     second = Some r.good.second;
@@ -247,11 +247,11 @@ module _ (words : List Text) (w : Node) (a : Around) (n : Beyond) (is : job_of_w
   broken_write : Ran w a n (Broken sink.Failed) → Reached words w a n write_failed
   broken_write r = let f = fails_part a.output a.output_after _ r.served.written in
       broken write_failed sink.Failed r f.0 f.2
-      (λ print e said. (r.served.written.rose, began r.good r.sound sink.Failed r.served f.0 f.1 f.3 print e said))
+      (λ e said. (r.served.written.rose, began r.good r.sound sink.Failed r.served f.0 f.1 f.3 e said))
 
   broken_memory : Ran w a n (Broken sink.Memory) → Reached words w a n no_memory
   broken_memory r = let f = begins_part a.output a.output_after _ r.served.written in
-      broken no_memory sink.Memory r f.0 f.2 (λ print e said. inr (began r.good r.sound sink.Memory r.served f.0 f.1 f.3 print e said))
+      broken no_memory sink.Memory r f.0 f.2 (λ e said. inr (began r.good r.sound sink.Memory r.served f.0 f.1 f.3 e said))
 
   -- it ended before it ran
   module _ (untouched : Untouched n) where
@@ -260,7 +260,7 @@ module _ (words : List Text) (w : Node) (a : Around) (n : Beyond) (is : job_of_w
 
     abbrev not_run : (end : Ended) (file second : Option (List ℕ)) → Finds (job_of w) a.told file → Beside (job_of w) a.told second →
         a.output_after ≡ a.output →
-        ((print : List LayerTree → List ℕ) (e : Errors) (said : List ℕ) → Ends print (the_run file second nothing_told [] [] e said) end) →
+        ((e : Errors) (said : List ℕ) → Ends synth_text (the_run file second nothing_told [] [] e said) end) →
         Reached words w a n end
     not_run end file second met beside same ends = record {
       file = file;
@@ -279,7 +279,7 @@ module _ (words : List Text) (w : Node) (a : Around) (n : Beyond) (is : job_of_w
 
     file_before : (fault : FileFault) → Comes (job_of w) a (file_refused fault) → Reached words w a n (file_refused fault)
     file_before fault c = let s = next_second (job_of w) a.told in
-        not_run (file_refused fault) (Some c.cause.file) s.0 c.cause.found s.1 c.untouched (λ print e said. record {
+        not_run (file_refused fault) (Some c.cause.file) s.0 c.cause.found s.1 c.untouched (λ e said. record {
           sound = c.sound;
           job = subst (λ o. IsSomeAnd o ReadsStack) (sym is) c.cause.reads;
           refused = c.cause.refused;
@@ -288,7 +288,7 @@ module _ (words : List Text) (w : Node) (a : Around) (n : Beyond) (is : job_of_w
 
     second_before : (fault : SecondFault) → Comes (job_of w) a (second_refused fault) → Reached words w a n (second_refused fault)
     second_before fault c =
-        not_run (second_refused fault) (Some c.cause.file) (Some c.cause.second) c.cause.found c.cause.beside c.untouched (λ print e said. record {
+        not_run (second_refused fault) (Some c.cause.file) (Some c.cause.second) c.cause.found c.cause.beside c.untouched (λ e said. record {
           stack = c.cause.stack;
           refused = subst (λ o. IsSomeAnd o (λ job. (a.reads_after ≡ a.reads) × IsSomeAnd (second_for job (Some c.cause.second)) (λ second.
               Means c.cause.file c.cause.stack × (second_fault job c.cause.stack second ≡ Some fault)))) (sym is)
@@ -300,12 +300,12 @@ module _ (words : List Text) (w : Node) (a : Around) (n : Beyond) (is : job_of_w
     read_before c = missed c.unfound where
       missed : Unfound (job_of w) a.told → Reached words w a n read_failed
       missed (inl none) = let s = next_second (job_of w) a.told in
-          not_run read_failed None s.0 none s.1 c.untouched (λ print e said. record {
+          not_run read_failed None s.0 none s.1 c.untouched (λ e said. record {
             rose = c.rose;
             unread = subst (λ o. IsSomeAnd o (λ job. (◌≡◌ {A = Option (List ℕ)} None None) ⊎ ((second_for job s.0 ≡ None) × IsSomeAnd None IsGood))) (sym is) (inl refl);
             nothing = nothing None s.0 e said;
           })
-      missed (inr m) = not_run read_failed (Some m.file) None m.found m.none c.untouched (λ print e said. record {
+      missed (inr m) = not_run read_failed (Some m.file) None m.found m.none c.untouched (λ e said. record {
         rose = c.rose;
         unread = subst (λ o. IsSomeAnd o (λ job. (◌≡◌ {A = Option (List ℕ)} (Some m.file) None) ⊎ ((second_for job None ≡ None) × IsGood m.file))) (sym is)
             (inr (refl, record { stack = m.stack; means = m.means }));
@@ -320,7 +320,7 @@ module _ (words : List Text) (w : Node) (a : Around) (n : Beyond) (is : job_of_w
     lost (inr d) = went_deaf (record { good = r.good; sound = r.sound; served = d })
   reached_so write_failed r = broken_write r
   reached_so no_memory (inl x) = let f = next_file (job_of w) a.told in let s = next_second (job_of w) a.told in
-      not_run x.untouched no_memory f.0 s.0 f.1 s.1 x.unwritten (λ print e said. inl (nothing x.untouched f.0 s.0 e said))
+      not_run x.untouched no_memory f.0 s.0 f.1 s.1 x.unwritten (λ e said. inl (nothing x.untouched f.0 s.0 e said))
   reached_so no_memory (inr r) = broken_memory r
   reached_so (file_refused fault) c = file_before c.untouched fault c.came
   reached_so (second_refused fault) c = second_before c.untouched fault c.came
@@ -352,9 +352,9 @@ node_seen words w a n e end is came said =
       put = r.put;
       said = says.said;
       heard = says.heard;
-      ran = λ print. record {
+      ran = record {
         end = end;
-        ends = r.ends print e says.said;
+        ends = r.ends e says.said;
         says = said_as words a n e r.file r.second r.surroundings r.sent r.written says.said end says.says;
         lost = r.lost;
       };

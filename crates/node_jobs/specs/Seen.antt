@@ -2,8 +2,8 @@
 use Rattle.std.specs.Prelude.{ℕ, List, Option}
 use Rattle.std.specs.Io.KnownBytes.{Appends}
 use Rattle.clap.specs.Walk.{Text}
-use Rattle.layer_mean.specs.Tree.{LayerTree}
 use Rattle.run_mean.specs.Journal.{Handed}
+use Rattle.bypass_laws.specs.Printed.{synth_text}
 use Rattle.program_mean.specs.Headline.{Run}
 use Rattle.program_mean.specs.Headline as program
 use Rattle.program_mean.specs.Output.{Surroundings}
@@ -48,4 +48,4 @@ pub record NodeSeen (words : List Text) (w : Node) (a : Around) (n : Beyond) (e 
   pub put : Appends a.output.contents a.output_after.contents written
   pub said : List ℕ
   pub heard : Appends e.before.contents e.after.contents said
-  pub ran : (print : List LayerTree → List ℕ) → program.Ran print (run_of words a n e file second surroundings sent written said)
+  pub ran : program.Ran synth_text (run_of words a n e file second surroundings sent written said)
