@@ -20,7 +20,7 @@ pub data Way : Type 0 where
 
 abbrev pub way_of : Job → Way
 way_of (check file) = over_files
-way_of (synth file) = unbuilt
+way_of (synth file) = over_files
 way_of (replay file script layered wire count) = over_files
 way_of (replay file script bypass wire count) = unbuilt
 way_of (load file seed events members raw layered) = over_files

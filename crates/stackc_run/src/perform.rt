@@ -9,6 +9,7 @@ ghost use Rattle.job_ends.specs.Shown.{shown};
 ghost use Rattle.node_jobs.specs.Comes.{beyond};
 ghost use Rattle.stackc_run.specs.Performed.{Performed};
 
+use bypass_jobs::synthesize;
 use file_jobs::{audit_report, check_stack};
 use job_ends::Ending;
 use job_text::{Job, Mode, job};
@@ -50,6 +51,7 @@ fn perform_job<S: Shelf, O: Sink, N: Links, C: Clock>(
 {
     match job {
         Job::Check(file) => check_stack(alloc, *file, shelf, out),
+        Job::Synth(file) => synthesize(alloc, *file, shelf, out),
         Job::Audit(audit) => audit_report(alloc, audit.file, audit.law, shelf, out),
         Job::Replay(replay) => match replay.mode {
             Mode::Layered => replay_script(alloc, replay, shelf, out),
@@ -63,6 +65,5 @@ fn perform_job<S: Shelf, O: Sink, N: Links, C: Clock>(
             Mode::Layered => run_node(alloc, node, shelf, out, links, clock),
             Mode::Bypass => Ending::Words,
         },
-        Job::Synth(_) => Ending::Words,
     }
 }

@@ -1,0 +1,10 @@
+use Rattle.std.proofs.Common.{subst}
+use Rattle.outside.specs.Lines.{Wrote}
+use Rattle.outside.specs.Tells.{tells_of}
+use Rattle.bypass_jobs.proofs.Written.{printed_is}
+use Rattle.bypass_jobs.proofs.text.put_bypasses.Goals as goal
+
+pub returns-in-Ok : goal.returns-in-Ok
+returns-in-Ok g c = subst
+    (λ lines. Wrote lines (tells_of g.O.Sink c.args.out.now) (tells_of g.O.Sink c.print_bypasses-wrote.new.out) c.print_bypasses-wrote.result)
+    (printed_is _ _ _ c.requires.plans c.in-Ok.ensures.made) c.print_bypasses-wrote.ensures
