@@ -8,6 +8,9 @@ is the built one, or that of the environment's STACKC. What is written, what is 
 line of each difference, how many entries were fused, how many are absent for which reason, and how much the guards say; and ends with 1 where there is
 a difference.
 
+diff/synth.py cases FOLDER [COUNT] [SEED] writes such files of all kinds with what is to be written of each, so that a trial of the program, which isn't
+proved, is compared on all of them after one build: in crates/stackc, rt try --seconds 3600 --cases FOLDER -- synth {}
+
 diff/synth.py hostile FILE [PLACES], large FILE and heavy FILE [WRITES] [READS] write files by which `synth` is timed: one whose numbers double at each
 of 24 places and whose message does at so many of them (24; its text then has 335 million bytes), one of 1,000,000 bytes whose cast has some 3,000
 operations, and one with so many reads behind so many writes (500 and 500; its text grows with their product).
@@ -72,15 +75,27 @@ def stacks():
             yield text
 
 
-def files_of(words):
-    count = int(words[1]) if len(words) > 1 else 300
-    r = random.Random(int(words[2]) if len(words) > 2 else 1)
-    if words[0] == "each":
+def files_of(kind, count=300, seed=1):
+    r = random.Random(int(seed))
+    if kind == "each":
         return stacks()
-    if words[0] == "rows":
+    if kind == "rows":
         return (file.encode() for file, _ in rows.ROWS)
-    makes = {"library": library_file, "random": random_file}[words[0]]
-    return (makes(r) for _ in range(count))
+    makes = {"library": library_file, "random": random_file}[kind]
+    return (makes(r) for _ in range(int(count)))
+
+
+def cases(folder, count=200, seed=1):
+    """Files of all kinds, each with what is to be written of it."""
+    os.makedirs(folder, exist_ok=True)
+    for kind, many in (("rows", 0), ("each", 0), ("library", int(count) // 5), ("random", count)):
+        for number, text in enumerate(files_of(kind, many, seed)):
+            path = os.path.join(folder, f"{kind}{number}")
+            with open(path, "wb") as file:
+                file.write(text)
+            with open(path + ".stdout", "w", encoding="utf-8") as file:
+                file.write(fusing.synth(text))
+            fusing.forget()
 
 
 class Comparison:
@@ -209,13 +224,16 @@ def heavy(writes=500, reads=500):
 def main():
     words = sys.argv[1:] or ["library"]
     makes = {"hostile": hostile, "large": large, "heavy": heavy}.get(words[0])
+    if words[0] == "cases":
+        cases(*words[1:])
+        return
     if makes:
         with open(words[1], "w", encoding="utf-8") as file:
             file.write(makes(*map(int, words[2:])))
         return
     with tempfile.TemporaryDirectory() as folder:
         comparison = Comparison(words[3] if len(words) > 3 else PROGRAM, folder)
-        for text in files_of(words):
+        for text in files_of(*words[:3]):
             comparison.compare(text)
     comparison.told()
     sys.exit(1 if comparison.wrong else 0)
