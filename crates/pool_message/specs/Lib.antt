@@ -6,3 +6,4 @@ pub mod Sent
 pub mod Slots
 pub mod Tray
 pub mod Lends
+pub mod PutBody

@@ -243,7 +243,7 @@ impl PoolMessage {
     }
 
     /// Its body becomes this one. It had none.
-    fn set_body(&mut self, body: Option<Part>)
+    pub(crate) fn set_body(&mut self, body: Option<Part>)
         requires { self.old.body ≡ None }
         ensures { self.new ≡ record self.old { body = body } }
     {

@@ -3,6 +3,7 @@
 ghost use Rattle.std.specs.Prelude.{◌≡◌};
 
 use crate::message::PoolMessage;
+use crate::part::Part;
 use crate::place::Place;
 use msg_core::Header;
 use slot_pool::{Memory, Pool};
@@ -30,13 +31,15 @@ impl Model for Messages {
 }
 
 impl Messages {
-    ghost use Rattle.std.specs.Prelude.{◌≡◌, ◌==◌, ◌<◌, [], ◌∷◌, ◌++◌, length, slice_get, slice_index_or, slice_set, option_copied, IfOk, Some, None};
+    ghost use Rattle.std.specs.Prelude.{◌≡◌, ◌==◌, ◌<◌, ◌≤◌, [], ◌∷◌, ◌++◌, length, slice_get, slice_index_or, slice_set, option_copied, IfOk, Some, None};
     ghost use Rattle.circular_buffer.specs.Buffer.{buffer, last_item};
     ghost use Rattle.slot_pool.specs.References.{Covers};
     ghost use Rattle.msg_core.specs.Headers.{most_headers};
     ghost use Rattle.pool_message.specs.Seen.{refs, refs_if, bodiless};
     ghost use Rattle.pool_message.specs.Moves.{CanKeep, Kept, Returned};
+    ghost use Rattle.msg_core.specs.Parts.{longest_body};
     ghost use Rattle.pool_message.specs.Piled.{pile_refs, without_last, with_header_last};
+    ghost use Rattle.pool_message.specs.PutBody.{PutsBody};
 
     /// No message, with so many places.
     pub fn fresh(alloc: Global, places: usize) -> Result<Messages, Memory>
@@ -115,6 +118,35 @@ impl Messages {
         self.push_bare();
         let last = self.count - 1;
         self.places[last].keep_from(message, pool);
+    }
+
+    /// Puts a message without headers and with a copy of these bytes behind the others, in a slot that was unused. False where the pool is full,
+    /// and then nothing has changed.
+    pub fn push_put(&mut self, bytes: &[u8], pool: &mut Pool) -> bool
+        requires room { length self.old.items < self.old.capacity }
+        requires fits { length bytes.now ≤ longest_body }
+        ensures { PutsBody pool.old self.old bytes.now pool.new self.new result }
+    {
+        let Some(slot) = pool.put(bytes) else {
+            return false
+        };
+        let part = Part {
+            slot,
+            from: 0,
+            len: bytes.len() as u32,
+        };
+        self.push_part(part);
+        true
+    }
+
+    /// Puts a message without headers and with this body behind the others.
+    fn push_part(&mut self, part: Part)
+        requires { length self.old.items < self.old.capacity }
+        ensures { self.new ≡ buffer (self.old.items ++ record { headers = []; body = Some part } ∷ []) self.old.capacity }
+    {
+        self.push_bare();
+        let last = self.count - 1;
+        self.places[last].set_body(Some(part));
     }
 
     /// Puts a header in front of those of the last message, if there is one.
