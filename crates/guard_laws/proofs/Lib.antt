@@ -16,3 +16,4 @@ pub mod Straight
 pub mod Entry
 pub mod Counts
 pub mod Forms
+pub mod Safe

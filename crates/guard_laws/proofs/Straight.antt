@@ -99,7 +99,7 @@ module _ (i : Input) (ss : List State) where
       reading_of i u ss r ≡ slice_index u.numbers (known.first + j)
 
   -- what names stand for, where so much is kept; and what is kept by the trace
-  record Stand (t : Kept) (n : Names) (k : Kept) (known : Registers) : Type 0 where
+  pub record Stand (t : Kept) (n : Names) (k : Kept) (known : Registers) : Type 0 where
     rows : k.rows ≡ t.rows
     many : length k.numbers ≡ made_count known
     read : Known k known
@@ -550,17 +550,17 @@ module _ (i : Input) (begin : Trail) where
   made_all u here (r ∷ rs) is =
       made_all (with_bound u (reading_of i u.kept u.states r)) here rs is ∙ ap (λ s. record u { kept = read_all i here (reads i s u.kept r) rs }) is
 
-  abbrev ran : Sheet → Trail
+  abbrev pub ran : Sheet → Trail
   ran s = fold (steps i) begin s.steps
 
   -- a trail that has what the trace's has, under these names
-  record Agrees (t : Trail) (n : Names) (known : Registers) (messages : ℕ) (u : Trail) : Type 0 where
-    stand : Stand i t.states t.kept n u.kept known
-    many : length u.kept.messages ≡ messages
-    states : u.states ≡ t.states
-    outs : u.outs ≡ t.outs
+  pub record Agrees (t : Trail) (n : Names) (known : Registers) (messages : ℕ) (u : Trail) : Type 0 where
+    pub stand : Stand i t.states t.kept n u.kept known
+    pub many : length u.kept.messages ≡ messages
+    pub states : u.states ≡ t.states
+    pub outs : u.outs ≡ t.outs
 
-  abbrev Written : Trail → Sheet → Type 0
+  abbrev pub Written : Trail → Sheet → Type 0
   Written t s = Agrees t s.names s.registers s.messages (ran s)
 
   -- the trail at a line of readings
@@ -740,11 +740,47 @@ module _ (i : Input) (begin : Trail) where
   puts t s step outs a is = subst (Agrees (record t { outs = outs }) s.names s.registers s.messages)
       (sym (fold-append (steps i) begin s.steps (step ∷ []) ∙ is)) (record { stand = a.stand; many = a.many; states = refl; outs = refl })
 
-  -- an operand of a line, behind its readings
-  made_at : (t : Trail) (s : Sheet) (l : Line) (k : Kept) → Written t s → Later k (read_all i t.states (ran s).kept l.readings) → Later k (ran (makes s l)).kept
-  made_at t s l k a later = subst (λ (u : Trail). Later k u.kept) (sym (ran_makes t s l a)) later
+  -- operands that are made of numbers, behind a sheet
+  record Operands (t : Trail) (s : Sheet) (x : Spots) (ws : List ℕ) : Type 0 where
+    written : Written t (makes s x.line)
+    worth : (u : Kept) → Later (ran (makes s x.line)).kept u → map (operand_at i u) x.at ≡ ws
 
-  writes_same : (t : Trail) (s : Sheet) (o : Operation) → Written t s → Written (does i t o) (writes s o)
+  operands_made : (t : Trail) (s : Sheet) (es : List TraceNumber) → Written t s →
+      Operands t s (all_straight s.names es (sheet_line s)) (map (number_of i t.kept t.states) es)
+  operands_made t s es a = record {
+    written = makes_written t s x.line a f.quiet f.many f.read;
+    worth = λ u g. f.worth u (subst (λ (v : Trail). Later v.kept u) (ran_makes t s x.line a) g);
+  } where
+    x : Spots
+    x = all_straight s.names es (sheet_line s)
+
+    f : SpotsAre i t.states (ran s).kept t.kept s.names (sheet_line s) x (map (number_of i t.kept t.states) es)
+    f = all_spotted i t.states (ran s).kept t.kept s.names es (sheet_line s) a.stand
+
+  -- what a step is given: numbers, and a message
+  pub record Given (t : Trail) (z : Sending) (xs : List Operand) (ns : List ℕ) (w : Option Content) : Type 0 where
+    pub written : Written t z.sheet
+    pub numbers : map (operand_at i (ran z.sheet).kept) xs ≡ ns
+    pub message : option_map (sent_at i (ran z.sheet).kept) z.sent ≡ w
+
+  -- a change: its index, values and numbers are made before its message
+  pub given_change : (t : Trail) (s : Sheet) (es : List TraceNumber) (m : Option Chained) → Written t s →
+      Given t (sending m (makes s (all_straight s.names es (sheet_line s)).line)) (all_straight s.names es (sheet_line s)).at
+      (map (number_of i t.kept t.states) es) (option_map (content_at i t.kept) m)
+  given_change t s es m a =
+      let z = makes s (all_straight s.names es (sheet_line s)).line in let f = operands_made t s es a in let d = sending_same t m z f.written in
+      record { written = d.written; numbers = f.worth (ran (sending m z).sheet).kept d.later; message = d.sent }
+
+  -- an output: its numbers are atoms
+  pub given_output : (t : Trail) (s : Sheet) (ns : List Atom) (m : Option Chained) → Written t s →
+      Given t (sending m s) (map (operand_for s.names) ns) (map (atom_at i t.kept) ns) (option_map (content_at i t.kept) m)
+  given_output t s ns m a = let d = sending_same t m s a in record {
+    written = d.written;
+    numbers = atoms_same i t.states (ran (sending m s).sheet).kept t.kept s.names ns (ran s).kept s.registers a.stand (ran (sending m s).sheet).kept d.later;
+    message = d.sent;
+  }
+
+  pub writes_same : (t : Trail) (s : Sheet) (o : Operation) → Written t s → Written (does i t o) (writes s o)
   writes_same t s (bind e) a = record {
     stand = record {
       rows = b.stand.rows;
@@ -757,26 +793,23 @@ module _ (i : Input) (begin : Trail) where
       value_names = b.stand.value_names;
       message_names = b.stand.message_names;
       number_names = λ u g. more_names (operand_at i u) s.names.numbers t.kept.numbers x.at zero_operand w 0 b.stand.same_numbers refl
-          (b.stand.number_names u g) (f.worth u (subst (λ (v : Trail). Later v.kept u) (ran_makes t s x.line a) g));
+          (b.stand.number_names u g) (ap (λ ns. slice_index ns 0) (f.worth u g));
     };
     many = b.many;
     states = b.states;
     outs = b.outs;
   } where
-    l : Line
-    l = sheet_line s
-
     x : Spot
-    x = straight s.names e l
+    x = straight s.names e (sheet_line s)
 
     w : ℕ
     w = number_of i t.kept t.states e
 
-    f : SpotIs i t.states (ran s).kept l x w
-    f = spotted i t.states (ran s).kept t.kept s.names e l a.stand
+    f : Operands t s (all_straight s.names (e ∷ []) (sheet_line s)) (w ∷ [])
+    f = operands_made t s (e ∷ []) a
 
     b : Written t (makes s x.line)
-    b = makes_written t s x.line a f.quiet f.many f.read
+    b = f.written
   writes_same t s (note m) a = record {
     stand = record {
       rows = b.stand.rows;
@@ -808,50 +841,30 @@ module _ (i : Input) (begin : Trail) where
     b = p.written
   writes_same t s (check e) a = a
   writes_same t s (set p c e v) a =
-      let start = (ran s).kept in let l = sheet_line s in
-      let x = straight s.names e l in let f = spotted i t.states start t.kept s.names e l a.stand in
-      let y = straight s.names v x.line in let g = spotted i t.states start t.kept s.names v x.line (after i t.states start t.kept s.names l x _ a.stand f) in
-      let last = read_all i t.states start y.line.readings in
-      let b = makes_written t s y.line a (quiet_then i t.states start start (read_all i t.states start x.line.readings) last f.quiet g.quiet) g.many g.read in
-      let z = makes s y.line in
-      let ex = f.worth (ran z).kept (made_at t s y.line _ a (quiet_later i t.states start _ last g.quiet)) in
-      let ey = g.worth (ran z).kept (made_at t s y.line last a (later_same last)) in
+      let x = straight s.names e (sheet_line s) in let y = straight s.names v x.line in let z = makes s y.line in
+      let f = given_change t s (e ∷ v ∷ []) None a in let b = f.written in let is = f.numbers in
       effect t z (code.set p c x.at y.at) _ _ b
-      (λ j. record (ran z) { states = slice_set (b.states j) p (with_number (state_of (b.states j) p) c (ex j) (ey j)); outs = b.outs j })
+      (λ j. record (ran z) {
+        states = slice_set (b.states j) p (with_number (state_of (b.states j) p) c (slice_index (is j) 0) (slice_index (is j) 1));
+        outs = b.outs j;
+      })
   writes_same t s (set_square p c r k v) a =
-      let start = (ran s).kept in let l = sheet_line s in let n = s.names in
-      let x = straight n r l in let f = spotted i t.states start t.kept n r l a.stand in let sx = after i t.states start t.kept n l x _ a.stand f in
-      let y = straight n k x.line in let g = spotted i t.states start t.kept n k x.line sx in let sy = after i t.states start t.kept n x.line y _ sx g in
-      let q = straight n v y.line in let h = spotted i t.states start t.kept n v y.line sy in
-      let ax = read_all i t.states start x.line.readings in let ay = read_all i t.states start y.line.readings in
-      let last = read_all i t.states start q.line.readings in
-      let gh = quiet_then i t.states start ax ay last g.quiet h.quiet in
-      let b = makes_written t s q.line a (quiet_then i t.states start start ax last f.quiet gh) h.many h.read in
-      let z = makes s q.line in
-      let ex = f.worth (ran z).kept (made_at t s q.line ax a (quiet_later i t.states start ax last gh)) in
-      let ey = g.worth (ran z).kept (made_at t s q.line ay a (quiet_later i t.states start ay last h.quiet)) in
-      let ev = h.worth (ran z).kept (made_at t s q.line last a (later_same last)) in
+      let x = straight s.names r (sheet_line s) in let y = straight s.names k x.line in let q = straight s.names v y.line in let z = makes s q.line in
+      let f = given_change t s (r ∷ k ∷ v ∷ []) None a in let b = f.written in let is = f.numbers in
       effect t z (code.set_square p c x.at y.at q.at) _ _ b
       (λ j. record (ran z) {
-        states = slice_set (b.states j) p (with_number (state_of (b.states j) p) c (flat_index i.count (ex j) (ey j)) (ev j));
+        states = slice_set (b.states j) p
+            (with_number (state_of (b.states j) p) c (flat_index i.count (slice_index (is j) 0) (slice_index (is j) 1)) (slice_index (is j) 2));
         outs = b.outs j;
       })
   writes_same t s (push p c e numbers m) a =
-      let start = (ran s).kept in let l = sheet_line s in
-      let x = straight s.names e l in let f = spotted i t.states start t.kept s.names e l a.stand in
-      let y = all_straight s.names numbers x.line in
-      let g = all_spotted i t.states start t.kept s.names numbers x.line (after i t.states start t.kept s.names l x _ a.stand f) in
-      let ax = read_all i t.states start x.line.readings in let last = read_all i t.states start y.line.readings in
-      let b = makes_written t s y.line a (quiet_then i t.states start start ax last f.quiet g.quiet) g.many g.read in
-      let z = sending m (makes s y.line) in let d = sending_same t m (makes s y.line) b in
-      let k = (ran z.sheet).kept in
-      let ex = f.worth k (later_then ax (ran (makes s y.line)).kept k (made_at t s y.line ax a (quiet_later i t.states start ax last g.quiet)) d.later) in
-      let en = g.worth k (later_then last (ran (makes s y.line)).kept k (made_at t s y.line last a (later_same last)) d.later) in
-      let es = d.written.states in let eo = d.written.outs in let em = d.sent in
-      effect t z.sheet (code.push p c x.at y.at z.sent) _ _ d.written
+      let x = straight s.names e (sheet_line s) in let y = all_straight s.names numbers x.line in let z = sending m (makes s y.line) in
+      let f = given_change t s (e ∷ numbers) m a in let b = f.written in let is = f.numbers in let em = f.message in
+      effect t z.sheet (code.push p c x.at y.at z.sent) _ _ b
       (λ j. record (ran z.sheet) {
-        states = slice_set (es j) p (with_row (state_of (es j) p) c (ex j) (record { numbers = en j; message = em j }));
-        outs = eo j;
+        states = slice_set (b.states j) p
+            (with_row (state_of (b.states j) p) c (slice_index (is j) 0) (record { numbers = drop 1 (is j); message = em j }));
+        outs = b.outs j;
       })
   writes_same t s (take p c e) a = subst (Agrees (does i t (take p c e)) n' (forgotten z.registers) s.messages) (sym came) (record {
     stand = record {
@@ -877,14 +890,14 @@ module _ (i : Input) (begin : Trail) where
     n' : Names
     n' = record s.names { rows = suc s.names.rows }
 
-    f : SpotIs i t.states (ran s).kept (sheet_line s) x (number_of i t.kept t.states e)
-    f = spotted i t.states (ran s).kept t.kept s.names e (sheet_line s) a.stand
-
     z : Sheet
     z = makes s x.line
 
+    f : Given t (record { sheet = z; sent = None }) (x.at ∷ []) (number_of i t.kept t.states e ∷ []) None
+    f = given_change t s (e ∷ []) None a
+
     b : Written t z
-    b = makes_written t s x.line a f.quiet f.many f.read
+    b = f.written
 
     k : Kept
     k = (ran z).kept
@@ -902,7 +915,7 @@ module _ (i : Input) (begin : Trail) where
     grown = record { numbers = grown_same k.numbers; messages = grown_same k.messages; rows = grown_one k.rows taken_row }
 
     ex : operand_at i k x.at ≡ number_of i t.kept t.states e
-    ex = f.worth k (made_at t s x.line _ a (later_same _))
+    ex = ap (λ ns. slice_index ns 0) f.numbers
 
     row_is : taken_row ≡ row
     row_is = λ j. row_at (state_of (b.states j) p) c (ex j) 0
@@ -910,40 +923,40 @@ module _ (i : Input) (begin : Trail) where
     came : ran (changes z (code.take p c x.at)) ≡ steps i (ran z) (code.take p c x.at)
     came = fold-append (steps i) begin z.steps (code.take p c x.at ∷ [])
   writes_same t s (output dir kind numbers m) a =
-      let z = sending m s in let d = sending_same t m s a in let k = (ran z.sheet).kept in
-      let en = atoms_same i t.states k t.kept s.names numbers (ran s).kept s.registers a.stand k d.later in
-      let es = d.written.states in let eo = d.written.outs in let em = d.sent in
-      puts t z.sheet (code.output dir kind (map (operand_for s.names) numbers) z.sent) _ d.written
-      (λ j. record (ran z.sheet) { states = es j; outs = eo j ++ (dir, event_of kind (en j) (em j)) ∷ [] })
+      let z = sending m s in let f = given_output t s numbers m a in let b = f.written in let is = f.numbers in let em = f.message in
+      puts t z.sheet (code.output dir kind (map (operand_for s.names) numbers) z.sent) _ b
+      (λ j. record (ran z.sheet) { states = b.states j; outs = b.outs j ++ (dir, event_of kind (is j) (em j)) ∷ [] })
 
   writes_all : (os : List Operation) (t : Trail) (s : Sheet) → Written t s → Written (fold (does i) t os) (fold writes s os)
   writes_all [] t s a = a
   writes_all (o ∷ os) t s a = writes_all os (does i t o) (writes s o) (writes_same t s o a)
 
+-- the sheet is begun where the tests have come to
+pub begins_written : (g : Guarded) (i : Input) (ss : List State) →
+    Written i (begun ss (tested i (code_of g).tests ss)) (before ss) (first_sheet (guarding g))
+begins_written g i ss = let s = (guarded i ss g).stand in record {
+  stand = record {
+    rows = s.rows;
+    many = s.many;
+    read = s.read;
+    taken = refl;
+    same_values = refl;
+    same_numbers = refl;
+    same_messages = refl;
+    value_names = λ u g k. refl;
+    number_names = λ u g k. refl;
+    message_names = λ u g k. refl;
+  };
+  many = no_messages i ss (code_of g).tests;
+  states = refl;
+  outs = refl;
+}
+
 pub code_is_same : CodeIsSame
 code_is_same g i ss = chosen_end tried.passes (holds i g ss) (fold (steps i) (begun ss tried) (code_of g).steps) (perform i g.operations ss)
-    tests_are.passing (ap₂ (λ states outs. record { states = states; outs = outs }) done.states done.outs) where
+    (guarded i ss g).passing (ap₂ (λ states outs. record { states = states; outs = outs }) done.states done.outs) where
       tried : Tested
       tried = tested i (code_of g).tests ss
 
-      tests_are : Guards i ss (holds i g ss) (values_of i ss g.values) (guarding g)
-      tests_are = guarded i ss g
-
       done : Written i (begun ss tried) (perform i g.operations ss) (fold writes (first_sheet (guarding g)) g.operations)
-      done = writes_all i (begun ss tried) g.operations (before ss) (first_sheet (guarding g)) (record {
-        stand = record {
-          rows = tests_are.stand.rows;
-          many = tests_are.stand.many;
-          read = tests_are.stand.read;
-          taken = refl;
-          same_values = refl;
-          same_numbers = refl;
-          same_messages = refl;
-          value_names = λ u g k. refl;
-          number_names = λ u g k. refl;
-          message_names = λ u g k. refl;
-        };
-        many = no_messages i ss (code_of g).tests;
-        states = refl;
-        outs = refl;
-      })
+      done = writes_all i (begun ss tried) g.operations (before ss) (first_sheet (guarding g)) (begins_written g i ss)

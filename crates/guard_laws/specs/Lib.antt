@@ -6,3 +6,4 @@ pub mod Code
 pub mod Entry
 pub mod Counts
 pub mod Forms
+pub mod Safe

@@ -7,6 +7,7 @@ ghost use Rattle.guard_laws.specs.Code.{CodeIsSame};
 ghost use Rattle.guard_laws.specs.Counts.{CodeAddsNothing, HoistedAddsNothing, SimplifiedAddsNothing};
 ghost use Rattle.guard_laws.specs.Entry.{CodesAreRight, CodesFollowTraces, EntriesAreGuarded};
 ghost use Rattle.guard_laws.specs.Forms.{SimplifiedStaysFormed};
+ghost use Rattle.guard_laws.specs.Safe.{CodeIsSafe};
 ghost use Rattle.guard_laws.specs.Same.{HoistedIsSame};
 ghost use Rattle.guard_laws.specs.Simpler.{SimplifiedIsReduced, SimplifiedIsSame};
 
@@ -33,6 +34,11 @@ pub fn simplified_stays_formed()
 /// Code passes its tests where its guarded handler holds, and then ends alike.
 pub fn code_is_same()
     ensures { CodeIsSame }
+{}
+
+/// Where a guarded handler's operations are safe along the way, so are the steps of its code.
+pub fn code_is_safe()
+    ensures { CodeIsSafe }
 {}
 
 /// On the states and inputs of an entry its guarded handler does what following its trace does.
