@@ -21,7 +21,7 @@ one_announced here (Block a) headers body = refl
 one_announced here (Announce ranks) headers body = refl
 one_announced here (Timer moment) headers body = refl
 one_announced here (Packet dest plan) headers body = refl
-one_announced here Nowhere headers body = refl
+one_announced here (Nowhere plan) headers body = refl
 one_announced here (Quiet dir signal) headers body = refl
 
 -- what outputs announce

@@ -1,5 +1,5 @@
 -- What outputs are that are kept, with the bytes of all.
-use Rattle.std.specs.Prelude.{◌≡◌, ℕ, ◌+◌, ◌*◌, ◌≤◌, List, length, Option, Some, None}
+use Rattle.std.specs.Prelude.{◌≡◌, ℕ, ◌+◌, ◌*◌, ◌≤◌, Bool, true, false, ◌&&◌, nat_lt, if◌then◌else◌, List, [], ◌∷◌, length, Option, Some, None}
 use Rattle.std.specs.List.{AllByRecursion}
 use Rattle.slot_pool.specs.Held.{range}
 use Rattle.msg_core.specs.Parts.{longest_body}
@@ -31,7 +31,7 @@ output_with here (Block a) headers body = (member.block a, None)
 output_with here (Announce ranks) headers body = (member.announce ranks, None)
 output_with here (Timer moment) headers body = (member.timer moment, None)
 output_with here (Packet dest plan) headers body = (member.packet (sent_packet here dest headers body), plan)
-output_with here Nowhere headers body = (member.nowhere, None)
+output_with here (Nowhere plan) headers body = (member.nowhere, plan)
 output_with here (Quiet dir signal) headers body = (member.quiet dir (signal_meant signal), None)
 
 -- The output that is kept.
@@ -46,6 +46,31 @@ IsFor here dir e what = output_with here what (member.content e).headers (member
 abbrev pub announced_by : What → Option ℕ
 announced_by (Announce ranks) = Some ranks
 announced_by _ = None
+
+-- Whether it takes one of the numbers of plans.
+abbrev pub takes_number : What → Bool
+takes_number (Packet dest plan) = true
+takes_number (Nowhere plan) = true
+takes_number _ = false
+
+-- The same, sent short under this plan if it takes a number.
+abbrev pub under : Option ℕ → What → What
+under plan (Packet dest _) = Packet dest plan
+under plan (Nowhere _) = Nowhere plan
+under plan what = what
+
+-- A number, as far as there are so many plans.
+abbrev pub number_below : ℕ → ℕ → Option ℕ
+number_below count k = if nat_lt k count then Some k else None
+
+-- The next number behind it; those that no plan has are all the same.
+abbrev pub number_behind : ℕ → ℕ → What → ℕ
+number_behind count k what = if takes_number what && nat_lt k count then k + 1 else k
+
+-- Outputs that take their numbers in order, from this one on.
+abbrev pub numbered : ℕ → ℕ → List Kept → List Kept
+numbered count k [] = []
+numbered count k (x ∷ list) = record x { what = under (number_below count k) x.what } ∷ numbered count (number_behind count k x.what) list
 
 -- Outputs are kept in so many places: there is room for the rest of them, and for the longest body of each.
 pub record AreKept (places room room_of_bytes : ℕ) (bytes : List ℕ) (list : List Kept) : Type 0 where

@@ -1,23 +1,27 @@
 //! What is kept of an output.
 
-ghost use Rattle.std.specs.Prelude.{◌≡◌, [], ◌∷◌, ◌==◌, ◌&&◌, ◌+◌, ◌<◌, ◌≤◌, ◌++◌, ℕ, true, not, nat_lt, is_some, List, None, length, vec_len, vec_capacity};
+ghost use Rattle.std.specs.Prelude.{◌≡◌, [], ◌∷◌, ◌==◌, ◌&&◌, ◌+◌, ◌<◌, ◌≤◌, ◌++◌, ℕ, true, false, not, nat_lt, if◌then◌else◌, is_some, List, Some, None, length, vec_len, vec_capacity};
 ghost use Rattle.circular_buffer.specs.Buffer.{buffer};
 ghost use Rattle.slot_pool.specs.Held.{Held};
+ghost use Rattle.msg_core.specs.Chain.{Content};
 ghost use Rattle.msg_core.specs.Parts.{longest_body};
 ghost use Rattle.msg_core.specs.View.{member_count as members_of, most_members};
 ghost use Rattle.layer_ast.specs.declared.tokens.Dir.TheVariants.{Up, Down};
 ghost use Rattle.layer_ast.specs.declared.tokens.Kind.TheVariants as kind;
+ghost use Rattle.layer_mean.specs.Envelope.{event_in};
 ghost use Rattle.layer_mean.specs.Event.{carries};
 ghost use Rattle.layer_mean.specs.declared.run.Event.{Event};
 ghost use Rattle.packet_mean.specs.declared.here.Here.{Here};
 ghost use Rattle.pool_message.specs.Seen.{event_seen, EventLies};
 ghost use Rattle.run_mean.specs.Member.{content};
-ghost use Rattle.step_outputs.specs.Kept.{announced_by, bytes_in, LiesWithin, output_with, IsFor};
+ghost use Rattle.stack_mean.specs.Plans.{plans_limit};
+ghost use Rattle.step_outputs.specs.Kept.{announced_by, bytes_in, number_below, number_behind, under, LiesWithin, output_with, IsFor};
 ghost use Rattle.step_outputs.specs.Views.{output_meant, signal_meant};
 
 use crate::list::KeptList;
 use crate::view::{OutputView, PacketView, Signal};
 use layer_ast::{Dir, Kind};
+use layer_mean::Envelope;
 use msg_core::{Dest, Headers};
 use packet_full::{member_count, put_body};
 use packet_mean::Here;
@@ -41,7 +45,8 @@ pub enum What {
     Timer(u32),
     /// A packet to this destination, and the plan under which it is sent short, if it is.
     Packet(Dest, Option<u8>),
-    Nowhere,
+    /// A send that has no other member to go to, and the plan that its packet would have, if any.
+    Nowhere(Option<u8>),
     Quiet(Dir, Signal),
 }
 
@@ -128,7 +133,7 @@ fn sent_to(here: &Here, peer: u32) -> What
     if is_other(here, peer) {
         What::Packet(Dest::Rank(peer as u8), None)
     } else {
-        What::Nowhere
+        What::Nowhere(None)
     }
 }
 
@@ -153,6 +158,87 @@ pub(crate) fn what_of(here: &Here, direction: Dir, event: &PoolEvent) -> What
     match direction {
         Dir::Up => above(here, event),
         Dir::Down => below(here, event),
+    }
+}
+
+/// What an event that carries a message is at the edge at which it leaves.
+pub(crate) fn what_carried(here: &Here, direction: Dir, envelope: Envelope) -> What
+    requires { carries envelope.kind ≡ true }
+    ensures { (m : Content) → IsFor here.now direction (event_in envelope (Some m)) result }
+{
+    match direction {
+        Dir::Up => match envelope.kind {
+            Kind::Cast => What::Cast(envelope.peer),
+            Kind::Send => What::Send(envelope.peer),
+            _ => unreachable!(),
+        },
+        Dir::Down => match envelope.kind {
+            Kind::Cast => What::Packet(Dest::All, None),
+            Kind::Send => sent_to(here, envelope.peer),
+            _ => unreachable!(),
+        },
+    }
+}
+
+/// What an event without a message is at the edge at which it leaves.
+pub(crate) fn what_bare(direction: Dir, envelope: Envelope) -> What
+    requires { carries envelope.kind ≡ false }
+    ensures { (here : Here) → IsFor here direction (event_in envelope None) result }
+{
+    let signal = Signal {
+        kind: envelope.kind,
+        peer: envelope.peer,
+        a: envelope.a,
+        b: envelope.b,
+    };
+    match direction {
+        Dir::Up => match envelope.kind {
+            Kind::Cast => unreachable!(),
+            Kind::Send => unreachable!(),
+            Kind::Block => What::Block(envelope.a),
+            Kind::View => What::Announce(envelope.a),
+            _ => What::Quiet(Dir::Up, signal),
+        },
+        Dir::Down => match envelope.kind {
+            Kind::Cast => unreachable!(),
+            Kind::Send => unreachable!(),
+            Kind::Timer => What::Timer(envelope.a),
+            _ => What::Quiet(Dir::Down, signal),
+        },
+    }
+}
+
+/// A number as that of a plan, where there are more plans.
+fn plan_at(next: u32, count: u32) -> Option<u8>
+    requires { count ≤ plans_limit }
+    ensures { result ≡ number_below count next }
+{
+    if next < count { Some(next as u8) } else { None }
+}
+
+/// The next number, as far as there are plans.
+fn number_more(next: u32, count: u32) -> u32
+    ensures { result ≡ if nat_lt next count then next + 1 else next }
+{
+    if next < count { next + 1 } else { next }
+}
+
+/// An output takes the next number, if it takes one, and is sent short under it where there are more plans. Tells the next number behind it.
+pub(crate) fn take_number(kept: &mut Kept, next: u32, count: u32) -> u32
+    requires { count ≤ plans_limit }
+    ensures kept { kept.new ≡ record kept.old { what = under (number_below count next) kept.old.what } }
+    ensures behind { result ≡ number_behind count next kept.old.what }
+{
+    match kept.what {
+        What::Packet(dest, _) => {
+            kept.what = What::Packet(dest, plan_at(next, count));
+            number_more(next, count)
+        }
+        What::Nowhere(_) => {
+            kept.what = What::Nowhere(plan_at(next, count));
+            number_more(next, count)
+        }
+        _ => next,
     }
 }
 
@@ -183,7 +269,7 @@ pub(crate) fn shown<'b>(kept: &'b Kept, body: &'b [u8]) -> OutputView<'b>
             body,
             plan,
         }),
-        What::Nowhere => OutputView::Nowhere,
+        What::Nowhere(plan) => OutputView::Nowhere(plan),
         What::Quiet(direction, signal) => OutputView::Quiet(direction, signal),
     }
 }

@@ -1,8 +1,10 @@
 //! Outputs that are kept, one behind the other.
 
-ghost use Rattle.std.specs.Prelude.{◌≡◌, []};
+ghost use Rattle.std.specs.Prelude.{◌≡◌, ◌≤◌, [], length, take};
+ghost use Rattle.stack_mean.specs.Plans.{plans_limit};
+ghost use Rattle.step_outputs.specs.Kept.{numbered};
 
-use crate::kept::{Kept, Span, What};
+use crate::kept::{Kept, Span, What, take_number};
 use msg_core::Headers;
 use slot_pool::Memory;
 use std::alloc::Global;
@@ -29,8 +31,10 @@ impl Model for KeptList {
 }
 
 impl KeptList {
-    ghost use Rattle.std.specs.Prelude.{◌≡◌, ◌<◌, [], ◌∷◌, ◌++◌, length, IfOk};
+    ghost use Rattle.std.specs.Prelude.{◌≡◌, ◌<◌, ◌≤◌, [], ◌∷◌, ◌++◌, length, IfOk};
     ghost use Rattle.circular_buffer.specs.Buffer.{buffer};
+    ghost use Rattle.stack_mean.specs.Plans.{plans_limit};
+    ghost use Rattle.step_outputs.specs.Kept.{numbered};
 
     /// No output, with so many places.
     pub fn fresh(alloc: Global, places: usize) -> Result<KeptList, Memory>
@@ -88,6 +92,34 @@ impl KeptList {
             });
         }
         self.count += 1;
+    }
+
+    /// Each takes its number, from this one on, of so many plans.
+    pub fn number(&mut self, first: u32, count: u32)
+        requires { count ≤ plans_limit }
+        ensures { self.new ≡ buffer (numbered count first self.old.items) self.old.capacity }
+    {
+        number_front(self.places.as_mut_slice(), self.count, first, count);
+    }
+}
+
+/// Each of the first outputs takes its number, from this one on, of so many plans.
+fn number_front(list: &mut [Kept], used: usize, first: u32, count: u32)
+    requires few { count ≤ plans_limit }
+    requires within { used ≤ length list.old }
+    ensures { take used list.new ≡ numbered count first (take used list.old) }
+{
+    number_all(&mut list[..used], first, count);
+}
+
+/// Each of some outputs takes its number, from this one on, of so many plans.
+fn number_all(list: &mut [Kept], first: u32, count: u32)
+    requires { count ≤ plans_limit }
+    ensures { list.new ≡ numbered count first list.old }
+{
+    let mut next = first;
+    for kept in list.iter_mut() {
+        next = take_number(kept, next, count);
     }
 }
 

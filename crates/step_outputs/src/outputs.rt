@@ -1,20 +1,27 @@
 //! The outputs of a step.
 
-ghost use Rattle.std.specs.Prelude.{◌≡◌, ◌<◌, ◌≤◌, [], ◌∷◌, ◌++◌, map, length, slice_get, is_some, Some, None, IfOk};
+ghost use Rattle.std.specs.Prelude.{◌≡◌, ◌<◌, ◌≤◌, true, false, List, [], ◌∷◌, ◌++◌, map, length, slice_get, is_some, Some, None, IfOk};
 ghost use Rattle.std.specs.List.{filter_map};
 ghost use Rattle.stack_mean.specs.Acceptance.{largest_weight};
+ghost use Rattle.stack_mean.specs.Plan.{Plan};
+ghost use Rattle.stack_mean.specs.Plans.{plans_limit};
+ghost use Rattle.msg_core.specs.Parts.{longest_body};
 ghost use Rattle.event_graph.specs.Answer.{stack_tree};
+ghost use Rattle.layer_mean.specs.Envelope.{event_in};
 ghost use Rattle.layer_mean.specs.Event.{carries};
 ghost use Rattle.pool_message.specs.Seen.{event_seen, EventLies};
-ghost use Rattle.run_mean.specs.Member.{announced, output_of};
+ghost use Rattle.run_mean.specs.Common.{with_plans};
+ghost use Rattle.run_mean.specs.Member.{announced, output_of, Output};
+ghost use Rattle.step_outputs.specs.Gathered.{full_output};
 ghost use Rattle.step_outputs.specs.Views.{output_meant};
 
-use crate::kept::{announces, body_of, keep, keep_bytes, shown, what_of};
+use crate::kept::{announces, body_of, keep, keep_bytes, shown, what_bare, what_carried, what_of};
 use crate::list::KeptList;
 use crate::view::OutputView;
 use event_graph::Stack;
 use layer_ast::Dir;
-use msg_core::{LONGEST_BODY, View};
+use layer_mean::Envelope;
+use msg_core::{Headers, LONGEST_BODY, View};
 use packet_mean::Here;
 use pool_message::PoolEvent;
 use slot_pool::{Memory, Pool};
@@ -95,6 +102,48 @@ impl Outputs {
         let body = keep_bytes(body_of(event, pool), &mut self.bytes);
         let what = what_of(&self.here, direction, event);
         keep(&mut self.list, what, event, body);
+    }
+
+    /// Puts what an event is that leaves the stack with a message of these headers and a copy of these bytes behind the others.
+    pub fn put_content(
+        &mut self,
+        direction: Dir,
+        envelope: Envelope,
+        headers: &Headers,
+        body: &[u8],
+    )
+        requires carries { carries envelope.kind ≡ true }
+        requires few { length body.now ≤ longest_body }
+        requires room { length self.old.outputs < self.old.places }
+        ensures { self.new ≡ record self.old {
+          outputs = self.old.outputs
+              ++ full_output self.old.here (direction, event_in envelope (Some (record { headers = headers.now; body = body.now }))) ∷ [];
+        } }
+    {
+        let body = keep_bytes(body, &mut self.bytes);
+        let what = what_carried(&self.here, direction, envelope);
+        self.list.push(what, headers, body);
+    }
+
+    /// Puts what an event is that leaves the stack without a message behind the others.
+    pub fn put_bare(&mut self, direction: Dir, envelope: Envelope)
+        requires carries { carries envelope.kind ≡ false }
+        requires room { length self.old.outputs < self.old.places }
+        ensures { self.new ≡ record self.old { outputs = self.old.outputs ++ full_output self.old.here (direction, event_in envelope None) ∷ [] } }
+    {
+        let body = keep_bytes(&[], &mut self.bytes);
+        let what = what_bare(direction, envelope);
+        self.list.push_bare(what, body);
+    }
+
+    /// Outputs that are sent in full get their plans, of which there are so many: each packet, and each send that has nowhere to go, takes one
+    /// number, in order, from this one on.
+    pub fn send_short(&mut self, first: u32, count: u32)
+        requires { count ≤ plans_limit }
+        ensures { (plans : List Plan) → length plans ≡ count → (outs : List Output) → self.old.outputs ≡ map (λ o. (o, None)) outs →
+            self.new ≡ record self.old { outputs = with_plans plans (Some first) outs } }
+    {
+        self.list.number(first, count);
     }
 
     /// How many there are.

@@ -35,8 +35,8 @@ pub enum OutputView<'b> {
     /// A moment of the member's clock is asked for.
     Timer(u32),
     Packet(PacketView<'b>),
-    /// A send that has no other member to go to.
-    Nowhere,
+    /// A send that has no other member to go to, and the plan that its packet would have, if any.
+    Nowhere(Option<u8>),
     /// An event that is nothing outside, and the way in which it left.
     Quiet(Dir, Signal),
 }
