@@ -1,5 +1,5 @@
 -- The shapes of a step's entry tell in which cases it may be common.
-use Rattle.std.proofs.Common.{◌≡◌, ◌∙◌, ℕ, zero, suc, Bool, true, false, List, [], ◌∷◌, map, Option, Some, None, refl, sym, ap, ap₂}
+use Rattle.std.proofs.Common.{◌≡◌, ◌∙◌, ℕ, zero, suc, Bool, true, false, List, [], ◌∷◌, map, Option, Some, None, refl, ap, ap₂}
 use Rattle.std.specs.Prelude.{◌&&◌, ◌||◌, nat_le, if◌then◌else◌, is_some, option_map, option_and_then, slice_get, Result, Ok, Err}
 use Rattle.std.specs.Option.{option_map_or}
 use Rattle.std.specs.Result.{is_ok}
@@ -18,7 +18,7 @@ use Rattle.run_mean.specs.Member.{Entered, app_cast, app_send, app_leave, clock_
 use Rattle.stack_shapes.specs.declared.entry.EntryOf.{EntryOf}
 use Rattle.shape_core.specs.Cases.{CaseShapes}
 use Rattle.stack_shapes.specs.Shapes.{ShortShapes, limited, kept_shapes, plan_shapes, short_shapes}
-use Rattle.stack_shapes.specs.Entries.{planned, entry_for, shapes_at, has_case, common_by, EntriesTellCommon}
+use Rattle.stack_shapes.specs.Entries.{planned, entry_for, shapes_at, common_by, EntriesTellCommon}
 
 -- a shape is kept exactly where it is short enough
 short_is_kept : (drawn : Result Shape NoShape) → is_ok (limited drawn) ≡ is_short drawn

@@ -1,5 +1,5 @@
 -- The plans of the groups, one behind the other.
-use Rattle.std.proofs.Common.{◌≡◌, ◌≤◌, append-nil, List, [], ◌∷◌, ◌++◌, map, flat_map, take, length, refl, sym, ap, ◌∙◌}
+use Rattle.std.proofs.Common.{◌≡◌, ◌≤◌, append-nil, List, [], ◌∷◌, ◌++◌, map, flat_map, take, length, sym, ap, ◌∙◌}
 use Rattle.std.specs.Prelude.{Result, Err}
 use Rattle.std.proofs.lemmas.List.{map-append}
 use Rattle.std.proofs.lemmas.List.Concat.{flat_map-cons}

@@ -1,5 +1,5 @@
 -- Shapes whose lengths are held within 32 bits: their outputs are the same, and so are those that aren't too long.
-use Rattle.std.proofs.Common.{◌≡◌, ◌∙◌, ℕ, ◌≤◌, Bool, true, false, List, map, refl, sym, ap, ap₂, subst, arith}
+use Rattle.std.proofs.Common.{◌≡◌, ◌∙◌, ◌≤◌, Bool, true, false, List, map, refl, sym, ap, ap₂, arith}
 use Rattle.std.specs.Prelude.{leb, min, if◌then◌else◌, Result, Ok, Err}
 use Rattle.std.proofs.Math.Nat.{min-eq_left, le-min}
 use Rattle.std.proofs.lemmas.Bool.{leb-true, leb-false, lt-leb}

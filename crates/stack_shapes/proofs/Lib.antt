@@ -3,3 +3,5 @@ pub mod Gathered
 pub mod Groups
 pub mod Common
 pub mod Held
+mod Few
+mod Begins

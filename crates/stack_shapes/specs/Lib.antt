@@ -3,3 +3,4 @@ pub mod Prints
 pub mod Trees
 pub mod Shapes
 pub mod Entries
+pub mod Starts

@@ -13,6 +13,7 @@ mod plan;
 mod plans;
 mod print;
 mod stack;
+mod starts;
 mod types;
 
 pub use entries::{EntryShapes, entries_tell_common};
@@ -20,4 +21,5 @@ pub use entry::EntryOf;
 pub use kept::Plans;
 pub use print::Print;
 pub use stack::StackShapes;
+pub use starts::PlanStarts;
 pub use types::{MOST_PLANS, Plan};

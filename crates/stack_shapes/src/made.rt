@@ -7,6 +7,7 @@ ghost use Rattle.shape_core.specs.Cases.{case_trees, shapes_of};
 ghost use Rattle.shape_core.specs.Sketch.{known_tree};
 ghost use Rattle.stack_shapes.specs.Lists.{plan_tree};
 ghost use Rattle.stack_shapes.specs.Shapes.{kept_shapes, plan_shapes};
+ghost use Rattle.stack_shapes.specs.Starts.{HaveFewOuts};
 
 use crate::cases::limited_cases;
 use crate::types::Plan;
@@ -18,7 +19,8 @@ use std::alloc::Global;
 
 /// The shapes of an application's own event of a kind, however long they are.
 pub(crate) fn app_shapes(alloc: Global, stack: &Stack, kind: Kind) -> Result<CaseShapes, Memory>
-    ensures { IfOk result (λ drawn. case_trees drawn ≡ shapes_of (stack_tree stack.now) (record { dir = Down; kind = kind; tags = [] })) }
+    ensures few { IfOk result (λ drawn. HaveFewOuts (case_trees drawn)) }
+    ensures drawn { IfOk result (λ drawn. case_trees drawn ≡ shapes_of (stack_tree stack.now) (record { dir = Down; kind = kind; tags = [] })) }
 {
     let known = Known {
         dir: Dir::Down,
