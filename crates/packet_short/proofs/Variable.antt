@@ -16,6 +16,10 @@ none_variable [] = refl
 none_variable (Some c ∷ planned) = refl
 none_variable (None ∷ planned) = refl
 
+-- the same of the fields themselves
+abbrev pub KeepsOn : (planned : List (Option ℕ)) (numbers : List ℕ) (planned' : List (Option ℕ)) (numbers' : List ℕ) (old new : List ℕ) → Type 0
+KeepsOn planned numbers planned' numbers' old new = (more : List ℕ) → old ++ variable planned (numbers ++ more) ≡ new ++ variable planned' (numbers' ++ more)
+
 -- all headers are put
 pub headers_put : (whole : List ℕ) (left : List (Option ℕ)) (hs : List Header) (k : ℕ) (new : List ℕ) →
     whole ≡ new ++ flat_map number_bytes (variable left (flat_map (λ h. h.fields) (drop k hs))) → length hs ≤ k → new ≡ whole
@@ -23,4 +27,12 @@ headers_put whole left hs k new so_far past =
     sym (so_far
     ∙ ap (λ xs. new ++ flat_map number_bytes (variable left (flat_map (λ h. h.fields) xs))) (none_left hs k past)
     ∙ ap (λ xs. new ++ flat_map number_bytes xs) (none_variable left)
+    ∙ append-nil new)
+
+pub headers_kept : (whole : List ℕ) (left : List (Option ℕ)) (hs : List Header) (k : ℕ) (new : List ℕ) →
+    whole ≡ new ++ variable left (flat_map (λ h. h.fields) (drop k hs)) → length hs ≤ k → new ≡ whole
+headers_kept whole left hs k new so_far past =
+    sym (so_far
+    ∙ ap (λ xs. new ++ variable left (flat_map (λ h. h.fields) xs)) (none_left hs k past)
+    ∙ ap (λ xs. new ++ xs) (none_variable left)
     ∙ append-nil new)

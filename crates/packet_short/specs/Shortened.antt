@@ -29,3 +29,7 @@ short_room packet = suc (room_needed packet)
 abbrev pub PutsVariable : (planned : List (Option ℕ)) (fields : List ℕ) (rest : List (Option ℕ)) (old new : List ℕ) → Type 0
 PutsVariable planned fields rest old new = (more : List ℕ) →
     old ++ flat_map number_bytes (variable planned (fields ++ more)) ≡ new ++ flat_map number_bytes (variable rest more)
+
+-- The same where the fields themselves were put behind numbers.
+abbrev pub KeepsVariable : (planned : List (Option ℕ)) (fields : List ℕ) (rest : List (Option ℕ)) (old new : List ℕ) → Type 0
+KeepsVariable planned fields rest old new = (more : List ℕ) → old ++ variable planned (fields ++ more) ≡ new ++ variable rest more

@@ -4,6 +4,7 @@
 mod agreement;
 mod contents;
 mod error;
+mod fields;
 mod fit;
 mod laws;
 mod planned;
@@ -11,7 +12,8 @@ mod scan;
 mod write;
 
 pub use error::NotFitting;
+pub use fields::variable_fields;
 pub use fit::{fits, fits_scan, kind_of};
 pub use laws::written_short_is_read;
 pub use scan::scan_packet;
-pub use write::put_short_of;
+pub use write::{put_short, put_short_of, short_room_of};

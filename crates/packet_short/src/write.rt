@@ -1,9 +1,11 @@
 //! Packets to their short forms.
 
 ghost use Rattle.std.specs.Prelude.{◌≡◌, ◌+◌, ◌*◌, ◌≤◌, ◌∷◌, ◌++◌, [], length, flat_map, vec_len, vec_capacity};
+ghost use Rattle.msg_core.specs.declared.packet.Dest.{Dest};
 ghost use Rattle.packet_full.specs.Sent.{sent_packet};
 ghost use Rattle.packet_mean.specs.Plan.{variable};
 ghost use Rattle.packet_mean.specs.Spelling as spelling;
+ghost use Rattle.packet_mean.specs.declared.here.Here.{Here};
 ghost use Rattle.stack_shapes.specs.Lists.{plan_tree};
 ghost use Rattle.packet_short.specs.Shortened.{Puts, PutsVariable, short_room, short_under};
 
@@ -13,6 +15,12 @@ use msg_core::{Dest, Fields, Headers};
 use packet_full::{SHORT_FORM, put_body, put_number, put_preamble};
 use packet_mean::Here;
 use stack_shapes::Plan;
+
+/// The bytes in front of a packet's headers, and the number of its plan.
+const FRONT_BYTES: usize = 20;
+
+/// The most bytes that a header is given, as in the full form.
+const HEADER_BYTES: usize = 17;
 
 /// Puts a number, unless it is planned as a constant.
 fn put_variable(planned: Option<u32>, number: u32, into: &mut Vec<u8>)
@@ -62,8 +70,16 @@ fn put_headers(plan: &Plan, headers: &Headers, into: &mut Vec<u8>)
     }
 }
 
-/// Puts in its short form what fits a plan.
-fn put_fitting(
+/// How much room the short form of these parts of a packet is given.
+pub fn short_room_of(headers: &Headers, body: &[u8]) -> usize
+    ensures { (here : Here) → (dest : Dest) → result ≡ short_room (sent_packet here dest headers.now body.now) }
+{
+    headers.len() as usize * HEADER_BYTES + FRONT_BYTES + body.len()
+}
+
+/// Puts in its short form, under a plan and its number, what a member sends to a destination, with these headers and this body, behind what a vector
+/// holds, as the plan says and without asking whether it fits. It takes no memory: there is to be room for 17 bytes of each header, the body and 20 more.
+pub fn put_short(
     plan: &Plan,
     number: u8,
     here: &Here,
@@ -82,9 +98,7 @@ fn put_fitting(
     put_body(body, into);
 }
 
-/// Puts in its short form, under a plan and its number, what a member sends to a destination, with these headers and this body, behind what a vector
-/// holds. It takes no memory: there is to be room for 17 bytes of each header, the body and 20 more. Err exactly where it doesn't fit the plan; then
-/// nothing changes.
+/// Puts in its short form what fits a plan, as `put_short` does. Err exactly where it doesn't fit the plan; then nothing changes.
 pub fn put_short_of(
     plan: &Plan,
     number: u8,
@@ -101,6 +115,6 @@ pub fn put_short_of(
     if !is_fitting(plan, kind_of(dest), headers) {
         return Err(NotFitting);
     }
-    put_fitting(plan, number, here, dest, headers, body, into);
+    put_short(plan, number, here, dest, headers, body, into);
     Ok(())
 }

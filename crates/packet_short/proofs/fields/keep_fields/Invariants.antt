@@ -1,0 +1,10 @@
+use Rattle.std.proofs.Common.{◌≡◌, ◌+◌, ◌≤◌, drop, length, vec_len, vec_capacity}
+use Rattle.packet_short.proofs.Variable.{KeepsOn}
+use Rattle.packet_short.proofs.fields.keep_fields.Given as goal
+
+abbrev pub invariant-loop-place : goal.invariant-loop-place
+invariant-loop-place l = record {
+  items : KeepsOn l.planned l.fields l.left (drop l.place l.fields) l.fn.into.items l.into.items;
+  len : vec_len l.into + length l.left ≤ vec_len l.fn.into + length l.planned;
+  capacity : vec_capacity l.into ≡ vec_capacity l.fn.into;
+}
