@@ -1,0 +1,5 @@
+pub mod Members
+pub mod Outputs
+pub mod Nodes
+pub mod Common
+pub mod Handled
