@@ -4,11 +4,14 @@ use Rattle.std.specs.List.{filter_map}
 use Rattle.layer_mean.specs.Tree.{LayerTree}
 use Rattle.packet_mean.specs.Spelling.{full_bytes}
 use Rattle.stack_mean.specs.Plan.{Plan}
+use Rattle.job_mean.specs.Job.{Mode}
 use Rattle.run_mean.specs.Member.{Member, Output, packet_in}
 use Rattle.run_mean.specs.World.{World}
 
--- A group as it is kept: its members by id, and every packet ever sent as its full spelling, in the order of output.
+-- A group as it is kept: the mode in which its members run their stack, its members by id, and every packet ever sent as its full spelling, in the
+-- order of output.
 pub record Peopled : Type 0 where
+  pub mode : Mode
   pub stack : List LayerTree
   pub plans : List Plan
   pub group : ℕ
@@ -28,8 +31,9 @@ abbrev pub spelled_number : List (List ℕ) → ℕ → Option (List ℕ)
 spelled_number spelled zero = None
 spelled_number spelled (suc k) = slice_get spelled k
 
--- What events leave as it is: the stack, its plans, and how many members there are.
+-- What events leave as it is: the mode, the stack, its plans, and how many members there are.
 pub record Stays (c c' : Peopled) : Type 0 where
+  pub mode : c'.mode ≡ c.mode
   pub stack : c'.stack ≡ c.stack
   pub plans : c'.plans ≡ c.plans
   pub count : length c'.members ≡ length c.members

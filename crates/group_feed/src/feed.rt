@@ -12,7 +12,8 @@ use script_mean::ScriptEvent;
 use step_outputs::Outputs;
 use view_core::Did;
 
-/// A group that takes the events of a script, one at a time.
+/// A group that takes the events of a script, one at a time. The mode in which its members run their stack, by layers or by bypasses where these
+/// hold, is one for all and stays: it says which packets are sent short and how many visits a step counts for, and nothing else.
 pub trait Feed {
     /// The group as it is kept: its members, and every packet ever sent in it.
     ghost group: { Self → Peopled };

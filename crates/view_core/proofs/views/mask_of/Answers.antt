@@ -1,7 +1,6 @@
 use Rattle.std.proofs.Common.{◌≡◌, ℕ, ◌∙◌, sym, ap, ◌+◌, ◌<◌, ◌*◌, ◌^◌, ◌%◌, arith, add-one, zero-add}
 use Rattle.std.proofs.Math.Nat.{pow-suc, mod-eq_of_lt}
 use Rattle.std.proofs.Math.Pow.{pow-lt}
-use Rattle.run_mean.specs.View as views
 use Rattle.view_core.proofs.Ids.{mask_from, mask_begins, mask_ends, mask_set, mask_unset, mask_without}
 use Rattle.view_core.proofs.views.mask_of.Goals as goal
 use Rattle.view_core.proofs.views.mask_of.Goals.{then-has, then-has-2, else-has-2, else-has}
