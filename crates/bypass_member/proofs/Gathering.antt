@@ -13,9 +13,9 @@ use Rattle.pool_message.specs.Sent.{sent_refs, sent_seen, SentLie, first_sent}
 use Rattle.pool_message.specs.declared.event.PoolEvent.{PoolEvent}
 use Rattle.pool_message.proofs.Lists.{covers_front, covers_rest, moved_rest, each_stays}
 use Rattle.pool_message.proofs.Stays.{event_stays}
-use Rattle.step_outputs.specs.Gathered.{Gathered}
+use Rattle.step_outputs.specs.Gathered.{Gathered, full_output}
 use Rattle.bypass_member.specs.Gathering.{BringsAsKind, IsGathering}
-use Rattle.bypass_member.specs.Working.{full_output, outputs_in}
+use Rattle.bypass_member.specs.Working.{outputs_in}
 
 pub gathering_begins : (p : List Held) (all : List (Dir × PoolEvent)) (out : Gathered) → SentLie p all → Covers p (sent_refs all) →
     AllByRecursion BringsAsKind all → length out.outputs + length all ≤ out.places → IsGathering p all out p all out

@@ -4,8 +4,13 @@ pub mod Gathering
 pub mod Resetting
 pub mod Running
 pub mod Entering
+pub mod Members
 pub mod Viewing
+pub mod Same
 pub mod Playing
+pub mod Places
+pub mod Trying
+pub mod Going
 pub mod Taking
 pub mod Making
 pub mod Placing

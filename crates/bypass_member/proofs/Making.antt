@@ -16,7 +16,6 @@ use Rattle.stack_mean.specs.Acceptance.{rows_of, most_rows}
 use Rattle.pool_laws.specs.Room.{slots_beyond}
 use Rattle.slot_pool.proofs.Times.{times-append}
 use Rattle.layer_mean.specs.Tree.{LayerTree, no_layer}
-use Rattle.layer_mean.specs.State.{State}
 use Rattle.layer_mean.specs.Visit.{fresh}
 use Rattle.pool_message.specs.Moves.{Returned}
 use Rattle.pool_message.proofs.Lists.{each_stays}
@@ -26,10 +25,9 @@ use Rattle.file_layer.specs.Staged.{layer_stays}
 use Rattle.file_layer.specs.declared.layer.FileLayer.{FileLayer}
 use Rattle.file_layer.specs.Making.{Making}
 use Rattle.bypass_member.specs.Making.{AreFresh, AllMade, IsOpening}
-use Rattle.bypass_member.specs.Viewing.{AreOf}
 use Rattle.bypass_member.specs.Working.{states_in, refs_in, IsQuiet}
 use Rattle.bypass_member.specs.declared.works.Works.{Works}
-use Rattle.bypass_member.proofs.Viewing.{opened_is, fresh_are_of}
+use Rattle.bypass_member.proofs.Viewing.{opened_is, fresh_own}
 
 -- one more
 
@@ -149,7 +147,7 @@ opening stack view id me count rows old new w at same rows_are few stack_is pool
       member = opened_is stack view id me at ∙ ap (inside view) (sym states);
       members = record {
         few = omega arith;
-        counts = subst (λ (all : List State). AreOf (member_count view) all) (sym states) (fresh_are_of me (member_count view) view.ltime stack);
+        own = fresh_own view id me stack (states_in w) at states;
       };
       making = record {
         same = all.making.same;

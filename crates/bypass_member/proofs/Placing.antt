@@ -1,8 +1,8 @@
 -- Steps of a placed member, taken or refused.
-use Rattle.std.proofs.Common.{◌≡◌, ◌∙◌, ℕ, ◌+◌, ◌<◌, List, Option, Some, Result, Ok, Err, sym, ap, subst}
+use Rattle.std.proofs.Common.{◌≡◌, ◌∙◌, ℕ, ◌+◌, ◌<◌, Bool, List, Option, Some, Result, Ok, Err, sym, ap, subst}
 use Rattle.std.specs.Prelude.{◌^◌}
 use Rattle.std.specs.Rc.{rc_value}
-use Rattle.msg_core.specs.View.{member_count}
+use Rattle.msg_core.specs.View.{member_count, most_members}
 use Rattle.layer_mean.specs.Tree.{LayerTree}
 use Rattle.stack_mean.specs.Plans.{plans_of}
 use Rattle.chain_laws.specs.Runs.{TypedStack}
@@ -11,21 +11,26 @@ use Rattle.event_graph.specs.declared.stack.Stack.{Stack}
 use Rattle.stack_shapes.specs.Trees.{plans_tree}
 use Rattle.stack_shapes.specs.declared.kept.Plans.{Plans}
 use Rattle.stack_shapes.specs.Shapes.{short_shapes}
+use Rattle.stack_shapes.specs.Starts.{starts_of, starts_tree}
 use Rattle.member_laws.specs.Members.{IsView, IsInput, IsEntered, IsChainedMember}
 use Rattle.member_laws.proofs.Members.{opened_is_chained}
 use Rattle.member_laws.proofs.Numbered.{inputs_are_in_range}
 use Rattle.file_layer.specs.Making.{Making}
 use Rattle.bypass_member.specs.Judged.{entry_meant}
 use Rattle.bypass_member.specs.Making.{IsOpening}
-use Rattle.bypass_member.specs.Placing.{placed, IsMember, IsRankIn}
+use Rattle.bypass_codes.specs.Codes.{CodesTree}
+use Rattle.bypass_member.specs.Modes.{IsTakenSo}
+use Rattle.bypass_member.specs.Placing.{codes_kept, placed, IsMember, IsRankIn}
+use Rattle.bypass_member.specs.Serving.{AreCodes, IsSpare}
 use Rattle.bypass_member.specs.Viewing.{HasMembers, IsIn, IsAt}
 use Rattle.bypass_member.specs.declared.entry.Entry.{Entry}
 use Rattle.bypass_member.specs.declared.member.Member.TheInside.{Inside}
 use Rattle.msg_core.specs.declared.packet.View.{View}
 use Rattle.layer_mean.specs.State.{State}
 use Rattle.packet_mean.specs.declared.here.Here.{Here}
-use Rattle.job_mean.specs.Job.{layered}
+use Rattle.job_mean.specs.Job.{Mode}
 use Rattle.run_mean.specs.Common.{is_common, as_sent}
+use Rattle.run_mean.specs.Report.{counted}
 use Rattle.run_mean.specs.Member.{Member, inside, out, Input, Refusal, Entered, entered, Step, step_from, member_behind}
 use Rattle.step_outputs.specs.Gathered.{Gathered}
 use Rattle.view_core.specs.Refusals.{refusal_meant}
@@ -33,12 +38,13 @@ use Rattle.view_core.specs.Steps.{changed}
 use Rattle.view_core.specs.declared.refusal.Refusal as refusal
 use Rattle.view_core.specs.declared.refusal.Refusal.TheVariants as reasons
 use Rattle.member_reads.specs.Shown.{member_in}
-use Rattle.bypass_member.specs.Behind.{view_behind}
+use Rattle.bypass_member.specs.Behind.{rank_of, view_behind}
 use Rattle.bypass_member.specs.Placed.{Placed, here_in, step_in, step_at, step_of, member_after, SamePlace, Takes}
-use Rattle.bypass_member.specs.Stepping.{stack_of, plans_in, IsGround, step_over, HasTaken}
-use Rattle.bypass_member.specs.Working.{states_in, IsReady}
+use Rattle.bypass_member.specs.Stepping.{stack_of, plans_in, codes_in, mode_of, IsGround, step_over, HasTaken}
+use Rattle.bypass_member.specs.Working.{states_in, taken_in, IsReady}
 use Rattle.bypass_member.specs.declared.ground.Ground.{Ground}
 use Rattle.bypass_member.specs.declared.ground.Took.{Took}
+use Rattle.bypass_member.specs.declared.scratch.Scratch.{Scratch}
 use Rattle.bypass_member.specs.declared.works.Works.{Works}
 
 -- a member has its rank in its view, and stands there
@@ -65,57 +71,77 @@ module _ (p : Placed) (view : View) (states : List State) (input : Input) (is : 
   abbrev its : Entered → Step
   its what = step_from p.stack (here_in p view) p.id states what
 
-  taken_in : (what : Entered) → entered p.stack p.plans (here_in p view) input ≡ Ok what → step_of p input ≡ Ok (its what)
-  taken_in what enters = ap (λ (m : Member). step_at p m input) is ∙ ap (λ (e : Result Entered Refusal). step_in p view states e) enters
+  steps_in : (what : Entered) → entered p.stack p.plans (here_in p view) input ≡ Ok what → step_of p input ≡ Ok (its what)
+  steps_in what enters = ap (λ (m : Member). step_at p m input) is ∙ ap (λ (e : Result Entered Refusal). step_in p view states e) enters
 
-  pub takes : (g : Ground) (what : Entered) (works : Works) (gathered : Gathered) (before after : ℕ) (took : Took) (new : Placed) →
-      stack_of g ≡ p.stack → plans_in g ≡ p.plans → g.here ≡ here_in p view → g.id ≡ p.id →
-      entered p.stack p.plans (here_in p view) input ≡ Ok what → HasTaken g states what works gathered before after took →
-      new.member ≡ member_in (view_behind g.here.view took.change) (states_in works) → SamePlace p new →
+  pub takes : (g : Ground) (what : Entered) (old works : Works) (gathered : Gathered) (before after : ℕ) (took : Took) (new : Placed) →
+      stack_of g ≡ p.stack → plans_in g ≡ p.plans → mode_of g ≡ p.mode → g.here ≡ here_in p view → g.id ≡ p.id →
+      entered p.stack p.plans (here_in p view) input ≡ Ok what → HasTaken g old what works gathered before after took →
+      states_in old ≡ states → p.taken ≡ taken_in old →
+      new.member ≡ member_in (view_behind g.here.view took.change) (states_in works) → new.taken ≡ taken_in works → SamePlace p new →
       Takes p input new gathered.outputs before after took.common took.change
-  takes g what works gathered before after took new stack plans here id enters taken member place =
-      let same : step_over g states what ≡ its what = λ i. step_from (stack i) (here i) (id i) states what in record {
+  takes g what old works gathered before after took new stack plans mode here id enters taken are told member tells place =
+      let same : step_over g (states_in old) what ≡ its what = λ i. step_from (stack i) (here i) (id i) (are i) what in
+      let common : is_common (stack_of g) (plans_in g) (step_over g (states_in old) what) ≡ is_common p.stack p.plans (its what) =
+      λ i. is_common (stack i) (plans i) (same i) in record {
         step = its what;
-        is = taken_in what enters;
+        is = steps_in what enters;
         member =
             member ∙ taken.member ∙ (λ i. member_behind (here i).view (same i))
             ∙ ap (λ (m : Member). member_after m (its what)) (sym is);
-        outputs = taken.outputs ∙ (λ i. as_sent layered (stack i) (plans i) (same i));
-        common_is = taken.common ∙ (λ i. is_common (stack i) (plans i) (same i));
+        outputs = taken.outputs ∙ (λ i. as_sent (mode i) (stack i) (plans i) (same i));
+        common_is = taken.common ∙ common;
         change_is = taken.change ∙ ap (λ (s : Step). changed s.installs) same;
-        visits = taken.visits ∙ ap (λ (s : Step). before + s.work.visits) same;
+        visits = taken.visits ∙ (λ i. before + counted (mode i) (stack i) (plans i) (same i));
+        taken_is =
+            subst (λ (xs : List ℕ). IsTakenSo p.mode (is_common p.stack p.plans (its what)) p.taken xs) (sym tells)
+            (subst (λ (xs : List ℕ). IsTakenSo p.mode (is_common p.stack p.plans (its what)) xs (taken_in works)) (sym told)
+            (subst (λ (b : Bool). IsTakenSo p.mode b (taken_in old) (taken_in works)) common
+            (subst (λ (m : Mode). IsTakenSo m (is_common (stack_of g) (plans_in g) (step_over g (states_in old) what)) (taken_in old)
+            (taken_in works)) mode taken.taken)));
         place = place;
       }
 
 -- a member that opens is one between two steps
 pub opened_member : (stack : List LayerTree) (most : ℕ) (view : View) (id : ℕ) (old new : Making) (w : Works) → TypedStack stack → IsView view →
-    most ≡ member_count view → IsOpening stack view id old new w → IsReady stack most w × IsIn stack most view (states_in w)
+    most ≡ member_count view → IsOpening stack view id old new w → IsReady stack most w × IsIn stack most view id (states_in w)
 opened_member stack most view id old new w typed is_view same opening = (
   subst (λ (n : ℕ). IsReady stack n w) (sym same) opening.ready,
   record {
     inside_is = subst (λ (m : Member). IsChainedMember stack m) opening.member (opened_is_chained stack view id typed is_view);
-    members = subst (λ (n : ℕ). HasMembers n view (states_in w)) (sym same) opening.members;
+    members = subst (λ (n : ℕ). HasMembers stack n view id (states_in w)) (sym same) opening.members;
   },
 )
 
 -- what a step works over is sound
 pub ground_is : (m : Inside) (g : Ground) (view : View) → IsMember m → m.view ≡ Some view → g.stack.now ≡ rc_value m.stack →
-    g.plans.now ≡ rc_value m.plans → g.entries.now ≡ rc_value m.entries → g.bare.now ≡ m.bare → g.here.view ≡ view → g.here.group < 2 ^ 32 → g.here.stamp < 2 ^ 32 →
-    g.here.rank < 32 → IsGround g
-ground_is m g view is at stack plans entries bare here group stamp rank =
-    let there : IsAt (stack_tree (rc_value m.stack)) m.most (Some view) (states_in m.works) =
-    subst (λ (v : Option View). IsAt (stack_tree (rc_value m.stack)) m.most v (states_in m.works)) at is.at in record {
+    g.plans.now ≡ rc_value m.plans → g.entries.now ≡ rc_value m.entries → g.starts ≡ m.starts → codes_in g ≡ codes_kept m → g.bare.now ≡ m.bare → g.here.view ≡ view → g.here.group < 2 ^ 32 → g.here.stamp < 2 ^ 32 →
+    g.here.rank ≡ m.rank → g.id ≡ m.id → IsGround g
+ground_is m g view is at stack plans entries starts codes bare here group stamp rank_is id_is =
+    let there : IsAt (stack_tree (rc_value m.stack)) m.most m.id (Some view) (states_in m.works) =
+    subst (λ (v : Option View). IsAt (stack_tree (rc_value m.stack)) m.most m.id v (states_in m.works)) at is.at in
+    let its = ranked m view is at in record {
       typed = subst (λ (s : Stack). TypedStack (stack_tree s)) (sym stack) is.typed;
       plans = ap plans_tree plans ∙ is.plans_are ∙ ap (λ (s : Stack). plans_of (stack_tree s)) (sym stack);
       entries = entries ∙ is.entries_are ∙ (λ i. short_shapes (stack_tree (sym stack i)) (plans_tree (sym plans i)));
+      starts = ap starts_tree starts ∙ is.starts_are ∙ ap (λ (s : Stack). starts_of (stack_tree s)) (sym stack);
+      codes = subst (λ (s : Stack). AreCodes (stack_tree s) (codes_in g)) (sym stack)
+          (subst (λ (c : Option CodesTree). AreCodes (stack_tree (rc_value m.stack)) c) (sym codes) is.codes_are);
       bare = bare ∙ is.bare;
       here = record {
         group = group;
         stamp = stamp;
         view = subst (λ (v : View). IsView v) (sym here) there.inside_is.view_is;
-        rank = rank;
+        rank = subst (λ (r : ℕ). r < most_members) (sym rank_is) its.1;
       };
+      rank = rank_is ∙ its.0 ∙ (λ i. rank_of (sym here i) (sym id_is i));
     }
+
+-- what runs of code keep serves for what is equal
+pub spare_for : (codes codes' : Option CodesTree) (plans plans' : Plans) (s : Scratch) → codes ≡ codes' → plans ≡ plans' →
+    IsSpare codes (plans_tree plans) s → IsSpare codes' (plans_tree plans') s
+spare_for codes codes' plans plans' s same also spare = subst (λ (c : Option CodesTree). IsSpare c (plans_tree plans') s) same
+    (subst (λ (p : Plans). IsSpare codes (plans_tree p) s) also spare)
 
 -- what is judged enters in range
 pub entered_is : (m : Inside) (stack other : Stack) (plans : Plans) (here : Here) (input : Input) (entry : Entry) → IsMember m → stack ≡ rc_value

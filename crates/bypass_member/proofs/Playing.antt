@@ -35,6 +35,8 @@ use Rattle.member_laws.specs.Members.{IsHere, IsEntered}
 use Rattle.member_laws.proofs.Members.{first_tasks_are_chained, steps_keep_chains}
 use Rattle.member_laws.specs.Steps.{IsStep}
 use Rattle.member_laws.proofs.Ends.{steps_end}
+use Rattle.trace_laws.specs.Members.{AreOf}
+use Rattle.trace_laws.proofs.Members.{runs_keep_members}
 use Rattle.layer_eval.specs.Did.{as_predicted}
 use Rattle.layer_eval.specs.declared.predicted.Predicted.{Predicted}
 use Rattle.pool_message.specs.Moves.{Returned}
@@ -47,23 +49,23 @@ use Rattle.stack_queue.specs.Stages.{Stand}
 use Rattle.stack_queue.specs.declared.tasks.PoolTask.{PoolTask}
 use Rattle.stack_queue.proofs.Entries.{entries_fit}
 use Rattle.pool_laws.specs.Room.{IsPoolFor}
-use Rattle.pool_laws.proofs.Counts.{runs_keep_counts}
 use Rattle.pool_laws.proofs.Room.{not_full}
 use Rattle.pool_laws.proofs.Stages.{own_pool_is_made}
 use Rattle.file_layer.specs.Layer.{place_of, tree_of, refs_of, IsInOrder, state_in}
 use Rattle.file_layer.specs.Staged.{layer_keeps}
 use Rattle.file_layer.specs.declared.layer.FileLayer.{FileLayer}
-use Rattle.step_outputs.specs.Gathered.{Gathered}
+use Rattle.step_outputs.specs.Gathered.{Gathered, full_output}
 use Rattle.bypass_member.specs.Entering.{Brings as BringsIn}
 use Rattle.bypass_member.specs.Gathering.{BringsAsKind}
 use Rattle.bypass_member.specs.Judged.{entry_meant, body_of}
 use Rattle.bypass_member.specs.Stepping.{stack_of, in_full, IsGround, HasPlayed}
-use Rattle.bypass_member.specs.Viewing.{IsIn}
-use Rattle.bypass_member.specs.Working.{states_in, refs_in, IsReady, CanRun, HasRun, work_of, full_output, outputs_in}
+use Rattle.bypass_member.specs.Viewing.{input_at, HasMembers, IsIn}
+use Rattle.bypass_member.specs.Working.{states_in, refs_in, IsReady, CanRun, HasRun, work_of, outputs_in}
 use Rattle.bypass_member.specs.declared.entry.Entry.{Entry}
 use Rattle.bypass_member.specs.declared.entry.Entry.TheVariants.{Cast, Send, Leave, Tick, Packet}
 use Rattle.bypass_member.specs.declared.ground.Ground.{Ground}
 use Rattle.bypass_member.specs.declared.works.Works.{Works}
+use Rattle.bypass_member.proofs.Members.{counts_are}
 use Rattle.bypass_member.proofs.Pools.{exact_more, exact_less, covers_all, covers_turned, room_left}
 use Rattle.bypass_member.proofs.Standing.{stand_stays}
 
@@ -96,9 +98,9 @@ heavy_in (suc steps) stack node = omega arith
 heavy : (stack : List LayerTree) (node : Node) → 1 ≤ weight stack node
 heavy stack node = heavy_in (length (nodes stack)) stack node
 
-module _ (stack : List LayerTree) (most : ℕ) where
+module _ (stack : List LayerTree) (most id : ℕ) where
   -- the pool is a member's own
-  pub own_pool : (view : View) (w : Works) → IsReady stack most w → IsIn stack most view (states_in w) →
+  pub own_pool : (view : View) (w : Works) → IsReady stack most w → IsIn stack most view id (states_in w) →
       IsPoolFor (rows_of stack most) w.pool (refs_in w)
   own_pool view w ready is_in = own_pool_is_made refs_of state_in IsInOrder w.pool (layer_keeps w.pool) stack most w.layers.items record {
     ready = ready.stand.ready;
@@ -107,7 +109,7 @@ module _ (stack : List LayerTree) (most : ℕ) where
       within =
           let few = is_in.members.few in
           each_so (λ (s : State). s.count ≡ member_count view) (λ (s : State). s.count ≤ most) (λ s at. omega (arith, at, few)) (states_in w)
-          is_in.members.counts.counts;
+          (counts_are (input_at view id) stack (states_in w) is_in.members.own);
     };
     exact = ready.exact;
     slots = ready.slots;
@@ -122,12 +124,12 @@ module _ (stack : List LayerTree) (most : ℕ) where
       (enters_stack stack here.rank what) in
       omega (arith, fits.weight, heavy stack (task_node (first_task stack here.rank what)), ap (λ (b : Buffer PoolTask). b.capacity) ready.quiet.tasks)
 
-  pub has_slot : (view : View) (w : Works) → IsReady stack most w → IsIn stack most view (states_in w) → IsFull w.pool → ⊥
+  pub has_slot : (view : View) (w : Works) → IsReady stack most w → IsIn stack most view id (states_in w) → IsFull w.pool → ⊥
   has_slot view w ready is_in = not_full (rows_of stack most) w.pool (refs_in w) (own_pool view w ready is_in)
 
   -- a run can begin once the event of what entered has its message in the pool
   module _ (here : Here) (what : Entered) (is_here : IsHere here) (is_entered : IsEntered stack what) (w : Works) (q : List Held) (first : PoolTask)
-      (ready : IsReady stack most w) (is_in : IsIn stack most here.view (states_in w)) (brings : BringsIn stack here.rank w.pool q what first)
+      (ready : IsReady stack most w) (is_in : IsIn stack most here.view id (states_in w)) (brings : BringsIn stack here.rank w.pool q what first)
       (ts : Buffer PoolTask) (only : ts ≡ buffer (first ∷ []) w.tasks.capacity) where
     stays : Stand place_of tree_of IsInOrder stack q w.layers.items × (map (state_in q) w.layers.items ≡ states_in w)
     stays = stand_stays stack w.pool q [] (event_refs first.event) w.layers.items brings.moved (covers_all w.pool (refs_in w) ready.exact) ready.stand
@@ -166,7 +168,7 @@ chained_bring stack p [] h = tt
 chained_bring stack p (x ∷ xs) h =
     (brings_same (IsFrom stack (edge_place stack x.0)) p (carries x.1.kind) x.1.message h.0.message, chained_bring stack p xs h.1)
 
-full_twice : (here : Here) (xs : List (Dir × Event)) → map (full_output here) xs ≡ map in_full (map (output_of here) xs)
+pub full_twice : (here : Here) (xs : List (Dir × Event)) → map (full_output here) xs ≡ map in_full (map (output_of here) xs)
 full_twice here [] = refl
 full_twice here (x ∷ xs) = ap (λ (os : List (Output × Option ℕ)). full_output here x ∷ os) (full_twice here xs)
 
@@ -213,10 +215,20 @@ module _ (stack : List LayerTree) (here : Here) (id : ℕ) (states : List State)
         )) in
         omega (arith, ends.turns, fits.weight, all, same)
 
+-- the states stay the member's
+pub members_stay : (g : Ground) (states : List State) (what : Entered) (news : List State) →
+    IsIn (stack_of g) g.most g.here.view g.id states → news ≡ (step_from (stack_of g) g.here g.id states what).work.states →
+    HasMembers (stack_of g) g.most g.here.view g.id news
+members_stay g states what news is_in all = record {
+  few = is_in.members.few;
+  own = subst (λ (those : List State). AreOf (input_at g.here.view g.id) (stack_of g) those) (sym all)
+      (runs_keep_members (input_at g.here.view g.id) (stack_of g) states most_turns (first_task (stack_of g) g.here.rank what) is_in.members.own);
+}
+
 -- the member is between two steps again
 module _ (g : Ground) (w : Works) (what : Entered) where
   pub played : (q : List Held) (ts : Buffer PoolTask) (first : PoolTask) (before : ℕ) (mid : Works) (after : ℕ) (result : Predicted) (last : Works) (begun out : Gathered) →
-      IsReady (stack_of g) g.most w → IsIn (stack_of g) g.most g.here.view (states_in w) →
+      IsReady (stack_of g) g.most w → IsIn (stack_of g) g.most g.here.view g.id (states_in w) →
       BringsIn (stack_of g) g.here.rank w.pool q what first → ts ≡ buffer (first ∷ []) w.tasks.capacity →
       HasRun (stack_of g) (record w { pool = q; tasks = ts }) first before mid after result →
       Ended (stack_of g) g.here g.id (states_in w) what (record w { pool = q; tasks = ts }) before mid after result →
@@ -242,14 +254,7 @@ module _ (g : Ground) (w : Works) (what : Entered) where
           few = ready.few;
         };
         states_are = all;
-        members = record {
-          few = is_in.members.few;
-          counts = record {
-            counts = subst (λ (states : List State). AllByRecursion (λ (s : State). s.count ≡ member_count g.here.view) states) (sym all)
-                (runs_keep_counts most_turns (stack_of g) (states_in w) (first_task (stack_of g) g.here.rank what) (member_count g.here.view)
-                is_in.members.counts.counts);
-          };
-        };
+        members = members_stay g (states_in w) what (states_in last) is_in all;
         outputs =
             ap (λ (o : Gathered). o.outputs) gathered
             ∙ ap (λ (os : List (Output × Option ℕ)). os ++ outputs_in begun.here mid.pool mid.outs.items) none
@@ -263,13 +268,13 @@ module _ (g : Ground) (w : Works) (what : Entered) where
 
 -- what all steps share: the ground, what entered and the run
 module _ (g : Ground) (w : Works) (what : Entered) (q : List Held) (first : PoolTask) (before : ℕ) (mid : Works) (after : ℕ) (result : Predicted)
-    (ground : IsGround g) (ready : IsReady (stack_of g) g.most w) (is_in : IsIn (stack_of g) g.most g.here.view (states_in w))
+    (ground : IsGround g) (ready : IsReady (stack_of g) g.most w) (is_in : IsIn (stack_of g) g.most g.here.view g.id (states_in w))
     (is_entered : IsEntered (stack_of g) what) (brings : BringsIn (stack_of g) g.here.rank w.pool q what first)
     (ts : Buffer PoolTask) (only : ts ≡ buffer (first ∷ []) w.tasks.capacity)
     (has : HasRun (stack_of g) (record w { pool = q; tasks = ts }) first before mid after result) where
   pub ended_so : Ended (stack_of g) g.here g.id (states_in w) what (record w { pool = q; tasks = ts }) before mid after result
   ended_so = ended (stack_of g) g.here g.id (states_in w) what (record w { pool = q; tasks = ts }) first before mid after result
-      (same_states (stack_of g) g.most g.here what ground.here is_entered w q first ready is_in brings ts only) brings.seen has
+      (same_states (stack_of g) g.most g.id g.here what ground.here is_entered w q first ready is_in brings ts only) brings.seen has
 
   a_step : IsStep (stack_of g) g.here (states_in w) what
   a_step = record { typed = ground.typed; at = ground.here; states_are = is_in.inside_is.states_are; input = is_entered }

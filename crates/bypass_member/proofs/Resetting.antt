@@ -12,7 +12,7 @@ use Rattle.layer_mean.specs.State.{State}
 use Rattle.layer_mean.specs.Visit.{fresh}
 use Rattle.pool_message.specs.Moves.{Returned}
 use Rattle.pool_message.proofs.Lists.{each_stays}
-use Rattle.file_layer.specs.Layer.{place_of, tree_of, refs_of, IsInOrder, state_in, BeginsAgain}
+use Rattle.file_layer.specs.Layer.{place_of, tree_of, refs_of, taken_by, IsInOrder, state_in, BeginsAgain}
 use Rattle.file_layer.specs.Staged.{layer_stays}
 use Rattle.file_layer.specs.declared.layer.FileLayer.{FileLayer}
 use Rattle.bypass_member.specs.Resetting.{AreAgain, IsResetting}
@@ -117,6 +117,12 @@ module _ (me count ltime : ℕ) where
   refs_again [] (n ∷ news) h = absurd h
   refs_again (o ∷ olds) [] h = absurd h
 
+  taken_again : (olds news : List FileLayer) → AreAgain me count ltime olds news → map taken_by news ≡ map taken_by olds
+  taken_again [] [] h = refl
+  taken_again (o ∷ olds) (n ∷ news) h = λ i. h.0.taken i ∷ taken_again olds news h.1 i
+  taken_again [] (n ∷ news) h = absurd h
+  taken_again (o ∷ olds) [] h = absurd h
+
   states_again : (r : List Held) (olds news : List FileLayer) → AreAgain me count ltime olds news →
       map (state_in r) news ≡ map (λ (layer : LayerTree). fresh layer me count ltime) (map tree_of olds)
   states_again r [] [] h = refl
@@ -136,5 +142,6 @@ module _ (me count ltime : ℕ) where
         order = λ r. order_again r olds news again;
         refs = refs_again olds news again;
         states = λ r. states_again r olds news again;
+        taken = taken_again olds news again;
         moved = subst (λ (xs : List FileLayer). Moved start p (flat_map refs_of olds) (flat_map refs_of xs)) (drop_all k olds past) is.moved;
       }

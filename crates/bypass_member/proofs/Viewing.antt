@@ -1,5 +1,5 @@
 -- A member comes into the view behind its own.
-use Rattle.std.proofs.Common.{◌≡◌, ◌∙◌, ℕ, ◌<◌, ◌≤◌, Bool, true, false, nat_lt, ltb-true, List, [], ◌∷◌, map, length, Option, Some, None, position, refl, sym, ap, subst, arith}
+use Rattle.std.proofs.Common.{◌≡◌, ◌∙◌, ℕ, ◌<◌, ◌≤◌, Bool, true, false, nat_lt, ltb-true, List, [], map, length, Option, Some, None, position, refl, sym, ap, subst, arith}
 use Rattle.std.specs.Prelude.{◌==◌, if◌then◌else◌}
 use Rattle.std.specs.List.{AllByRecursion, position_or_len}
 use Rattle.std.specs.Option.{option_map_or}
@@ -14,9 +14,12 @@ use Rattle.run_mean.specs.View.{next_view}
 use Rattle.run_mean.specs.Member.{inside, out, opened}
 use Rattle.chain_laws.proofs.Lists.{each_so}
 use Rattle.pool_laws.proofs.Views.{views_shrink}
-use Rattle.bypass_member.specs.Viewing.{AreOf, HasMembers, Anew, ComesInto}
+use Rattle.trace_laws.specs.Members.{AreOf}
+use Rattle.bypass_member.specs.Behind.{rank_of}
+use Rattle.bypass_member.specs.Viewing.{input_at, HasMembers, Anew, ComesInto}
 use Rattle.bypass_member.specs.Working.{states_in, refs_in, IsReady}
 use Rattle.bypass_member.specs.declared.works.Works.{Works}
+use Rattle.bypass_member.proofs.Members.{fresh_are_of}
 
 -- a rank is below the number of members
 
@@ -34,18 +37,19 @@ rank_below view id me is = position_below (λ other. other == id) (ids view) me 
 -- what was enough for a view is so for the one behind it
 
 pub fewer_now : (view next : View) (ranks count : ℕ) (states : List State) → next_view view ranks ≡ Some next → count ≡ member_count next →
-    AreOf (member_count view) states → AllByRecursion (λ (s : State). count ≤ s.count) states
+    AllByRecursion (λ (s : State). s.count ≡ member_count view) states → AllByRecursion (λ (s : State). count ≤ s.count) states
 fewer_now view next ranks count states is same are =
     let less = views_shrink view next ranks is in
-    each_so (λ (s : State). s.count ≡ member_count view) (λ (s : State). count ≤ s.count) (λ s at. omega (arith, at, less, same)) states are.counts
+    each_so (λ (s : State). s.count ≡ member_count view) (λ (s : State). count ≤ s.count) (λ s at. omega (arith, at, less, same)) states are
 
-fresh_counts : (me count ltime : ℕ) (stack : List LayerTree) →
-    AllByRecursion (λ (s : State). s.count ≡ count) (map (λ (layer : LayerTree). fresh layer me count ltime) stack)
-fresh_counts me count ltime [] = tt
-fresh_counts me count ltime (layer ∷ stack) = (refl, fresh_counts me count ltime stack)
-
-pub fresh_are_of : (me count ltime : ℕ) (stack : List LayerTree) → AreOf count (map (λ (layer : LayerTree). fresh layer me count ltime) stack)
-fresh_are_of me count ltime stack = record { counts = fresh_counts me count ltime stack }
+-- states are fresh as those of their member, by its rank
+pub fresh_own : (view : View) (id me : ℕ) (stack : List LayerTree) (states : List State) → rank view id ≡ Some me →
+    states ≡ map (λ (layer : LayerTree). fresh layer me (member_count view) view.ltime) stack → AreOf (input_at view id) stack states
+fresh_own view id me stack states at fresh_are =
+    let its : me ≡ rank_of view id = ap (λ (r : Option ℕ). option_map_or (λ (r : ℕ). r) r 0) (sym at) in
+    subst (λ (all : List State). AreOf (input_at view id) stack all)
+    (sym (fresh_are ∙ ap (λ (n : ℕ). map (λ (layer : LayerTree). fresh layer n (member_count view) view.ltime) stack) its))
+    (fresh_are_of (input_at view id) stack)
 
 pub opened_is : (stack : List LayerTree) (view : View) (id me : ℕ) → rank view id ≡ Some me →
     opened stack view id ≡ inside view (map (λ (layer : LayerTree). fresh layer me (member_count view) view.ltime) stack)
@@ -55,9 +59,9 @@ opened_is stack view id me at =
 
 module _ (stack : List LayerTree) (most : ℕ) (view next : View) (id ranks me : ℕ) where
   pub comes_into : (count : ℕ) (old new : Works) → next_view view ranks ≡ Some next → rank next id ≡ Some me → count ≡ member_count next →
-      IsReady stack most old → HasMembers most view (states_in old) →
+      IsReady stack most old → HasMembers stack most view id (states_in old) →
       Anew me count next.ltime old.pool new.pool old.layers.items new.layers.items →
-      new.tasks ≡ old.tasks → new.outs ≡ old.outs → ComesInto stack most view id ranks next new
+      new.tasks ≡ old.tasks → new.outs ≡ old.outs → ComesInto stack most view id ranks next old new
   comes_into count old new behind at same ready members anew tasks outs =
       let states : states_in new ≡ map (λ (layer : LayerTree). fresh layer me (member_count next) next.ltime) stack =
       anew.states new.pool
@@ -68,8 +72,9 @@ module _ (stack : List LayerTree) (most : ℕ) (view next : View) (id ranks me :
             (sym states);
         members = record {
           few = omega arith;
-          counts = subst (λ (all : List State). AreOf (member_count next) all) (sym states) (fresh_are_of me (member_count next) next.ltime stack);
+          own = fresh_own next id me stack (states_in new) at states;
         };
+        taken = anew.taken;
         ready = record {
           stand = record {
             places = anew.places ∙ ready.stand.places;

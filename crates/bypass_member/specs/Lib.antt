@@ -1,3 +1,5 @@
+pub mod Modes
+pub mod Serving
 pub mod Placed
 pub mod Opening
 pub mod Judged
@@ -8,6 +10,7 @@ pub mod Gathering
 pub mod Resetting
 pub mod Behind
 pub mod Stepping
+pub mod Trying
 pub mod Making
 pub mod Placing
 pub mod Codes

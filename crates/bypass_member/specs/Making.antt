@@ -15,6 +15,7 @@ use Rattle.file_layer.specs.Making.{Making}
 use Rattle.file_layer.specs.declared.layer.FileLayer.{FileLayer}
 use Rattle.bypass_member.specs.Viewing.{HasMembers}
 use Rattle.bypass_member.specs.Working.{states_in, IsReady}
+use Rattle.bypass_member.specs.declared.opens.Kit.{Kit}
 use Rattle.bypass_member.specs.declared.works.Works.{Works}
 
 -- These layers are those of some trees, from the lowest place on, before their first events.
@@ -48,9 +49,13 @@ MakesAll me count ltime old new (Err e) = MadeAtMost (length old.stack) old new
 pub record IsOpening (stack : List LayerTree) (view : View) (id : ℕ) (old new : Making) (w : Works) : Type 0 where
   pub ready : IsReady stack (member_count view) w
   pub member : opened stack view id ≡ inside view (states_in w)
-  pub members : HasMembers (member_count view) view (states_in w)
+  pub members : HasMembers stack (member_count view) view id (states_in w)
   pub making : Made (length stack) old new
 
 abbrev pub OpensWorks : (stack : List LayerTree) (view : View) (id : ℕ) (old new : Making) → Result Works AllocError → Type 0
 OpensWorks stack view id old new (Ok w) = IsOpening stack view id old new w
 OpensWorks stack view id old new (Err e) = MadeAtMost (length stack) old new
+
+abbrev pub OpensKit : (stack : List LayerTree) (view : View) (id : ℕ) (old new : Making) → Result Kit AllocError → Type 0
+OpensKit stack view id old new (Ok kit) = IsOpening stack view id old new kit.works
+OpensKit stack view id old new (Err e) = MadeAtMost (length stack) old new

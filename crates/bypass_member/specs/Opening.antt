@@ -1,5 +1,5 @@
 -- What opening a member asks for, and what it comes to.
-use Rattle.std.specs.Prelude.{◌≡◌, ℕ, ◌+◌, ◌<◌, ◌≤◌, List, length, Result, Ok, Err}
+use Rattle.std.specs.Prelude.{◌≡◌, ℕ, ◌+◌, ◌<◌, ◌≤◌, List, length, Option, option_map, Result, Ok, Err}
 use Rattle.std.specs.Rc.{rc_value}
 use Rattle.msg_core.specs.View.{member_count}
 use Rattle.msg_core.specs.declared.packet.View.{View}
@@ -10,28 +10,43 @@ use Rattle.stack_mean.specs.Plans.{plans_of}
 use Rattle.chain_laws.specs.Runs.{TypedStack}
 use Rattle.event_graph.specs.Answer.{stack_tree}
 use Rattle.stack_shapes.specs.Trees.{plans_tree}
+use Rattle.stack_shapes.specs.Starts.{starts_of, starts_tree}
 use Rattle.stack_shapes.specs.Shapes.{short_shapes}
 use Rattle.run_mean.specs.Member.{opened}
+use Rattle.job_mean.specs.Job.{Mode}
 use Rattle.file_layer.specs.Making.{Making}
+use Rattle.bypass_codes.specs.Codes.{CodesTree}
 use Rattle.bypass_member.specs.Making.{MadeAtMost}
+use Rattle.bypass_member.specs.Modes.{mode_with}
+use Rattle.bypass_member.specs.Serving.{AreCodes}
 use Rattle.bypass_member.specs.Placed.{Placed}
 use Rattle.bypass_member.specs.declared.error.OpenError.{OpenError}
 use Rattle.bypass_member.specs.declared.error.OpenError.TheVariants.{TooLarge, Memory}
 use Rattle.bypass_member.specs.declared.opening.Opening.{Opening}
 
--- The stack of a group that is to be opened, and the plans beside it.
+-- The stack of a group that is to be opened, and its plans.
 abbrev pub stack_in : Opening → List LayerTree
 stack_in o = stack_tree (rc_value o.stack.now)
 
 abbrev pub plans_in : Opening → List Plan
 plans_in o = plans_tree (rc_value o.plans.now)
 
--- It can be opened by a maker that has made at most so many layers: its stack is the maker's, and typed, and the plans and the entries are the stack's.
+-- The code of its bypasses, if there is some, and the mode in which its members then run.
+abbrev pub codes_in : Opening → Option CodesTree
+codes_in o = option_map (λ codes. rc_value codes.now) o.codes
+
+abbrev pub mode_in : Opening → Mode
+mode_in o = mode_with (codes_in o)
+
+-- It can be opened by a maker that has made at most so many layers: its stack is the maker's, and typed, and the plans, the entries, the
+-- numbers of their first plans and the code are the stack's.
 pub record CanOpen (most : ℕ) (maker : Making) (o : Opening) : Type 0 where
   pub same : maker.stack ≡ stack_in o
   pub typed : TypedStack (stack_in o)
   pub plans_are : plans_in o ≡ plans_of (stack_in o)
   pub entries_are : rc_value o.entries.now ≡ short_shapes (stack_in o) (plans_in o)
+  pub starts_are : starts_tree o.starts ≡ starts_of (stack_in o)
+  pub codes_are : AreCodes (stack_in o) (codes_in o)
   pub made : maker.made ≤ most
 
 -- How many rows with messages a member in a view may keep.
@@ -43,6 +58,7 @@ pub record IsOpen (o : Opening) (view : View) (id : ℕ) (before after : Making)
   pub member : m.member ≡ opened (stack_in o) view id
   pub stack_is : m.stack ≡ stack_in o
   pub plans_are : m.plans ≡ plans_in o
+  pub mode_is : m.mode ≡ mode_in o
   pub group_is : m.group ≡ o.group
   pub stamp_is : m.stamp ≡ o.stamp
   pub id_is : m.id ≡ id

@@ -1,15 +1,14 @@
 -- A member at its place in a group, and what one of its steps comes to.
 use Rattle.std.specs.Prelude.{◌≡◌, ℕ, ◌+◌, Bool, List, [], Option, Result, Ok, Err}
-use Rattle.std.specs.Option.{option_map_or}
 use Rattle.slot_pool.specs.Held.{Held}
-use Rattle.msg_core.specs.View.{rank}
 use Rattle.msg_core.specs.declared.packet.View.{View}
 use Rattle.layer_mean.specs.State.{State}
 use Rattle.layer_mean.specs.Tree.{LayerTree}
 use Rattle.stack_mean.specs.Plan.{Plan}
 use Rattle.packet_mean.specs.declared.here.Here.{Here}
-use Rattle.job_mean.specs.Job.{layered}
+use Rattle.job_mean.specs.Job.{Mode}
 use Rattle.run_mean.specs.Common.{is_common, as_sent}
+use Rattle.run_mean.specs.Report.{counted}
 use Rattle.run_mean.specs.Member.{Member, inside, out, Input, Refusal, is_out, Entered, entered, Output, Step, step_from, member_behind}
 use Rattle.view_core.specs.Refusals.{refusal_meant}
 use Rattle.view_core.specs.Steps.{changed}
@@ -17,12 +16,16 @@ use Rattle.view_core.specs.declared.refusal.Refusal as refusal
 use Rattle.view_core.specs.declared.step.Change.{Change}
 use Rattle.view_core.specs.declared.step.Stepped.{Stepped}
 use Rattle.view_core.specs.declared.step.Stepped.TheVariants.{Taken, Refused}
+use Rattle.bypass_member.specs.Behind.{rank_of}
+use Rattle.bypass_member.specs.Modes.{IsTakenSo}
 
--- A member of a group: its stack with the plans of it, its group and stamp, its id, how many members its first view had, and where it is;
--- then the pool of its bodies, and the slots to which the states of its layers refer.
+-- A member of a group: its stack with the plans of it, the mode in which it runs, its group and stamp, its id, how many members its first
+-- view had, and where it is; then the pool of its bodies, the slots to which the states of its layers refer, and how many events each layer
+-- took.
 pub record Placed : Type 0 where
   pub stack : List LayerTree
   pub plans : List Plan
+  pub mode : Mode
   pub group : ℕ
   pub stamp : ℕ
   pub id : ℕ
@@ -30,10 +33,11 @@ pub record Placed : Type 0 where
   pub member : Member
   pub pool : List Held
   pub refs : List ℕ
+  pub taken : List ℕ
 
 -- Where it stands in a view.
 abbrev pub here_in : Placed → View → Here
-here_in p view = record { group = p.group; stamp = p.stamp; view = view; rank = option_map_or (λ r. r) (rank view p.id) 0 }
+here_in p view = record { group = p.group; stamp = p.stamp; view = view; rank = rank_of view p.id }
 
 -- The step of a member in a view, from what entered.
 abbrev pub step_in : Placed → View → List State → Result Entered Refusal → Result Step Refusal
@@ -57,6 +61,7 @@ member_after (inside view states) s = member_behind view s
 pub record SamePlace (old new : Placed) : Type 0 where
   pub stack : new.stack ≡ old.stack
   pub plans : new.plans ≡ old.plans
+  pub mode : new.mode ≡ old.mode
   pub group : new.group ≡ old.group
   pub stamp : new.stamp ≡ old.stamp
   pub id : new.id ≡ old.id
@@ -70,21 +75,23 @@ pub record Refuses (old : Placed) (input : Input) (new : Placed) (outs : List (O
   pub none : outs ≡ []
   pub visits : after ≡ before
 
--- An input was taken: the member is behind the step, the outputs are those that the step sends, each packet in full, and so many visits
--- more were made. It is told whether the step was a common one, and where the member is now, if it installed something.
+-- An input was taken: the member is behind the step, the outputs are those that the step sends in the member's mode, and so many visits
+-- more were made as it counts for in it. It is told whether the step was a common one, and where the member is now, if it installed
+-- something. In bypass mode a common step was no event to any layer.
 pub record Takes (old : Placed) (input : Input) (new : Placed) (outs : List (Output × Option ℕ)) (before after : ℕ) (common : Bool)
     (change : Option Change) : Type 0 where
   pub step : Step
   pub is : step_of old input ≡ Ok step
   pub member : new.member ≡ member_after old.member step
-  pub outputs : outs ≡ as_sent layered old.stack old.plans step
+  pub outputs : outs ≡ as_sent old.mode old.stack old.plans step
   pub common_is : common ≡ is_common old.stack old.plans step
   pub change_is : change ≡ changed step.installs
-  pub visits : after ≡ before + step.work.visits
+  pub visits : after ≡ before + counted old.mode old.stack old.plans step
+  pub taken_is : IsTakenSo old.mode (is_common old.stack old.plans step) old.taken new.taken
   pub place : SamePlace old new
 
--- What a step of a member comes to: its outputs, each with the plan under which it is sent short (none is), and how many visits there were
--- before it and after it.
+-- What a step of a member comes to: its outputs, each with the plan under which it is sent short, if it is, and how many visits there
+-- were before it and after it.
 abbrev pub Steps : Placed → Input → Placed → List (Output × Option ℕ) → (before after : ℕ) → Stepped → Type 0
 Steps old input new outs before after (Taken common change) = Takes old input new outs before after common change
 Steps old input new outs before after (Refused reason) = Refuses old input new outs before after reason

@@ -1,24 +1,33 @@
 -- What a contract sees of a member, and what is so of each.
-use Rattle.std.specs.Prelude.{◌≡◌, ℕ, ◌<◌, [], Option, Some, None}
-use Rattle.std.specs.Option.{option_map_or}
+use Rattle.std.specs.Prelude.{◌≡◌, ℕ, ◌<◌, [], Option, Some, None, option_map}
 use Rattle.std.specs.Rc.{rc_value}
-use Rattle.msg_core.specs.View.{rank, most_members}
+use Rattle.msg_core.specs.View.{most_members}
 use Rattle.msg_core.specs.declared.packet.View.{View}
 use Rattle.stack_mean.specs.Plans.{plans_of}
 use Rattle.chain_laws.specs.Runs.{TypedStack}
 use Rattle.event_graph.specs.Answer.{stack_tree}
 use Rattle.stack_shapes.specs.Trees.{plans_tree}
+use Rattle.stack_shapes.specs.Starts.{starts_of, starts_tree}
 use Rattle.stack_shapes.specs.Shapes.{short_shapes}
 use Rattle.member_reads.specs.Shown.{member_in}
+use Rattle.bypass_codes.specs.Codes.{CodesTree}
+use Rattle.bypass_member.specs.Behind.{rank_of}
+use Rattle.bypass_member.specs.Modes.{mode_with}
 use Rattle.bypass_member.specs.Placed.{Placed}
+use Rattle.bypass_member.specs.Serving.{AreCodes, IsSpare}
 use Rattle.bypass_member.specs.Viewing.{IsAt}
-use Rattle.bypass_member.specs.Working.{states_in, refs_in, IsReady}
+use Rattle.bypass_member.specs.Working.{states_in, refs_in, taken_in, IsReady}
 use Rattle.bypass_member.specs.declared.member.Member.TheInside.{Inside}
+
+-- The code by which it runs, if it does.
+abbrev pub codes_kept : Inside → Option CodesTree
+codes_kept m = option_map rc_value m.codes
 
 abbrev pub placed : Inside → Placed
 placed m = record {
   stack = stack_tree (rc_value m.stack);
   plans = plans_tree (rc_value m.plans);
+  mode = mode_with (codes_kept m);
   group = m.group;
   stamp = m.stamp;
   id = m.id;
@@ -26,20 +35,24 @@ placed m = record {
   member = member_in m.view (states_in m.works);
   pool = m.works.pool;
   refs = refs_in m.works;
+  taken = taken_in m.works;
 }
 
 -- A member's rank in the view that it is in; in none it has none.
 abbrev pub IsRankIn : Option View → ℕ → ℕ → Type 0
 IsRankIn None id r = Unit {0}
-IsRankIn (Some view) id r = (r ≡ option_map_or (λ r. r) (rank view id) 0) × (r < most_members)
+IsRankIn (Some view) id r = (r ≡ rank_of view id) × (r < most_members)
 
--- Its stack is typed, the plans and the entries are the stack's, its rank is that in its view, its bare headers are none, and it is between two
--- steps, in a view with chained states or in none.
+-- Its stack is typed, the plans, the entries, the numbers of their first plans and the code are the stack's, its rank is that in its view,
+-- its bare headers are none, and it is between two steps, in a view with chained states that are its own, or in none.
 pub record IsMember (m : Inside) : Type 0 where
   pub typed : TypedStack (stack_tree (rc_value m.stack))
   pub plans_are : plans_tree (rc_value m.plans) ≡ plans_of (stack_tree (rc_value m.stack))
   pub entries_are : rc_value m.entries ≡ short_shapes (stack_tree (rc_value m.stack)) (plans_tree (rc_value m.plans))
+  pub starts_are : starts_tree m.starts ≡ starts_of (stack_tree (rc_value m.stack))
+  pub codes_are : AreCodes (stack_tree (rc_value m.stack)) (codes_kept m)
   pub rank_is : IsRankIn m.view m.id m.rank
   pub bare : m.bare ≡ []
   pub ready : IsReady (stack_tree (rc_value m.stack)) m.most m.works
-  pub at : IsAt (stack_tree (rc_value m.stack)) m.most m.view (states_in m.works)
+  pub spare : IsSpare (codes_kept m) (plans_tree (rc_value m.plans)) m.scratch
+  pub at : IsAt (stack_tree (rc_value m.stack)) m.most m.id m.view (states_in m.works)

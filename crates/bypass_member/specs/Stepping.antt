@@ -1,25 +1,30 @@
 -- A step of a member in a view, over what it works with.
-use Rattle.std.specs.Prelude.{◌≡◌, ℕ, ◌+◌, List, [], map, Option, None}
+use Rattle.std.specs.Prelude.{◌≡◌, ℕ, ◌+◌, Bool, List, [], map, Option, None, option_map}
 use Rattle.layer_mean.specs.State.{State}
 use Rattle.layer_mean.specs.Tree.{LayerTree}
 use Rattle.stack_mean.specs.Plan.{Plan}
 use Rattle.stack_mean.specs.Plans.{plans_of}
-use Rattle.job_mean.specs.Job.{layered}
+use Rattle.job_mean.specs.Job.{Mode}
 use Rattle.run_mean.specs.Common.{is_common, as_sent}
+use Rattle.run_mean.specs.Report.{counted}
 use Rattle.run_mean.specs.Member.{Entered, Output, Step, step_from, member_behind}
 use Rattle.chain_laws.specs.Runs.{TypedStack}
 use Rattle.member_laws.specs.Members.{IsHere}
 use Rattle.event_graph.specs.Answer.{stack_tree}
 use Rattle.stack_shapes.specs.Trees.{plans_tree}
+use Rattle.stack_shapes.specs.Starts.{starts_of, starts_tree}
 use Rattle.stack_shapes.specs.Shapes.{short_shapes}
 use Rattle.layer_eval.specs.Did.{as_predicted}
 use Rattle.layer_eval.specs.declared.predicted.Predicted.{Predicted}
 use Rattle.step_outputs.specs.Gathered.{Gathered}
 use Rattle.view_core.specs.Steps.{changed}
 use Rattle.member_reads.specs.Shown.{member_in}
-use Rattle.bypass_member.specs.Behind.{view_behind}
+use Rattle.bypass_codes.specs.Codes.{CodesTree}
+use Rattle.bypass_member.specs.Behind.{rank_of, view_behind}
+use Rattle.bypass_member.specs.Modes.{mode_with, IsTakenSo}
+use Rattle.bypass_member.specs.Serving.{AreCodes}
 use Rattle.bypass_member.specs.Viewing.{HasMembers, IsAt}
-use Rattle.bypass_member.specs.Working.{states_in, IsReady}
+use Rattle.bypass_member.specs.Working.{states_in, taken_in, IsReady}
 use Rattle.bypass_member.specs.declared.ground.Ground.{Ground}
 use Rattle.bypass_member.specs.declared.ground.Took.{Took}
 use Rattle.bypass_member.specs.declared.works.Works.{Works}
@@ -31,13 +36,24 @@ stack_of g = stack_tree g.stack.now
 abbrev pub plans_in : Ground → List Plan
 plans_in g = plans_tree g.plans.now
 
--- The stack is typed, the plans and the entries are the stack's, the bare headers are none, and it stands in a view.
+-- The code by which it runs, if it does, and its mode.
+abbrev pub codes_in : Ground → Option CodesTree
+codes_in g = option_map (λ codes. codes.now) g.codes
+
+abbrev pub mode_of : Ground → Mode
+mode_of g = mode_with (codes_in g)
+
+-- The stack is typed, the plans, the entries, the numbers of their first plans and the code are the stack's, the bare headers are none, and it
+-- stands in a view, at its rank.
 pub record IsGround (g : Ground) : Type 0 where
   pub typed : TypedStack (stack_of g)
   pub plans : plans_in g ≡ plans_of (stack_of g)
   pub entries : g.entries.now ≡ short_shapes (stack_of g) (plans_in g)
+  pub starts : starts_tree g.starts ≡ starts_of (stack_of g)
+  pub codes : AreCodes (stack_of g) (codes_in g)
   pub bare : g.bare.now ≡ []
   pub here : IsHere g.here
+  pub rank : g.here.rank ≡ rank_of g.here.view g.id
 
 -- The step of a member whose layers have these states, from what entered.
 abbrev pub step_over : Ground → List State → Entered → Step
@@ -52,20 +68,31 @@ pub record HasPlayed (g : Ground) (states : List State) (what : Entered) (new : 
     (result : Predicted) : Type 0 where
   pub ready : IsReady (stack_of g) g.most new
   pub states_are : states_in new ≡ (step_over g states what).work.states
-  pub members : HasMembers g.most g.here.view (states_in new)
+  pub members : HasMembers (stack_of g) g.most g.here.view g.id (states_in new)
   pub outputs : out.outputs ≡ map in_full (step_over g states what).outputs
   pub here : out.here ≡ g.here
   pub predicted : result ≡ as_predicted (step_over g states what).work.decided
   pub visits : after ≡ before + (step_over g states what).work.visits
 
--- The step was taken.
-pub record HasTaken (g : Ground) (states : List State) (what : Entered) (new : Works) (out : Gathered) (before after : ℕ)
-    (result : Took) : Type 0 where
+-- The step was made, by code or by its run, and the member is between two steps, in the same view as before.
+pub record HasGone (g : Ground) (old : Works) (what : Entered) (new : Works) (out : Gathered) (before after : ℕ) (result : Bool) : Type 0 where
   pub ready : IsReady (stack_of g) g.most new
-  pub at : IsAt (stack_of g) g.most (view_behind g.here.view result.change) (states_in new)
-  pub member : member_in (view_behind g.here.view result.change) (states_in new) ≡ member_behind g.here.view (step_over g states what)
-  pub outputs : out.outputs ≡ as_sent layered (stack_of g) (plans_in g) (step_over g states what)
+  pub states_are : states_in new ≡ (step_over g (states_in old) what).work.states
+  pub members : HasMembers (stack_of g) g.most g.here.view g.id (states_in new)
+  pub outputs : out.outputs ≡ as_sent (mode_of g) (stack_of g) (plans_in g) (step_over g (states_in old) what)
   pub here : out.here ≡ g.here
-  pub common : result.common ≡ is_common (stack_of g) (plans_in g) (step_over g states what)
-  pub change : result.change ≡ changed (step_over g states what).installs
-  pub visits : after ≡ before + (step_over g states what).work.visits
+  pub common : result ≡ is_common (stack_of g) (plans_in g) (step_over g (states_in old) what)
+  pub visits : after ≡ before + counted (mode_of g) (stack_of g) (plans_in g) (step_over g (states_in old) what)
+  pub taken : IsTakenSo (mode_of g) (is_common (stack_of g) (plans_in g) (step_over g (states_in old) what)) (taken_in old) (taken_in new)
+
+-- The step was taken.
+pub record HasTaken (g : Ground) (old : Works) (what : Entered) (new : Works) (out : Gathered) (before after : ℕ) (result : Took) : Type 0 where
+  pub ready : IsReady (stack_of g) g.most new
+  pub at : IsAt (stack_of g) g.most g.id (view_behind g.here.view result.change) (states_in new)
+  pub member : member_in (view_behind g.here.view result.change) (states_in new) ≡ member_behind g.here.view (step_over g (states_in old) what)
+  pub outputs : out.outputs ≡ as_sent (mode_of g) (stack_of g) (plans_in g) (step_over g (states_in old) what)
+  pub here : out.here ≡ g.here
+  pub common : result.common ≡ is_common (stack_of g) (plans_in g) (step_over g (states_in old) what)
+  pub change : result.change ≡ changed (step_over g (states_in old) what).installs
+  pub visits : after ≡ before + counted (mode_of g) (stack_of g) (plans_in g) (step_over g (states_in old) what)
+  pub taken : IsTakenSo (mode_of g) (is_common (stack_of g) (plans_in g) (step_over g (states_in old) what)) (taken_in old) (taken_in new)

@@ -1,11 +1,10 @@
 -- What a member works with, before a run and behind it.
-use Rattle.std.specs.Prelude.{◌≡◌, ℕ, ◌+◌, ◌≤◌, List, [], ◌∷◌, ◌++◌, map, length, None, Option}
+use Rattle.std.specs.Prelude.{◌≡◌, ℕ, ◌+◌, ◌≤◌, List, [], ◌∷◌, ◌++◌, map, length, Option}
 use Rattle.std.specs.List.{flat_map}
 use Rattle.circular_buffer.specs.Buffer.{buffer}
 use Rattle.slot_pool.specs.Held.{Held, spare}
 use Rattle.slot_pool.specs.References.{Exact}
 use Rattle.layer_ast.specs.declared.tokens.Dir.{Dir}
-use Rattle.layer_mean.specs.declared.run.Event.{Event}
 use Rattle.layer_mean.specs.State.{State}
 use Rattle.layer_mean.specs.Tree.{LayerTree}
 use Rattle.layer_mean.specs.Queue.{Work, run}
@@ -22,21 +21,32 @@ use Rattle.pool_message.specs.declared.event.PoolEvent.{PoolEvent}
 use Rattle.stack_queue.specs.Pending.{task_seen}
 use Rattle.stack_queue.specs.Stages.{Stand, most_at_first}
 use Rattle.stack_queue.specs.declared.tasks.PoolTask.{PoolTask}
-use Rattle.run_mean.specs.Member.{Output, output_of, most_turns}
+use Rattle.run_mean.specs.Member.{Output, most_turns}
 use Rattle.pool_laws.specs.Room.{slots_beyond}
-use Rattle.file_layer.specs.Layer.{place_of, tree_of, refs_of, IsInOrder, state_in}
+use Rattle.file_layer.specs.Layer.{place_of, tree_of, refs_of, taken_by, IsInOrder, state_in}
+use Rattle.step_outputs.specs.Gathered.{full_output}
 use Rattle.bypass_member.specs.declared.works.Works.{Works}
 
--- The states of the layers, and the slots to which they refer.
+-- The states of the layers, the slots to which they refer, and how many events each took.
 abbrev pub states_in : Works → List State
 states_in w = map (state_in w.pool) w.layers.items
 
 abbrev pub refs_in : Works → List ℕ
 refs_in w = flat_map refs_of w.layers.items
 
+abbrev pub taken_in : Works → List ℕ
+taken_in w = map taken_by w.layers.items
+
 -- The layers are those of a stack, each at its place and in order.
 abbrev pub AreStanding : List LayerTree → Works → Type 0
 AreStanding stack w = Stand place_of tree_of IsInOrder stack w.pool w.layers.items
+
+-- Nothing has changed: the same layers stand over the same pool.
+pub record AreSame (old new : Works) : Type 0 where
+  pub layers : new.layers.items ≡ old.layers.items
+  pub pool : new.pool ≡ old.pool
+  pub tasks : new.tasks ≡ old.tasks
+  pub outs : new.outs ≡ old.outs
 
 -- No task is pending and nothing was sent, and there are as many places as the stack weighs.
 pub record IsQuiet (stack : List LayerTree) (w : Works) : Type 0 where
@@ -83,9 +93,6 @@ pub record HasRun (stack : List LayerTree) (old : Works) (first : PoolTask) (bef
   pub tasks : new.tasks ≡ buffer [] old.tasks.capacity
   pub room : new.outs.capacity ≡ old.outs.capacity
 
--- The outputs that events are which leave the stack of a member that is here; none is sent short.
-abbrev pub full_output : Here → Dir × Event → Output × Option ℕ
-full_output here x = (output_of here x, None)
-
+-- What events are that leave, as outputs of a member that is here; none is sent short.
 abbrev pub outputs_in : Here → List Held → List (Dir × PoolEvent) → List (Output × Option ℕ)
 outputs_in here p sent = map (full_output here) (sent_seen p sent)

@@ -1,26 +1,30 @@
 //! What a step works over, and what it comes to.
 
-ghost use Rattle.std.specs.Prelude.{◌≡◌, ◌<◌, Some};
-ghost use Rattle.std.specs.Option.{option_map_or};
+ghost use Rattle.std.specs.Prelude.{◌≡◌, ◌<◌, Some, option_map};
+ghost use Rattle.std.specs.Rc.{rc_value};
 ghost use Rattle.msg_core.specs.View as members;
 ghost use Rattle.msg_core.specs.declared.packet.View.{View};
-ghost use Rattle.bypass_member.specs.Behind.{view_behind};
+ghost use Rattle.bypass_member.specs.Behind.{rank_of, view_behind};
 ghost use Rattle.bypass_member.specs.Placing.{IsRankIn};
 
+use bypass_codes::Codes;
 use event_graph::Stack;
 use msg_core::{Headers, View};
 use packet_full::member_count;
 use packet_mean::Here;
-use stack_shapes::{EntryShapes, Plans};
+use stack_shapes::{EntryShapes, PlanStarts, Plans};
+use std::rc::Rc;
 use view_core::{Change, rank};
 
-/// What a member in a view works over: its stack with what is known of it, headers that are none, where it stands, its id, and how many members
-/// its first view had.
+/// What a member in a view works over: its stack with what is known of it, the code by which it runs, if it does, headers that are none, where
+/// it stands, its id, and how many members its first view had.
 #[derive(Drop)]
 pub(crate) struct Ground<'a> {
     pub(crate) stack: &'a Stack,
     pub(crate) plans: &'a Plans,
     pub(crate) entries: &'a EntryShapes,
+    pub(crate) starts: PlanStarts,
+    pub(crate) codes: Option<&'a Codes>,
     pub(crate) bare: &'a Headers,
     pub(crate) here: Here,
     pub(crate) id: u8,
@@ -36,7 +40,7 @@ pub(crate) struct Took {
 
 /// The rank of a member in a view; 0 where it isn't in it.
 pub(crate) fn rank_in(view: View, id: u8) -> u8
-    ensures rank { result ≡ option_map_or (λ r. r) (members.rank view id) 0 }
+    ensures rank { result ≡ rank_of view id }
     ensures few { result < members.most_members }
 {
     let _members = member_count(view);
@@ -65,5 +69,15 @@ pub(crate) fn view_after(view: View, change: Option<Change>) -> Option<View>
         Some(Change::Into(next)) => Some(next),
         Some(Change::Out) => None,
         None => Some(view),
+    }
+}
+
+/// The code that a member keeps, if it does.
+pub(crate) fn lent(codes: &Option<Rc<Codes>>) -> Option<&Codes>
+    ensures { option_map (λ codes. codes.now) result ≡ option_map rc_value codes.now }
+{
+    match codes {
+        Some(codes) => Some(codes),
+        None => None,
     }
 }

@@ -1,7 +1,8 @@
-//! A member of a group, run layer by layer: it takes its inputs, one step each, with its messages in a pool of its own. It takes memory only as it
-//! is opened.
+//! A member of a group, run layer by layer or by the code of its bypasses: it takes its inputs, one step each, with its messages in a pool of its
+//! own. It takes memory only as it is opened.
 #![tactic(auto)]
 
+mod commons;
 mod enters;
 mod entry;
 mod error;
@@ -11,6 +12,7 @@ mod member;
 mod opening;
 mod opens;
 mod runs;
+mod scratch;
 mod steps;
 mod views;
 mod works;
@@ -18,5 +20,7 @@ mod works;
 pub use error::OpenError;
 pub use member::Member;
 pub use opening::Opening;
+#[doc(hidden)]
+pub use scratch::Scratch;
 #[doc(hidden)]
 pub use works::Works;

@@ -2,18 +2,20 @@
 
 use crate::entry::judge;
 use crate::error::OpenError;
-use crate::ground::{Ground, Took, rank_after, rank_in, view_after};
+use crate::ground::{Ground, Took, lent, rank_after, rank_in, view_after};
 use crate::opening::Opening;
-use crate::opens::{close_works, open_works};
+use crate::opens::{Kit, close_works, open_kit};
+use crate::scratch::{Scratch, close_scratch, share};
 use crate::steps::take;
 use crate::works::Works;
+use bypass_codes::Codes;
 use event_graph::Stack;
 use file_layer::Maker;
 use member_reads::Shown;
 use msg_core::{Headers, View};
 use packet_full::{Scan, member_count};
 use packet_mean::Here;
-use stack_shapes::{EntryShapes, Plans};
+use stack_shapes::{EntryShapes, PlanStarts, Plans};
 use std::alloc::Global;
 use std::marker::Model;
 use std::rc::Rc;
@@ -23,11 +25,15 @@ use view_core::{Input, Refusal, Stepped};
 /// The most rows with messages that a member's layers may keep.
 const MOST_ROWS: u32 = 8192;
 
-/// A member of a group, run layer by layer. It takes memory as it begins, and no more. It can't be let go: it is closed.
+/// A member of a group, run layer by layer, or by the code of its bypasses. It takes memory as it begins, and no more. It can't be let go: it is
+/// closed.
 pub struct Member {
     stack: Rc<Stack>,
     plans: Rc<Plans>,
     entries: Rc<EntryShapes>,
+    starts: PlanStarts,
+    /// The code of its bypasses, if it runs by these.
+    codes: Option<Rc<Codes>>,
     group: u32,
     stamp: u32,
     id: u8,
@@ -41,6 +47,7 @@ pub struct Member {
     /// No headers.
     bare: Headers,
     works: Works,
+    scratch: Scratch,
 }
 
 impl Model for Member {
@@ -59,19 +66,21 @@ impl Model for Member {
 }
 
 impl Member {
-    ghost use Rattle.std.specs.Prelude.{◌≡◌, ◌^◌, ◌≤◌, true, is_some, Ok};
+    ghost use Rattle.std.specs.Prelude.{◌≡◌, ◌^◌, ◌+◌, ◌≤◌, true, length, is_some, Ok};
     ghost use Rattle.chain_laws.specs.Runs.{TypedStack};
     ghost use Rattle.file_layer.specs.Making.{making};
     ghost use Rattle.member_laws.specs.Members.{IsChainedMember};
     ghost use Rattle.msg_core.specs.View.{rank};
     ghost use Rattle.slot_pool.specs.References.{Exact};
-    ghost use Rattle.stack_mean.specs.Acceptance.{accepted, largest_weight};
+    ghost use Rattle.pool_laws.specs.Room.{slots_beyond};
+    ghost use Rattle.stack_mean.specs.Acceptance.{accepted, largest_weight, rows_of};
     ghost use Rattle.stack_mean.specs.Plans.{plans_of};
     ghost use Rattle.view_core.specs.Steps.{input_meant};
     ghost use Rattle.bypass_member.specs.Opening.{CanOpen, Opens};
     ghost use Rattle.bypass_member.specs.Placed.{Steps, StandsAt};
 
-    /// The member of a group that has this id, in its first view, its layers made by the maker of the group's stack. All memory is taken here.
+    /// The member of a group that has this id, in its first view, its layers made by the maker of the group's stack. It runs by the code of the
+    /// stack's bypasses, if the opening has it. All memory is taken here.
     /// Err where its layers may keep more than 8,192 rows with messages, or where memory runs out.
     pub fn begin(
         alloc: Global,
@@ -92,11 +101,15 @@ impl Member {
         let stack = opening.stack.clone()?;
         let plans = opening.plans.clone()?;
         let entries = opening.entries.clone()?;
-        let works = open_works(alloc, maker, opening.stack, view, id, rows)?;
+        let codes = share(opening.codes)?;
+        let kit = open_kit(alloc, maker, opening, view, id, rows)?;
+        let Kit { works, scratch } = kit;
         Ok(Member {
             stack,
             plans,
             entries,
+            starts: opening.starts,
+            codes,
             group: opening.group,
             stamp: opening.stamp,
             id,
@@ -106,6 +119,7 @@ impl Member {
             scan: Scan::none(),
             bare: Headers::none(),
             works,
+            scratch,
         })
     }
 
@@ -136,12 +150,21 @@ impl Member {
             stack: &self.stack,
             plans: &self.plans,
             entries: &self.entries,
+            starts: self.starts,
+            codes: lent(&self.codes),
             bare: &self.bare,
             here,
             id,
             most: self.most,
         };
-        let Took { common, change } = take(&mut self.works, &ground, entry, out, visits);
+        let Took { common, change } = take(
+            &mut self.works,
+            &mut self.scratch,
+            &ground,
+            entry,
+            out,
+            visits,
+        );
         self.view = view_after(view, change);
         self.rank = rank_after(here.rank, id, change);
         Stepped::Taken { common, change }
@@ -160,6 +183,8 @@ impl Member {
             stack: _,
             plans: _,
             entries: _,
+            starts: _,
+            codes: _,
             group: _,
             stamp: _,
             id: _,
@@ -169,8 +194,17 @@ impl Member {
             scan: _,
             bare: _,
             works,
+            scratch,
         } = self;
         close_works(works);
+        close_scratch(scratch);
+    }
+
+    /// That its pool has a slot for each row with a message that its layers may keep, and those that a step asks for.
+    pub fn has_slots(&self)
+        ensures { length self.now.pool ≡ rows_of self.now.stack self.now.most + slots_beyond }
+    {
+        let _works = &self.works;
     }
 
     /// That what its layers refer to is all that its pool counts.

@@ -10,9 +10,13 @@ ghost use Rattle.file_layer.specs.Making.{making};
 ghost use Rattle.msg_core.specs.View as members;
 ghost use Rattle.slot_pool.specs.References.{Covers};
 ghost use Rattle.stack_mean.specs.Acceptance.{largest_weight, rows_of, most_rows};
-ghost use Rattle.bypass_member.specs.Making.{MakesAll, OpensWorks};
+ghost use Rattle.bypass_member.specs.Making.{MakesAll, OpensKit, OpensWorks};
+ghost use Rattle.bypass_member.specs.Opening.{codes_in, plans_in, stack_in, CanOpen};
+ghost use Rattle.bypass_member.specs.Serving.{IsSpare};
 ghost use Rattle.bypass_member.specs.Working.{refs_in};
 
+use crate::opening::Opening;
+use crate::scratch::{Scratch, close_scratch, open_scratch};
 use crate::works::Works;
 use event_graph::Stack;
 use file_layer::{FileLayer, Maker};
@@ -143,6 +147,38 @@ pub(crate) fn open_works(
         }
         Err(error) => {
             lists.close();
+            Err(error)
+        }
+    }
+}
+
+/// What a member works with, and what runs of its code keep.
+pub(crate) struct Kit {
+    pub(crate) works: Works,
+    pub(crate) scratch: Scratch,
+}
+
+/// All that a member of a view works with.
+pub(crate) fn open_kit(
+    alloc: Global,
+    maker: &mut Maker,
+    opening: Opening<'_>,
+    view: View,
+    id: u8,
+    rows: u32,
+) -> Result<Kit, Memory>
+    requires opening { CanOpen (2 ^ 62) (making maker.old) opening }
+    requires member { is_some (members.rank view id) ≡ true }
+    requires rows { rows ≡ rows_of (stack_in opening) (members.member_count view) }
+    requires few { rows ≤ most_rows }
+    ensures works { OpensKit (stack_in opening.entry) view id (making maker.old) (making maker.new) result }
+    ensures spare { IfOk result (λ kit. IsSpare (codes_in opening.entry) (plans_in opening.entry) kit.scratch) }
+{
+    let scratch = open_scratch(alloc, opening.codes, opening.plans)?;
+    match open_works(alloc, maker, opening.stack, view, id, rows) {
+        Ok(works) => Ok(Kit { works, scratch }),
+        Err(error) => {
+            close_scratch(scratch);
             Err(error)
         }
     }

@@ -1,21 +1,29 @@
 //! One step of a member in a view.
 
-ghost use Rattle.std.specs.Prelude.{◌≡◌, ◌^◌, ◌≤◌};
+ghost use Rattle.std.specs.Prelude.{◌≡◌, ◌^◌, ◌≤◌, List, map};
 ghost use Rattle.member_laws.specs.Members.{IsEntered};
+ghost use Rattle.run_mean.specs.Common.{first_plan, with_plans};
+ghost use Rattle.run_mean.specs.Member.{Entered, Output};
 ghost use Rattle.stack_mean.specs.Acceptance.{largest_weight};
+ghost use Rattle.stack_shapes.specs.Entries.{entry_for};
 ghost use Rattle.bypass_member.specs.Judged.{entry_meant, LiesWithin};
-ghost use Rattle.bypass_member.specs.Stepping.{stack_of, IsGround, HasPlayed, HasTaken};
+ghost use Rattle.bypass_member.specs.Serving.{IsSpare};
+ghost use Rattle.bypass_member.specs.Stepping.{codes_in, in_full, plans_in, stack_of, IsGround, HasGone, HasPlayed, HasTaken};
 ghost use Rattle.bypass_member.specs.Viewing.{IsIn};
 ghost use Rattle.bypass_member.specs.Working.{states_in, IsReady};
 
+use crate::commons::make_common;
 use crate::enters::enter;
 use crate::entry::{Entry, entry_of};
 use crate::gathers::gather;
 use crate::ground::{Ground, Took};
 use crate::runs::run_layers;
+use crate::scratch::Scratch;
 use crate::views::change_view;
 use crate::works::Works;
 use layer_eval::Predicted;
+use layer_mean::Case;
+use stack_shapes::EntryOf;
 use step_outputs::Outputs;
 
 /// Runs the layers from what entered, and gathers what comes out.
@@ -28,7 +36,7 @@ fn play(
 ) -> Predicted
     requires ground { IsGround ground.now }
     requires ready { IsReady (stack_of ground.now) ground.now.most works.old }
-    requires is_in { IsIn (stack_of ground.now) ground.now.most ground.now.here.view (states_in works.old) }
+    requires is_in { IsIn (stack_of ground.now) ground.now.most ground.now.here.view ground.now.id (states_in works.old) }
     requires entered { IsEntered (stack_of ground.now) (entry_meant ground.now.here entry) }
     requires lies { LiesWithin entry }
     requires out { out.old.places ≡ largest_weight (stack_of ground.now) }
@@ -52,9 +60,58 @@ fn play(
     predicted
 }
 
+/// Sends the outputs of a common step in a case short, from the first plan of its entry on, if it has one: an application's cast or send has.
+fn send_short(ground: &Ground<'_>, what: EntryOf, case: Case, out: &mut Outputs)
+    requires ground { IsGround ground.now }
+    ensures { (entered : Entered) (outs : List Output) → what ≡ entry_for (plans_in ground.now) entered → out.old.outputs ≡ map in_full outs →
+        out.new ≡ record out.old { outputs = with_plans (plans_in ground.now) (first_plan (stack_of ground.now) entered case) outs } }
+{
+    if let Some(first) = ground.starts.of(what, case) {
+        out.send_short(first, ground.plans.slice().len() as u32);
+    }
+}
+
+/// Makes the step of what entered, and tells whether it was a common one: by its code, where there is some that passes, and else by the run of
+/// the layers.
+fn make(
+    works: &mut Works,
+    scratch: &mut Scratch,
+    ground: &Ground<'_>,
+    entry: Entry<'_>,
+    out: &mut Outputs,
+    visits: &mut u64,
+) -> bool
+    requires ground { IsGround ground.now }
+    requires ready { IsReady (stack_of ground.now) ground.now.most works.old }
+    requires spare { IsSpare (codes_in ground.now) (plans_in ground.now) scratch.old }
+    requires is_in { IsIn (stack_of ground.now) ground.now.most ground.now.here.view ground.now.id (states_in works.old) }
+    requires entered { IsEntered (stack_of ground.now) (entry_meant ground.now.here entry) }
+    requires lies { LiesWithin entry }
+    requires out { out.old.places ≡ largest_weight (stack_of ground.now) }
+    requires visits { visits.old ≤ 2 ^ 63 }
+    ensures gone { HasGone ground.now works.old (entry_meant ground.now.here entry.entry) works.new out.new visits.old visits.new result }
+    ensures spare { IsSpare (codes_in ground.now) (plans_in ground.now) scratch.new }
+    ensures places { out.new.places ≡ out.old.places }
+{
+    let what = entry_of(ground.plans, &entry);
+    match make_common(works, scratch, ground, what, &entry, out) {
+        Some(case) => {
+            send_short(ground, what, case, out);
+            true
+        }
+        None => {
+            let predicted = play(works, ground, entry, out, visits);
+            ground
+                .entries
+                .is_common(what, predicted.first, predicted.second)
+        }
+    }
+}
+
 /// Takes what entered: one step.
 pub(crate) fn take(
     works: &mut Works,
+    scratch: &mut Scratch,
     ground: &Ground<'_>,
     entry: Entry<'_>,
     out: &mut Outputs,
@@ -62,20 +119,17 @@ pub(crate) fn take(
 ) -> Took
     requires ground { IsGround ground.now }
     requires ready { IsReady (stack_of ground.now) ground.now.most works.old }
-    requires is_in { IsIn (stack_of ground.now) ground.now.most ground.now.here.view (states_in works.old) }
+    requires spare { IsSpare (codes_in ground.now) (plans_in ground.now) scratch.old }
+    requires is_in { IsIn (stack_of ground.now) ground.now.most ground.now.here.view ground.now.id (states_in works.old) }
     requires entered { IsEntered (stack_of ground.now) (entry_meant ground.now.here entry) }
     requires lies { LiesWithin entry }
     requires out { out.old.places ≡ largest_weight (stack_of ground.now) }
     requires visits { visits.old ≤ 2 ^ 63 }
-    ensures taken { HasTaken ground.now (states_in works.old) (entry_meant ground.now.here entry.entry) works.new out.new
-        visits.old visits.new result }
+    ensures taken { HasTaken ground.now works.old (entry_meant ground.now.here entry.entry) works.new out.new visits.old visits.new result }
+    ensures spare { IsSpare (codes_in ground.now) (plans_in ground.now) scratch.new }
     ensures places { out.new.places ≡ out.old.places }
 {
-    let what = entry_of(ground.plans, &entry);
-    let predicted = play(works, ground, entry, out, visits);
-    let common = ground
-        .entries
-        .is_common(what, predicted.first, predicted.second);
+    let common = make(works, scratch, ground, entry, out, visits);
     let change = change_view(
         works,
         ground.stack,

@@ -36,8 +36,8 @@ fn reset_all(layers: &mut Vec<FileLayer>, pool: &mut Pool, me: u32, count: u32, 
 /// Installs the view behind a member's own in which these ranks are, if there is one and the member is in it.
 fn install(works: &mut Works, _stack: &Stack, _most: u8, view: View, id: u8, ranks: u32) -> Change
     requires ready { IsReady (stack_tree _stack.now) _most works.old }
-    requires members { HasMembers _most view (states_in works.old) }
-    ensures { Installs (stack_tree _stack.now) _most view id ranks works.new result }
+    requires members { HasMembers (stack_tree _stack.now) _most view id (states_in works.old) }
+    ensures { Installs (stack_tree _stack.now) _most view id ranks works.old works.new result }
 {
     let Some(next) = next_view(view, ranks) else {
         return Change::Out
@@ -66,7 +66,7 @@ pub(crate) fn change_view(
     out: &Outputs,
 ) -> Option<Change>
     requires ready { IsReady (stack_tree _stack.now) _most works.old }
-    requires members { HasMembers _most view (states_in works.old) }
+    requires members { HasMembers (stack_tree _stack.now) _most view id (states_in works.old) }
     ensures { Changes (stack_tree _stack.now) _most view id (slice_get (filter_map announced (map (λ o. o.0) out.now.outputs)) 0)
         works.old works.new result }
 {

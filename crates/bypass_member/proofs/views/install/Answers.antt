@@ -2,6 +2,8 @@ use Rattle.std.proofs.Common.{◌≡◌, ◌∙◌, Some, refl, sym, ap, arith}
 use Rattle.msg_core.specs.View.{rank}
 use Rattle.run_mean.specs.View.{next_view}
 use Rattle.event_graph.specs.Answer.{stack_tree}
+use Rattle.bypass_member.specs.Viewing.{input_at}
+use Rattle.bypass_member.proofs.Members.{counts_are}
 use Rattle.bypass_member.proofs.Viewing.{rank_below, fewer_now, comes_into}
 use Rattle.bypass_member.proofs.views.install.Goals as goal
 
@@ -13,7 +15,8 @@ reset_all-requires-clause-member c =
 pub reset_all-requires-clause-room : goal.reset_all-requires-clause-room
 reset_all-requires-clause-room c =
     let behind : next_view c.args.view c.args.ranks ≡ Some c.in-Some.next = sym c.next_view.ensures ∙ c.in-Some.is in
-    fewer_now c.args.view c.in-Some.next c.args.ranks _ _ behind c.member_count-count.ensures.count c.requires.members.counts
+    fewer_now c.args.view c.in-Some.next c.args.ranks _ _ behind c.member_count-count.ensures.count
+    (counts_are (input_at c.args.view c.args.id) (stack_tree c.args._stack.now) _ c.requires.members.own)
 
 pub returns : goal.returns
 returns c =

@@ -1,4 +1,4 @@
-use Rattle.std.proofs.Common.{◌≡◌, Option, Err, refl, sym, ap, subst, arith}
+use Rattle.std.proofs.Common.{◌≡◌, Option, Err, refl, ap, subst, arith}
 use Rattle.std.specs.Rc.{rc_value}
 use Rattle.msg_core.specs.declared.packet.View.{View}
 use Rattle.event_graph.specs.Answer.{stack_tree}
@@ -8,10 +8,11 @@ use Rattle.view_core.specs.Refusals.{refusal_meant}
 use Rattle.view_core.specs.Steps.{input_meant}
 use Rattle.member_reads.specs.Shown.{member_in}
 use Rattle.bypass_member.specs.Judged.{entry_meant}
+use Rattle.bypass_member.specs.Modes.{mode_with}
 use Rattle.bypass_member.specs.Placed.{Placed, here_in, step_of, Takes}
 use Rattle.bypass_member.specs.Placing.{placed}
 use Rattle.bypass_member.specs.Working.{states_in}
-use Rattle.bypass_member.proofs.Placing.{ground_is, entered_is, entered_same, here_at, ranked, refused_in, stands, takes}
+use Rattle.bypass_member.proofs.Placing.{ground_is, entered_is, entered_same, here_at, refused_in, stands, takes}
 use Rattle.bypass_member.proofs.member.Member.step.Goals as goal
 
 pub returns-in-Err-clause-step : goal.returns-in-Err-clause-step
@@ -30,7 +31,7 @@ returns-in-Err-clause-step c =
 pub take-common-requires-clause-ground : goal.take-common-requires-clause-ground
 take-common-requires-clause-ground c =
     ground_is c.self.inside _ c.in-Some.view c.self.invariant c.in-Some.is c.deref-3.ensures c.deref-4.ensures c.deref-5.ensures refl
-    refl (omega arith) (omega arith) (ranked c.self.inside c.in-Some.view c.self.invariant c.in-Some.is).1
+    c.lent.ensures refl refl (omega arith) (omega arith) refl refl
 
 pub take-common-requires-clause-entered : goal.take-common-requires-clause-entered
 take-common-requires-clause-entered c =
@@ -45,14 +46,13 @@ returns-clause-step c =
     (here_at c.self.inside c.in-Some.view)
     (here_in (placed c.self.inside) c.in-Some.view) (input_meant c.args.input) _ c.deref.ensures c.deref-2.ensures here c.in-Ok.ensures.judged in
     subst (λ (p : Placed). Takes p (input_meant c.args.input)
-    (placed (record c.self.inside { view = c.view_after-self-inside.result; rank = c.rank_after-self-inside.result; works = c.take-common.new.works }))
+    (placed (record c.self.inside { view = c.view_after-self-inside.result; rank = c.rank_after-self-inside.result; works = c.take-common.new.works; scratch = c.take-common.new.scratch }))
     c.take-common.new.out.outputs c.args.visits.now c.take-common.new.visits c.take-common.result.common c.take-common.result.change)
     c.self.view_is
     (takes (placed c.self.inside) c.in-Some.view (states_in c.self.inside.works) (input_meant c.args.input)
     (ap (λ (v : Option View). member_in v (states_in c.self.inside.works)) c.in-Some.is) _ (entry_meant (here_at c.self.inside c.in-Some.view) c.in-Ok.entry)
-    c.take-common.new.works c.take-common.new.out c.args.visits.now c.take-common.new.visits c.take-common.result
-    (placed (record c.self.inside { view = c.view_after-self-inside.result; rank = c.rank_after-self-inside.result; works = c.take-common.new.works }))
-    (ap stack_tree c.deref-3.ensures) (ap plans_tree c.deref-4.ensures) here refl enters c.take-common.ensures.taken
-    (ap (λ (v : Option View). member_in v (states_in c.take-common.new.works))
-    c.view_after-self-inside.ensures)
-    (record { stack = refl; plans = refl; group = refl; stamp = refl; id = refl; most = refl }))
+    c.self.inside.works c.take-common.new.works c.take-common.new.out c.args.visits.now c.take-common.new.visits c.take-common.result
+    (placed (record c.self.inside { view = c.view_after-self-inside.result; rank = c.rank_after-self-inside.result; works = c.take-common.new.works; scratch = c.take-common.new.scratch }))
+    (ap stack_tree c.deref-3.ensures) (ap plans_tree c.deref-4.ensures) (ap mode_with c.lent.ensures) here refl enters c.take-common.ensures.taken
+    refl refl (ap (λ (v : Option View). member_in v (states_in c.take-common.new.works)) c.view_after-self-inside.ensures) refl
+    (record { stack = refl; plans = refl; mode = refl; group = refl; stamp = refl; id = refl; most = refl }))

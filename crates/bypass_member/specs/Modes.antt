@@ -1,0 +1,31 @@
+-- The mode in which a member runs, and what a step in it leaves.
+use Rattle.std.specs.Prelude.{◌≡◌, ℕ, Bool, true, false, List, Option, Some, None, refl}
+use Rattle.std.specs.Coded.{Coded, code_by, coded_bool}
+use Rattle.job_mean.specs.Job.{Mode, layered, bypass}
+use Rattle.bypass_codes.specs.Codes.{CodesTree}
+
+-- With code of its bypasses it runs by these; without it runs layer by layer.
+abbrev pub mode_with : Option CodesTree → Mode
+mode_with (Some codes) = bypass
+mode_with None = layered
+
+-- In bypass mode a common step is no event to any layer: each has taken as many as before.
+abbrev pub IsTakenSo : Mode → (common : Bool) → (old new : List ℕ) → Type 0
+IsTakenSo bypass true old new = new ≡ old
+IsTakenSo mode common old new = Unit {0}
+
+-- How modes are told apart.
+abbrev is_bypass : Mode → Bool
+is_bypass layered = false
+is_bypass bypass = true
+
+abbrev mode_at : Bool → Mode
+mode_at false = layered
+mode_at true = bypass
+
+pub mode_back : (mode : Mode) → mode_at (is_bypass mode) ≡ mode
+mode_back layered = refl
+mode_back bypass = refl
+
+abbrev pub mode_code : Coded Mode
+mode_code = code_by Bool coded_bool is_bypass mode_at mode_back

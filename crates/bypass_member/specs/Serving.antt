@@ -1,0 +1,36 @@
+-- The code by which members run, and what is kept ready for its runs.
+use Rattle.std.specs.Prelude.{◌≡◌, ℕ, ◌≤◌, List, length, vec_capacity, Option, Some, None}
+use Rattle.std.specs.List.{AllByRecursion}
+use Rattle.layer_mean.specs.Tree.{LayerTree}
+use Rattle.stack_mean.specs.Plan.{Plan}
+use Rattle.bypass_mean.specs.Bypasses.{Bypasses}
+use Rattle.bypass_laws.specs.Stack.{AreOfStack}
+use Rattle.trace_reads.specs.Registers.{IsEmpty}
+use Rattle.trace_reads.specs.declared.values.Values.{Values}
+use Rattle.bypass_codes.specs.Codes.{CodesTree, codes_of}
+use Rattle.bypass_codes.specs.Room.{ServesAll}
+use Rattle.bypass_member.specs.declared.scratch.Scratch.{Scratch}
+
+-- The codes of a stack: those of bypasses that are the stack's.
+pub record AreCodesOf (stack : List LayerTree) (codes : CodesTree) : Type 0 where
+  pub bypasses : Bypasses
+  pub of : AreOfStack stack bypasses
+  pub is : codes ≡ codes_of bypasses
+
+abbrev pub AreCodes : List LayerTree → Option CodesTree → Type 0
+AreCodes stack (Some codes) = AreCodesOf stack codes
+AreCodes stack None = Unit {0}
+
+-- Nothing is kept, and there is room for a run of each of them.
+abbrev pub Serves : Option CodesTree → Values → Type 0
+Serves (Some codes) v = ServesAll codes v
+Serves None v = IsEmpty v
+
+-- A plan has so many fields at most.
+abbrev pub HasAtMost : ℕ → Plan → Type 0
+HasAtMost most plan = length plan.fields ≤ most
+
+-- So it is between two runs, with a place for each field of each plan.
+pub record IsSpare (codes : Option CodesTree) (plans : List Plan) (s : Scratch) : Type 0 where
+  pub values : Serves codes s.values
+  pub fields : AllByRecursion (HasAtMost (vec_capacity s.fields)) plans

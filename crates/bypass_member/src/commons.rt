@@ -1,0 +1,200 @@
+//! Common steps, by the code of their bypasses.
+
+ghost use Rattle.std.specs.Prelude.{◌≡◌, ◌≤◌, List, vec_capacity};
+ghost use Rattle.std.specs.List.{AllByRecursion};
+ghost use Rattle.member_laws.specs.Members.{IsEntered};
+ghost use Rattle.msg_core.specs.View.{most_members};
+ghost use Rattle.layer_mean.specs.declared.run.Case.TheVariants as cases;
+ghost use Rattle.packet_mean.specs.declared.here.Here as stands;
+ghost use Rattle.stack_mean.specs.Acceptance.{largest_weight};
+ghost use Rattle.stack_mean.specs.Plan as mean;
+ghost use Rattle.stack_shapes.specs.Entries.{entry_for};
+ghost use Rattle.stack_shapes.specs.Trees.{plans_tree};
+ghost use Rattle.trace_reads.specs.Registers.{input_of};
+ghost use Rattle.bypass_codes.specs.Room.{ServesAll};
+ghost use Rattle.handler_laws.specs.Handled.{step_input};
+ghost use Rattle.bypass_member.specs.Judged.{body_of, entry_meant, LiesWithin};
+ghost use Rattle.bypass_member.specs.Serving.{HasAtMost, IsSpare};
+ghost use Rattle.bypass_member.specs.Stepping.{codes_in, plans_in, stack_of, IsGround};
+ghost use Rattle.bypass_member.specs.Trying.{fields_given, Handles, IsBegun, IsTried, MakesCommon, Tries};
+ghost use Rattle.bypass_member.specs.Viewing.{IsIn};
+ghost use Rattle.bypass_member.specs.Working.{states_in, IsReady};
+
+use crate::entry::Entry;
+use crate::ground::Ground;
+use crate::scratch::Scratch;
+use crate::works::Works;
+use bypass_codes::Codes;
+use handler_laws::steps_are_handled;
+use layer_mean::Case;
+use packet_full::member_count;
+use packet_mean::Here;
+use packet_short::variable_fields;
+use stack_shapes::{EntryOf, Plans};
+use step_outputs::Outputs;
+use trace_reads::{Given, Values};
+use trace_run::perform;
+
+/// The code that is looked for, by the entry of what entered, and what it is given.
+#[derive(Drop)]
+pub(crate) struct Tried<'c, 'g> {
+    pub(crate) codes: &'c Codes,
+    pub(crate) entry: EntryOf,
+    pub(crate) given: Given<'g>,
+}
+
+/// Keeps the fields of what entered that the plan of its entry leaves variable; others than packets have none.
+fn keep_fields(plans: &Plans, what: EntryOf, entry: &Entry<'_>, fields: &mut Vec<u32>)
+    requires what { (here : stands.Here) → what ≡ entry_for (plans_tree plans.now) (entry_meant here entry.now) }
+    requires room { AllByRecursion (HasAtMost (vec_capacity fields.old)) (plans_tree plans.now) }
+    ensures fields { (here : stands.Here) → fields.new.items ≡ fields_given (plans_tree plans.now) (entry_meant here entry.now) }
+    ensures capacity { vec_capacity fields.new ≡ vec_capacity fields.old }
+{
+    fields.clear();
+    if let Entry::Packet(scan, _) = entry {
+        if let EntryOf::Plan(number) = what {
+            if let Some(plan) = plans.get(number) {
+                variable_fields(plan, &scan.headers, fields);
+            }
+        }
+    }
+}
+
+/// The peer of what entered: the own rank for a cast, the rank that is sent to, or the sender.
+fn peer_of(here: &Here, entry: &Entry<'_>) -> u32
+    ensures { (plans : List mean.Plan) → result ≡ (step_input plans here.now (entry_meant here.now entry.now)).peer }
+{
+    match entry {
+        Entry::Cast(_) => u32::from(here.rank),
+        Entry::Send(to, _) => *to,
+        Entry::Leave => 0,
+        Entry::Tick(_) => 0,
+        Entry::Packet(scan, _) => u32::from(scan.sender),
+    }
+}
+
+/// The body of what entered; none where it has none.
+fn body_in<'a>(entry: &'a Entry<'_>) -> &'a [u8]
+    requires lies { LiesWithin entry.now }
+    ensures { result.now ≡ body_of entry.now }
+{
+    match entry {
+        Entry::Cast(body) => body,
+        Entry::Send(_, body) => body,
+        Entry::Leave => &[],
+        Entry::Tick(_) => &[],
+        Entry::Packet(scan, bytes) => &bytes[scan.body as usize..],
+    }
+}
+
+/// What code is given of what entered, beside the fields that were kept.
+fn given_of<'a>(_plans: &Plans, here: &Here, entry: &'a Entry<'_>, fields: &'a [u32]) -> Given<'a>
+    requires lies { LiesWithin entry.now }
+    requires fields { fields.now ≡ fields_given (plans_tree _plans.now) (entry_meant here.now entry.now) }
+    ensures given { input_of result ≡ step_input (plans_tree _plans.now) here.now (entry_meant here.now entry.now) }
+    ensures members { result.count ≤ most_members }
+    ensures body { result.body.now ≡ body_of entry.now }
+{
+    Given {
+        me: u32::from(here.rank),
+        count: member_count(here.view),
+        ltime: here.view.ltime,
+        peer: peer_of(here, entry),
+        fields,
+        body: body_in(entry),
+    }
+}
+
+/// Makes a step by its code in a case, if there is some and it passes, and tells whether it did.
+fn try_case(
+    works: &mut Works,
+    values: &mut Values,
+    ground: &Ground<'_>,
+    tried: &Tried<'_, '_>,
+    case: Case,
+    _entry: &Entry<'_>,
+    out: &mut Outputs,
+) -> bool
+    requires ready { IsReady (stack_of ground.now) ground.now.most works.old }
+    requires is_in { IsIn (stack_of ground.now) ground.now.most ground.now.here.view ground.now.id (states_in works.old) }
+    requires tried { IsTried ground.now (entry_meant ground.now.here _entry.now) tried.now }
+    requires handles { Handles ground.now (states_in works.old) (entry_meant ground.now.here _entry.now) tried.now.codes.now case }
+    requires serves { ServesAll tried.now.codes.now values.old }
+    requires begun { IsBegun ground.now out.old }
+    ensures tries { Tries case ground.now works.old (entry_meant ground.now.here _entry.now) out.old works.new out.new result }
+    ensures serves { ServesAll tried.now.codes.now values.new }
+    ensures places { out.new.places ≡ out.old.places }
+{
+    let Some(code) = tried.codes.at(tried.entry, case) else {
+        return false
+    };
+    ground.stack.is_within_limits();
+    let layers = works.layers.as_mut_slice();
+    perform(code, &tried.given, layers, &mut works.pool, values, out)
+}
+
+/// Makes a step by its code in the first case in which it passes, and tells that case, if there is one.
+fn try_cases(
+    works: &mut Works,
+    values: &mut Values,
+    ground: &Ground<'_>,
+    tried: &Tried<'_, '_>,
+    entry: &Entry<'_>,
+    out: &mut Outputs,
+) -> Option<Case>
+    requires ready { IsReady (stack_of ground.now) ground.now.most works.old }
+    requires is_in { IsIn (stack_of ground.now) ground.now.most ground.now.here.view ground.now.id (states_in works.old) }
+    requires tried { IsTried ground.now (entry_meant ground.now.here entry.now) tried.now }
+    requires first { Handles ground.now (states_in works.old) (entry_meant ground.now.here entry.now) tried.now.codes.now cases.First }
+    requires second { Handles ground.now (states_in works.old) (entry_meant ground.now.here entry.now) tried.now.codes.now cases.Second }
+    requires serves { ServesAll tried.now.codes.now values.old }
+    requires begun { IsBegun ground.now out.old }
+    ensures made { MakesCommon ground.now works.old (entry_meant ground.now.here entry.now) works.new out.new result }
+    ensures serves { ServesAll tried.now.codes.now values.new }
+    ensures places { out.new.places ≡ out.old.places }
+{
+    if try_case(works, values, ground, tried, Case::First, entry, out) {
+        return Some(Case::First);
+    }
+    if try_case(works, values, ground, tried, Case::Second, entry, out) {
+        return Some(Case::Second);
+    }
+    None
+}
+
+/// Makes a common step by its code, and tells its case; where there is no code, or none passes, nothing has changed.
+pub(crate) fn make_common<'x>(
+    works: &mut Works,
+    scratch: &'x mut Scratch,
+    ground: &Ground<'_>,
+    what: EntryOf,
+    entry: &'x Entry<'_>,
+    out: &mut Outputs,
+) -> Option<Case>
+    requires ground { IsGround ground.now }
+    requires ready { IsReady (stack_of ground.now) ground.now.most works.old }
+    requires spare { IsSpare (codes_in ground.now) (plans_in ground.now) scratch.old }
+    requires is_in { IsIn (stack_of ground.now) ground.now.most ground.now.here.view ground.now.id (states_in works.old) }
+    requires entered { IsEntered (stack_of ground.now) (entry_meant ground.now.here entry.now) }
+    requires lies { LiesWithin entry.now }
+    requires what { (here : stands.Here) → what ≡ entry_for (plans_in ground.now) (entry_meant here entry.now) }
+    requires out { out.old.places ≡ largest_weight (stack_of ground.now) }
+    ensures made { MakesCommon ground.now works.old (entry_meant ground.now.here entry.now) works.new out.new result }
+    ensures spare { IsSpare (codes_in ground.now) (plans_in ground.now) scratch.new }
+    ensures places { out.new.places ≡ out.old.places }
+{
+    let Some(codes) = ground.codes else {
+        return None
+    };
+    steps_are_handled();
+    ground.stack.is_accepted();
+    keep_fields(ground.plans, what, entry, &mut scratch.fields);
+    let given = given_of(ground.plans, &ground.here, entry, scratch.fields.as_slice());
+    let tried = Tried {
+        codes,
+        entry: what,
+        given,
+    };
+    out.begin(ground.here);
+    try_cases(works, &mut scratch.values, ground, &tried, entry, out)
+}
