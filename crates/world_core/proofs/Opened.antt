@@ -10,7 +10,7 @@ use Rattle.stack_mean.specs.Acceptance.{rows_of, most_rows}
 use Rattle.run_mean.specs.Member.{opened}
 use Rattle.run_mean.specs.View.{first_view}
 use Rattle.file_layer.specs.Making.{Making}
-use Rattle.bypass_member.specs.Opening.{IsOpen, Opens, plans_in, rows_in, stack_in}
+use Rattle.bypass_member.specs.Opening.{IsOpen, Opens, mode_in, plans_in, rows_in, stack_in}
 use Rattle.bypass_member.specs.Placed.{Placed}
 use Rattle.bypass_member.specs.declared.error.OpenError.{OpenError}
 use Rattle.bypass_member.specs.declared.error.OpenError.TheVariants.{TooLarge, Memory}
@@ -41,7 +41,7 @@ times_few k l few less = mul-le k l 32 24 few less
 -- the members below an id are open
 pub record AreBelow (o : Opening) (n id : ℕ) (before now : Making) (members : List Placed) : Type 0 where
   pub opened_are : map member_of members ≡ map (opened (stack_in o) (first_view n)) (range_with_len 0 id)
-  pub seated : map seat_of members ≡ map (seat (stack_in o) (plans_in o) o.group o.stamp) (range_with_len 0 id)
+  pub seated : map seat_of members ≡ map (seat (mode_in o) (stack_in o) (plans_in o) o.group o.stamp) (range_with_len 0 id)
   pub few : 0 < id → rows_of (stack_in o) n ≤ most_rows
   pub same : now.stack ≡ before.stack
   pub made : now.made ≡ before.made + id * length (stack_in o)
@@ -59,8 +59,8 @@ module _ (o : Opening) (n id : ℕ) (view : View) (before now new : Making) (mem
   open_next m more below first most is put = record {
     opened_are = told_next member_of (opened (stack_in o) (first_view n)) members more m id below.opened_are
         (is.member ∙ ap (λ v. opened (stack_in o) v id) first) put;
-    seated = told_next seat_of (seat (stack_in o) (plans_in o) o.group o.stamp) members more m id below.seated
-        (λ i. record { stack = is.stack_is i; plans = is.plans_are i; group = is.group_is i; stamp = is.stamp_is i; id = is.id_is i }) put;
+    seated = told_next seat_of (seat (mode_in o) (stack_in o) (plans_in o) o.group o.stamp) members more m id below.seated
+        (λ i. record { mode = is.mode_is i; stack = is.stack_is i; plans = is.plans_are i; group = is.group_is i; stamp = is.stamp_is i; id = is.id_is i }) put;
     few = λ _. subst (λ r. r ≤ most_rows) (rows_are first most) is.few;
     same = is.same ∙ below.same;
     made = let next = times_next id (length (stack_in o)) in let one = is.made in let all = below.made in omega (arith, next, one, all);

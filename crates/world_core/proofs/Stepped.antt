@@ -9,12 +9,13 @@ use Rattle.std.specs.Option.{option_map_or}
 use Rattle.msg_core.specs.View.{rank}
 use Rattle.msg_core.specs.declared.packet.Packet.{Packet}
 use Rattle.msg_core.specs.declared.packet.View.{View}
+use Rattle.job_mean.specs.Job.{Mode}
 use Rattle.layer_mean.specs.State.{State}
 use Rattle.layer_mean.specs.Tree.{LayerTree}
 use Rattle.stack_mean.specs.Plan.{Plan}
 use Rattle.packet_mean.specs.Spelling.{full_bytes}
 use Rattle.packet_mean.specs.declared.here.Here.{Here}
-use Rattle.run_mean.specs.Common.{with_plans, plan_behind}
+use Rattle.run_mean.specs.Common.{with_plans, plan_behind, short_from}
 use Rattle.run_mean.specs.Member.{Member, inside, out, Input, datagram, is_out, Entered, entered, Output, packet_in, Refusal, Step, step_from}
 use Rattle.run_mean.specs.World.{World, Happening, only, refused, taken, absent, here_of, member_at, packet_number, world_behind}
 use Rattle.run_mean.specs.World.{stepped, stepped_of, stepped_inside, given}
@@ -34,36 +35,43 @@ without_plans plans next [] = refl
 without_plans plans next (o ∷ outputs) = ap (λ os. o ∷ os) (without_plans plans (plan_behind next o) outputs)
 
 -- members in their seats
-pub count_seats : (stack : List LayerTree) (plans : List Plan) (group stamp n : ℕ) (members : List Placed) →
-    map seat_of members ≡ seats stack plans group stamp n → length members ≡ n
-count_seats stack plans group stamp n members seated =
-    sym (length-map members seat_of) ∙ ap length seated ∙ length-map-range_with_len (seat stack plans group stamp) 0 n
+pub count_seats : (mode : Mode) (stack : List LayerTree) (plans : List Plan) (group stamp n : ℕ) (members : List Placed) →
+    map seat_of members ≡ seats mode stack plans group stamp n → length members ≡ n
+count_seats mode stack plans group stamp n members seated =
+    sym (length-map members seat_of) ∙ ap length seated ∙ length-map-range_with_len (seat mode stack plans group stamp) 0 n
 
-pub are_seated : (stack : List LayerTree) (plans : List Plan) (group stamp n : ℕ) (members : List Placed) →
-    map seat_of members ≡ seats stack plans group stamp n → AreSeated stack plans group stamp members
-are_seated stack plans group stamp n members seated =
-    seated ∙ ap (seats stack plans group stamp) (sym (count_seats stack plans group stamp n members seated))
+pub are_seated : (mode : Mode) (stack : List LayerTree) (plans : List Plan) (group stamp n : ℕ) (members : List Placed) →
+    map seat_of members ≡ seats mode stack plans group stamp n → AreSeated mode stack plans group stamp members
+are_seated mode stack plans group stamp n members seated =
+    seated ∙ ap (seats mode stack plans group stamp) (sym (count_seats mode stack plans group stamp n members seated))
 
-module _ (stack : List LayerTree) (plans : List Plan) (group stamp : ℕ) (members : List Placed) (id : ℕ) (p : Placed) where
-  seat_at : AreSeated stack plans group stamp members → id < length members → p ≡ get_or members id p →
-      seat_of p ≡ seat stack plans group stamp id
+module _ (mode : Mode) (stack : List LayerTree) (plans : List Plan) (group stamp : ℕ) (members : List Placed) (id : ℕ) (p : Placed) where
+  seat_at : AreSeated mode stack plans group stamp members → id < length members → p ≡ get_or members id p →
+      seat_of p ≡ seat mode stack plans group stamp id
   seat_at seated lt at =
       ap seat_of at ∙ sym (get_or-map seat_of members id p (seat_of p) lt) ∙ ap (λ ss. get_or ss id (seat_of p)) seated ∙
-      get_or-map-range_with_len (seat stack plans group stamp) 0 (length members) id id (seat_of p) lt (zero-add id)
+      get_or-map-range_with_len (seat mode stack plans group stamp) 0 (length members) id id (seat_of p) lt (zero-add id)
 
 -- one of them steps
 same_seat : (p : Placed) (input : Input) (p' : Placed) (outs : List (Output × Option ℕ)) (before after : ℕ) (st : Stepped) →
     Steps p input p' outs before after st → seat_of p' ≡ seat_of p
 same_seat p input p' outs before after (Taken common change) is =
-    λ i. record { stack = is.place.stack i; plans = is.place.plans i; group = is.place.group i; stamp = is.place.stamp i; id = is.place.id i }
+    λ i. record {
+      mode = is.place.mode i;
+      stack = is.place.stack i;
+      plans = is.place.plans i;
+      group = is.place.group i;
+      stamp = is.place.stamp i;
+      id = is.place.id i;
+    }
 same_seat p input p' outs before after (Refused reason) is = ap seat_of is.same
 
-pub seated_behind : (stack : List LayerTree) (plans : List Plan) (group stamp : ℕ) (members : List Placed) (place : ℕ) (p : Placed)
+pub seated_behind : (mode : Mode) (stack : List LayerTree) (plans : List Plan) (group stamp : ℕ) (members : List Placed) (place : ℕ) (p : Placed)
     (input : Input) (p' : Placed) (outs : List (Output × Option ℕ)) (before after : ℕ) (st : Stepped) →
-    AreSeated stack plans group stamp members → p ≡ get_or members place p → Steps p input p' outs before after st →
-    AreSeated stack plans group stamp (set members place p')
-seated_behind stack plans group stamp members place p input p' outs before after st seated at is =
-    are_seated stack plans group stamp (length members) (set members place p')
+    AreSeated mode stack plans group stamp members → p ≡ get_or members place p → Steps p input p' outs before after st →
+    AreSeated mode stack plans group stamp (set members place p')
+seated_behind mode stack plans group stamp members place p input p' outs before after st seated at is =
+    are_seated mode stack plans group stamp (length members) (set members place p')
     (map-set_same seat_of members place p' p (same_seat p input p' outs before after st is ∙ ap seat_of at) ∙ seated)
 
 -- what a member in a seat makes of an input
@@ -91,27 +99,27 @@ happened w id m (Err reason) = only w (refused reason)
 happened w id out (Ok s) = only w absent
 happened w id (inside view states) (Ok s) = record { world = world_behind w view id s; did = taken s }
 
-world_step : (stack : List LayerTree) (plans : List Plan) (w : World) (id : ℕ) (input : Input) (m : Member) →
-    stepped_of stack plans w id input m ≡ happened w id m (step_seated (seat stack plans w.group w.stamp id) m input)
-world_step stack plans w id input out = refl
-world_step stack plans w id input (inside view states) = go (entered stack plans (here_of w view id) input) where
+world_step : (mode : Mode) (stack : List LayerTree) (plans : List Plan) (w : World) (id : ℕ) (input : Input) (m : Member) →
+    stepped_of stack plans w id input m ≡ happened w id m (step_seated (seat mode stack plans w.group w.stamp id) m input)
+world_step mode stack plans w id input out = refl
+world_step mode stack plans w id input (inside view states) = go (entered stack plans (here_of w view id) input) where
   go : (e : Result Entered Refusal) →
-      stepped_inside stack w id view states e ≡ happened w id (inside view states) (step_in_seat (seat stack plans w.group w.stamp id) view states e)
+      stepped_inside stack w id view states e ≡ happened w id (inside view states) (step_in_seat (seat mode stack plans w.group w.stamp id) view states e)
   go (Ok what) = refl
   go (Err reason) = refl
 
 -- a member in its seat steps as the one of the world does
-placed_step : (stack : List LayerTree) (plans : List Plan) (w : World) (id : ℕ) (input : Input) (p : Placed) →
-    seat_of p ≡ seat stack plans w.group w.stamp id → member_at w id ≡ p.member →
+placed_step : (mode : Mode) (stack : List LayerTree) (plans : List Plan) (w : World) (id : ℕ) (input : Input) (p : Placed) →
+    seat_of p ≡ seat mode stack plans w.group w.stamp id → member_at w id ≡ p.member →
     stepped stack plans w id input ≡ happened w id p.member (step_of p input)
-placed_step stack plans w id input p sits at =
-    ap (stepped_of stack plans w id input) at ∙ world_step stack plans w id input p.member ∙
+placed_step mode stack plans w id input p sits at =
+    ap (stepped_of stack plans w id input) at ∙ world_step mode stack plans w id input p.member ∙
     ap (λ s. happened w id p.member (step_seated s p.member input)) (sym sits) ∙ ap (happened w id p.member) (sym (same_step p p.member input))
 
 -- what is told of it, and the world behind it
-record IsBehind (stack : List LayerTree) (plans : List Plan) (w : World) (id : ℕ) (h : Happening) (m : Member) (outs : List (Output × Option ℕ))
+record IsBehind (mode : Mode) (stack : List LayerTree) (plans : List Plan) (w : World) (id : ℕ) (h : Happening) (m : Member) (outs : List (Output × Option ℕ))
     (before after : ℕ) (st : Stepped) : Type 0 where
-  is_told : DidIs stack plans h.did outs before after (told.Stepped st)
+  is_told : DidIs mode stack plans h.did outs before after (told.Stepped st)
   group : h.world.group ≡ w.group
   stamp : h.world.stamp ≡ w.stamp
   members : h.world.members ≡ slice_set w.members id m
@@ -119,8 +127,8 @@ record IsBehind (stack : List LayerTree) (plans : List Plan) (w : World) (id : �
 
 module _ (w : World) (id : ℕ) (p : Placed) (input : Input) (p' : Placed) (outs : List (Output × Option ℕ)) (before after : ℕ) where
   taken_behind : (common : Bool) (change : Option Change) (m : Member) (s : Step) → step_at p m input ≡ Ok s → p'.member ≡ member_after m s →
-      IsTaken p.stack p.plans s outs before after common change →
-      IsBehind p.stack p.plans w id (happened w id m (Ok s)) p'.member outs before after (Taken common change)
+      IsTaken p.mode p.stack p.plans s outs before after common change →
+      IsBehind p.mode p.stack p.plans w id (happened w id m (Ok s)) p'.member outs before after (Taken common change)
   taken_behind common change out s is behind told = absurd (cc is)
   taken_behind common change (inside view states) s is behind told = record {
     is_told = told;
@@ -128,17 +136,17 @@ module _ (w : World) (id : ℕ) (p : Placed) (input : Input) (p' : Placed) (outs
     stamp = refl;
     members = ap (slice_set w.members id) (sym behind);
     packets = ap (λ os. w.packets ++ filter_map packet_in os)
-        (sym (ap (map (λ o. o.0)) told.outs_are ∙ without_plans p.plans None s.outputs));
+        (sym (ap (map (λ o. o.0)) told.outs_are ∙ without_plans p.plans (short_from p.mode p.stack p.plans s) s.outputs));
   }
 
   step_behind : (st : Stepped) → Steps p input p' outs before after st → member_at w id ≡ p.member →
-      IsBehind p.stack p.plans w id (happened w id p.member (step_of p input)) p'.member outs before after st
+      IsBehind p.mode p.stack p.plans w id (happened w id p.member (step_of p input)) p'.member outs before after st
   step_behind (Taken common change) is at =
-      subst (λ r. IsBehind p.stack p.plans w id (happened w id p.member r) p'.member outs before after (Taken common change)) (sym is.is)
+      subst (λ r. IsBehind p.mode p.stack p.plans w id (happened w id p.member r) p'.member outs before after (Taken common change)) (sym is.is)
       (taken_behind common change p.member is.step is.is is.member
       (record { outs_are = is.outputs; common_is = is.common_is; change_is = is.change_is; visits_are = is.visits }))
   step_behind (Refused reason) is at =
-      subst (λ r. IsBehind p.stack p.plans w id (happened w id p.member r) p'.member outs before after (Refused reason)) (sym is.why)
+      subst (λ r. IsBehind p.mode p.stack p.plans w id (happened w id p.member r) p'.member outs before after (Refused reason)) (sym is.why)
       (record {
         is_told = record { cause_is = refl; quiet = record { outs_are = is.none; visits_are = is.visits } };
         group = refl;
@@ -148,30 +156,30 @@ module _ (w : World) (id : ℕ) (p : Placed) (input : Input) (p' : Placed) (outs
       })
 
 -- a group as it is kept
-abbrev pub kept : List LayerTree → List Plan → (group stamp : ℕ) → List Placed → List (List ℕ) → Peopled
-kept stack plans group stamp members spelled =
-    record { stack = stack; plans = plans; group = group; stamp = stamp; members = map member_of members; spelled = spelled }
+abbrev pub kept : Mode → List LayerTree → List Plan → (group stamp : ℕ) → List Placed → List (List ℕ) → Peopled
+kept mode stack plans group stamp members spelled =
+    record { mode = mode; stack = stack; plans = plans; group = group; stamp = stamp; members = map member_of members; spelled = spelled }
 
 -- one of its members steps, and what it sends is kept
-kept_fed : (stack : List LayerTree) (plans : List Plan) (group stamp : ℕ) (members : List Placed) (spelled more : List (List ℕ))
+kept_fed : (mode : Mode) (stack : List LayerTree) (plans : List Plan) (group stamp : ℕ) (members : List Placed) (spelled more : List (List ℕ))
     (id place : ℕ) (p : Placed) (input : Input) (p' : Placed) (outs : List (Output × Option ℕ)) (before after : ℕ) (st : Stepped) →
-    AreSeated stack plans group stamp members → place ≡ id → id < length members → p ≡ get_or members place p →
+    AreSeated mode stack plans group stamp members → place ≡ id → id < length members → p ≡ get_or members place p →
     Steps p input p' outs before after st → more ≡ spelled ++ spelled_of outs → (w : World) →
-    Stands (kept stack plans group stamp members spelled) w → IsFed (kept stack plans group stamp members spelled) (stepped stack plans w id input)
-    (kept stack plans group stamp (set members place p') more) outs before after (told.Stepped st)
-kept_fed stack plans group stamp members spelled more id place p input p' outs before after st seated is_place lt found is sent w stands =
+    Stands (kept mode stack plans group stamp members spelled) w → IsFed (kept mode stack plans group stamp members spelled) (stepped stack plans w id input)
+    (kept mode stack plans group stamp (set members place p') more) outs before after (told.Stepped st)
+kept_fed mode stack plans group stamp members spelled more id place p input p' outs before after st seated is_place lt found is sent w stands =
     let at_id : p ≡ get_or members id p = found ∙ ap (λ k. get_or members k p) is_place in
-    let sits : seat_of p ≡ seat stack plans group stamp id = seat_at stack plans group stamp members id p seated lt at_id in
-    let sits_there : seat_of p ≡ seat stack plans w.group w.stamp id =
-    sits ∙ sym (λ i. seat stack plans (stands.group i) (stands.stamp i) id) in
+    let sits : seat_of p ≡ seat mode stack plans group stamp id = seat_at mode stack plans group stamp members id p seated lt at_id in
+    let sits_there : seat_of p ≡ seat mode stack plans w.group w.stamp id =
+    sits ∙ sym (λ i. seat mode stack plans (stands.group i) (stands.stamp i) id) in
     let at : member_at w id ≡ p.member =
     ap (λ ms. slice_index_or ms id out) stands.members ∙ get_or-map member_of members id p out lt ∙ sym (ap member_of at_id) in
     let h = happened w id p.member (step_of p input) in
-    let behind : IsBehind stack plans w id h p'.member outs before after st =
-    subst (λ (s : Seat). IsBehind s.stack s.plans w id h p'.member outs before after st) sits
+    let behind : IsBehind mode stack plans w id h p'.member outs before after st =
+    subst (λ (s : Seat). IsBehind s.mode s.stack s.plans w id h p'.member outs before after st) sits
     (step_behind w id p input p' outs before after st is at) in
-    let old = kept stack plans group stamp members spelled in
-    let new = kept stack plans group stamp (set members place p') more in
+    let old = kept mode stack plans group stamp members spelled in
+    let new = kept mode stack plans group stamp (set members place p') more in
     let fed : IsFed old h new outs before after (told.Stepped st) =
     record {
       world = record {
@@ -185,7 +193,7 @@ kept_fed stack plans group stamp members spelled more id place p input p' outs b
       told = behind.is_told;
     } in
     subst (λ x. IsFed old x new outs before after (told.Stepped st))
-    (sym (placed_step stack plans w id input p sits_there at)) fed
+    (sym (placed_step mode stack plans w id input p sits_there at)) fed
 
 -- a packet that is given, or that there isn't
 found_number : (w : World) (spelled : List (List ℕ)) (number : ℕ) → map full_bytes w.packets ≡ spelled →
@@ -214,10 +222,11 @@ absent_is stack plans w id number spelled is none =
       go (Some packet) same = absurd (cc same)
 
 -- a group that is told by its parts
-module _ (c : Peopled) (stack : List LayerTree) (plans : List Plan) (group stamp : ℕ) (members : List Placed) (spelled : List (List ℕ))
-    (shown : kept stack plans group stamp members spelled ≡ c) where
-  pub stays_behind : (more : List (List ℕ)) (place : ℕ) (p' : Placed) → Stays c (kept stack plans group stamp (set members place p') more)
+module _ (c : Peopled) (mode : Mode) (stack : List LayerTree) (plans : List Plan) (group stamp : ℕ) (members : List Placed) (spelled : List (List ℕ))
+    (shown : kept mode stack plans group stamp members spelled ≡ c) where
+  pub stays_behind : (more : List (List ℕ)) (place : ℕ) (p' : Placed) → Stays c (kept mode stack plans group stamp (set members place p') more)
   stays_behind more place p' = record {
+    mode = ap (λ x. x.mode) shown;
     stack = ap (λ x. x.stack) shown;
     plans = ap (λ x. x.plans) shown;
     count = length-map (set members place p') member_of ∙ length-set members place p' ∙ sym (length-map members member_of) ∙
@@ -231,7 +240,7 @@ module _ (c : Peopled) (stack : List LayerTree) (plans : List Plan) (group stamp
       subst (λ h. IsFed c h c outs visits visits told.Absent) (sym (absent_is c.stack c.plans w id number spelled same there))
       (record { world = stands; told = record { outs_are = none; visits_are = refl } })
 
-  module _ (id place : ℕ) (p : Placed) (seated : AreSeated stack plans group stamp members) (is_place : place ≡ id) (lt : id < length c.members)
+  module _ (id place : ℕ) (p : Placed) (seated : AreSeated mode stack plans group stamp members) (is_place : place ≡ id) (lt : id < length c.members)
       (found : p ≡ get_or members place p) where
     within : id < length members
     within = subst (λ n. id < n) (sym (ap (λ x. length x.members) shown) ∙ length-map members member_of) lt
@@ -239,18 +248,18 @@ module _ (c : Peopled) (stack : List LayerTree) (plans : List Plan) (group stamp
     pub stack_at : p.stack ≡ c.stack
     stack_at =
         let at_id = found ∙ ap (λ k. get_or members k p) is_place in
-        ap (λ (s : Seat). s.stack) (seat_at stack plans group stamp members id p seated within at_id) ∙ ap (λ x. x.stack) shown
+        ap (λ (s : Seat). s.stack) (seat_at mode stack plans group stamp members id p seated within at_id) ∙ ap (λ x. x.stack) shown
 
     module _ (more : List (List ℕ)) (p' : Placed) (outs : List (Output × Option ℕ)) (before after : ℕ) (st : Stepped) where
       abbrev new : Peopled
-      new = kept stack plans group stamp (set members place p') more
+      new = kept mode stack plans group stamp (set members place p') more
 
       pub step_fed : (input : Input) → Steps p input p' outs before after st → more ≡ spelled ++ spelled_of outs → (w : World) → Stands c w →
           IsFed c (stepped c.stack c.plans w id input) new outs before after (told.Stepped st)
       step_fed input is sent w stands =
           let stands_there = subst (λ x. Stands x w) (sym shown) stands in
           subst (λ (x : Peopled). IsFed x (stepped x.stack x.plans w id input) new outs before after (told.Stepped st)) shown
-          (kept_fed stack plans group stamp members spelled more id place p input p' outs before after st seated is_place within found is sent
+          (kept_fed mode stack plans group stamp members spelled more id place p input p' outs before after st seated is_place within found is sent
           w stands_there)
 
       pub give_fed : (number : ℕ) (bytes : List ℕ) → Some bytes ≡ spelled_number spelled number → Steps p (datagram bytes) p' outs before after st →

@@ -1,10 +1,15 @@
 -- How many visits a run has.
 use Rattle.std.proofs.Common.{◌≡◌, ℕ, zero, suc, ◌+◌, ◌≤◌, List, [], ◌∷◌, Bool, true, false, length, Ok, Err, Result, Option, refl, arith, zero-add, subst}
+use Rattle.std.specs.Prelude.{cond}
+use Rattle.job_mean.specs.Job.{Mode, layered, bypass}
 use Rattle.layer_mean.specs.Queue.{Task, Work, advance, is_place, layers, run, run_for, unstarted}
 use Rattle.layer_mean.specs.State.{State}
 use Rattle.layer_mean.specs.Tree.{LayerTree}
 use Rattle.layer_mean.specs.declared.run.Event.{Event}
 use Rattle.run_mean.specs.Member.{Member, inside, out, Input, Entered, entered, Refusal, Step, step_from, Output}
+use Rattle.run_mean.specs.Common.{is_common}
+use Rattle.run_mean.specs.Report.{counted}
+use Rattle.stack_mean.specs.Plan.{Plan}
 use Rattle.view_core.specs.declared.step.Stepped.{Stepped}
 use Rattle.view_core.specs.declared.step.Stepped.TheVariants.{Taken, Refused}
 use Rattle.bypass_member.specs.Placed.{Placed, Steps, here_in, step_at, step_in}
@@ -34,6 +39,14 @@ run_visits most stack states first =
     let few = turns_visit most stack (unstarted states) (first ∷ []) in
     rw zero-add at few
 
+-- a step counts for no more visits than it has
+counted_few : (mode : Mode) (stack : List LayerTree) (plans : List Plan) (s : Step) → counted mode stack plans s ≤ s.work.visits
+counted_few layered stack plans s = omega arith
+counted_few bypass stack plans s = go (is_common stack plans s) where
+  go : (common : Bool) → cond common 0 s.work.visits ≤ s.work.visits
+  go true = omega arith
+  go false = omega arith
+
 -- a step of a member is one run
 taken_visits : (p : Placed) (m : Member) (input : Input) (s : Step) → step_at p m input ≡ Ok s → s.work.visits ≤ 65536
 taken_visits p out input s is = absurd (cc is)
@@ -47,5 +60,8 @@ taken_visits p (inside view states) input s is = go (entered p.stack p.plans (he
 pub step_visits : (p : Placed) (input : Input) (p' : Placed) (outs : List (Output × Option ℕ)) (before after : ℕ) (st : Stepped) →
     Steps p input p' outs before after st → after ≤ before + 65536
 step_visits p input p' outs before after (Taken common change) is =
-    let few = taken_visits p p.member input is.step is.is in let sum = is.visits in omega (arith, few, sum)
+    let few = taken_visits p p.member input is.step is.is in
+    let less = counted_few p.mode p.stack p.plans is.step in
+    let sum = is.visits in
+    omega (arith, few, less, sum)
 step_visits p input p' outs before after (Refused reason) is = let same = is.visits in omega (arith, same)

@@ -9,7 +9,7 @@ use Rattle.run_mean.specs.View.{first_view}
 use Rattle.run_mean.specs.World.{first_world}
 use Rattle.file_layer.specs.Making.{Making}
 use Rattle.bypass_member.specs.Making.{MadeAtMost}
-use Rattle.bypass_member.specs.Opening.{plans_in, stack_in}
+use Rattle.bypass_member.specs.Opening.{mode_in, plans_in, stack_in}
 use Rattle.bypass_member.specs.Placed.{Placed}
 use Rattle.bypass_member.specs.declared.error.OpenError.{OpenError}
 use Rattle.bypass_member.specs.declared.error.OpenError.TheVariants.{TooLarge, Memory}
@@ -17,9 +17,10 @@ use Rattle.bypass_member.specs.declared.opening.Opening.{Opening}
 use Rattle.world_core.specs.Seats.{member_of, seat_of, seats}
 use Rattle.group_feed.specs.Standing.{Peopled, Stands}
 
--- So many members are in the first view, and no packet was sent; as many layers were made as they have.
+-- So many members are in the first view, in the mode of the opening, and no packet was sent; as many layers were made as they have.
 pub record IsBegun (o : Opening) (n : ℕ) (before after : Making) (c : Peopled) : Type 0 where
   pub world : Stands c (first_world (stack_in o) o.group o.stamp n)
+  pub mode_is : c.mode ≡ mode_in o
   pub stack_is : c.stack ≡ stack_in o
   pub plans_are : c.plans ≡ plans_in o
   pub count : length c.members ≡ n
@@ -30,7 +31,7 @@ pub record IsBegun (o : Opening) (n : ℕ) (before after : Making) (c : Peopled)
 -- The members of a group are opened: who they are, and that they sit in order.
 pub record AreOpen (o : Opening) (n : ℕ) (before after : Making) (members : List Placed) : Type 0 where
   pub opened_are : map member_of members ≡ map (opened (stack_in o) (first_view n)) (range_with_len 0 n)
-  pub seated : map seat_of members ≡ seats (stack_in o) (plans_in o) o.group o.stamp n
+  pub seated : map seat_of members ≡ seats (mode_in o) (stack_in o) (plans_in o) o.group o.stamp n
   pub few : rows_of (stack_in o) n ≤ most_rows
   pub same : after.stack ≡ before.stack
   pub made : after.made ≡ before.made + n * length (stack_in o)

@@ -1,13 +1,20 @@
 -- The members of a group by their ids.
-use Rattle.std.specs.Prelude.{◌≡◌, ℕ, List, map, length}
+use Rattle.std.specs.Prelude.{◌≡◌, ℕ, Bool, true, false, List, map, length}
 use Rattle.std.specs.List.{range_with_len}
 use Rattle.layer_mean.specs.Tree.{LayerTree}
 use Rattle.stack_mean.specs.Plan.{Plan}
+use Rattle.job_mean.specs.Job.{Mode, layered, bypass}
 use Rattle.run_mean.specs.Member.{Member}
 use Rattle.bypass_member.specs.Placed.{Placed}
 
--- What no step of a member changes: its stack with the plans of it, its group and stamp, and its id.
+-- The mode of members, by whether they run by bypasses.
+abbrev pub mode_when : (bypasses : Bool) → Mode
+mode_when true = bypass
+mode_when false = layered
+
+-- What no step of a member changes: the mode in which it runs, its stack with the plans of it, its group and stamp, and its id.
 pub record Seat : Type 0 where
+  pub mode : Mode
   pub stack : List LayerTree
   pub plans : List Plan
   pub group : ℕ
@@ -15,18 +22,18 @@ pub record Seat : Type 0 where
   pub id : ℕ
 
 abbrev pub seat_of : Placed → Seat
-seat_of p = record { stack = p.stack; plans = p.plans; group = p.group; stamp = p.stamp; id = p.id }
+seat_of p = record { mode = p.mode; stack = p.stack; plans = p.plans; group = p.group; stamp = p.stamp; id = p.id }
 
-abbrev pub seat : List LayerTree → List Plan → ℕ → ℕ → ℕ → Seat
-seat stack plans group stamp id = record { stack = stack; plans = plans; group = group; stamp = stamp; id = id }
+abbrev pub seat : Mode → List LayerTree → List Plan → ℕ → ℕ → ℕ → Seat
+seat mode stack plans group stamp id = record { mode = mode; stack = stack; plans = plans; group = group; stamp = stamp; id = id }
 
 -- The seats of so many members of a group.
-abbrev pub seats : List LayerTree → List Plan → ℕ → ℕ → ℕ → List Seat
-seats stack plans group stamp n = map (seat stack plans group stamp) (range_with_len 0 n)
+abbrev pub seats : Mode → List LayerTree → List Plan → ℕ → ℕ → ℕ → List Seat
+seats mode stack plans group stamp n = map (seat mode stack plans group stamp) (range_with_len 0 n)
 
--- Members of one group, each of whom has the number of its place as its id.
-abbrev pub AreSeated : List LayerTree → List Plan → ℕ → ℕ → List Placed → Type 0
-AreSeated stack plans group stamp members = map seat_of members ≡ seats stack plans group stamp (length members)
+-- Members of one group, all in one mode, each of whom has the number of its place as its id.
+abbrev pub AreSeated : Mode → List LayerTree → List Plan → ℕ → ℕ → List Placed → Type 0
+AreSeated mode stack plans group stamp members = map seat_of members ≡ seats mode stack plans group stamp (length members)
 
 -- Where a member is.
 abbrev pub member_of : Placed → Member

@@ -31,6 +31,8 @@ use view_core::{Did, Input};
 
 /// The members of a group, by id, and every packet ever sent in it. A packet that is lost is one that is never given.
 pub struct World {
+    /// Whether its members run by bypasses.
+    bypasses: bool,
     stack: Rc<Stack>,
     plans: Rc<Plans>,
     group: u32,
@@ -44,16 +46,18 @@ impl Model for World {
     ghost use Rattle.std.specs.Coded.{codes};
     ghost use Rattle.std.specs.Rc.{rc_value};
     ghost use Rattle.layer_mean.specs.Codes.{stack_code};
+    ghost use Rattle.bypass_member.specs.Modes.{mode_code};
     ghost use Rattle.event_graph.specs.Answer.{stack_tree};
     ghost use Rattle.stack_shapes.specs.Trees.{plans_tree};
-    ghost use Rattle.world_core.specs.Seats.{member_of, AreSeated};
+    ghost use Rattle.world_core.specs.Seats.{member_of, mode_when, AreSeated};
     ghost use Rattle.group_feed.specs.Standing.{Peopled};
 
     ghost Value = { Peopled };
 
-    ghost coded = { Prim.hlevel (codes, stack_code) };
+    ghost coded = { Prim.hlevel (codes, mode_code, stack_code) };
 
     ghost view = { λ w. record {
+      mode = mode_when w.bypasses;
       stack = stack_tree (rc_value w.stack);
       plans = plans_tree (rc_value w.plans);
       group = w.group;
@@ -62,7 +66,7 @@ impl Model for World {
       spelled = w.packets;
     } };
 
-    ghost invariant = { λ w. AreSeated (stack_tree (rc_value w.stack)) (plans_tree (rc_value w.plans)) w.group w.stamp w.members.items };
+    ghost invariant = { λ w. AreSeated (mode_when w.bypasses) (stack_tree (rc_value w.stack)) (plans_tree (rc_value w.plans)) w.group w.stamp w.members.items };
 }
 
 /// The same stack and plans once more.
@@ -74,7 +78,8 @@ fn share(stack: &Rc<Stack>, plans: &Rc<Plans>) -> Result<(Rc<Stack>, Rc<Plans>),
 }
 
 impl World {
-    /// The members 0 to n - 1 of a group in the first view, who have been given nothing.
+    /// The members 0 to n - 1 of a group in the first view, who have been given nothing. They run by the bypasses of which the opening has the code,
+    /// if it has it, and else layer by layer.
     pub fn begin(
         alloc: Global,
         maker: &mut Maker,
@@ -91,6 +96,7 @@ impl World {
         };
         match open_all(alloc, maker, opening, n) {
             Ok(members) => Ok(World {
+                bypasses: opening.codes.is_some(),
                 stack,
                 plans,
                 group: opening.group,
@@ -169,6 +175,7 @@ impl World {
     /// Lets the members go.
     pub fn close(self) {
         let World {
+            bypasses: _,
             stack: _,
             plans: _,
             group: _,

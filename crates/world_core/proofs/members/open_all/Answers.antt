@@ -21,6 +21,8 @@ begin-requires-clause-opening c =
       typed = can.typed;
       plans_are = can.plans_are;
       entries_are = can.entries_are;
+      starts_are = can.starts_are;
+      codes_are = can.codes_are;
       made = omega (arith, made, few, can.made);
     }
 

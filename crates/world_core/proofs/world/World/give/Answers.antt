@@ -6,23 +6,23 @@ use Rattle.world_core.proofs.world.World.give.Goals.{in-Ok, in-Err}
 use Rattle.world_core.proofs.world.World.give.Goals as goal
 
 pub step-stepped-requires-clause-out : goal.step-stepped-requires-clause-out
-step-stepped-requires-clause-out c = c.requires.out ∙ ap largest_weight (sym (stack_at _ _ _ _ _ c.self.inside.members.items _ c.self.view_is
+step-stepped-requires-clause-out c = c.requires.out ∙ ap largest_weight (sym (stack_at _ _ _ _ _ _ c.self.inside.members.items _ c.self.view_is
     _ c.from.result _ c.self.invariant c.from.ensures c.requires.member c.index_mut.ensures.value))
 
 pub invariant_of-self : goal.invariant_of-self
-invariant_of-self c = seated_behind _ _ _ _ c.self.inside.members.items c.from.result _ _ _ _ _ _ _ c.self.invariant
+invariant_of-self c = seated_behind _ _ _ _ _ c.self.inside.members.items c.from.result _ _ _ _ _ _ _ c.self.invariant
     c.index_mut.ensures.value c.step-stepped.ensures.step
 
 pub returns-in_default-clause-fed : goal.returns-in_default-clause-fed
-returns-in_default-clause-fed c = absent_fed _ _ _ _ _ c.self.inside.members.items c.self.inside.packets c.self.view_is _ _ _ _ c.in_default.ensures
+returns-in_default-clause-fed c = absent_fed _ _ _ _ _ _ c.self.inside.members.items c.self.inside.packets c.self.view_is _ _ _ _ c.in_default.ensures
     (search rules)
 
 pub returns-clause-fed : goal.returns-clause-fed
 returns-clause-fed c = elim c.match-keep.branch [
-  | in-Ok w ↦ rw w.result-is (give_fed _ _ _ _ _ c.self.inside.members.items _ c.self.view_is _ c.from.result _ c.self.invariant c.from.ensures
+  | in-Ok w ↦ rw w.result-is (give_fed _ _ _ _ _ _ c.self.inside.members.items _ c.self.view_is _ c.from.result _ c.self.invariant c.from.ensures
       c.requires.member c.index_mut.ensures.value _ _ _ _ _ _ _ c.in-Some.datagram.now c.in-Some.ensures c.step-stepped.ensures.step
       w.in-Ok.ensures)
-  | in-Err w ↦ rw w.result-is (λ world stands. stays_behind _ _ _ _ _ c.self.inside.members.items _ c.self.view_is _ c.from.result _)
+  | in-Err w ↦ rw w.result-is (λ world stands. stays_behind _ _ _ _ _ _ c.self.inside.members.items _ c.self.view_is _ c.from.result _)
 ]
 
 pub returns-clause-few : goal.returns-clause-few
