@@ -1,5 +1,5 @@
 -- How a node begins, and how it ends.
-use Rattle.std.proofs.Common.{◌≡◌, inl, inr, ℕ, ◌-◌, ◌<◌, ◌≤◌, List, [], ◌∷◌, length, take, refl, sym, ap, subst, ◌∙◌, arith, Option, Some}
+use Rattle.std.proofs.Common.{◌≡◌, inl, inr, ℕ, ◌-◌, ◌<◌, ◌≤◌, List, [], ◌∷◌, length, refl, sym, ap, subst, ◌∙◌, arith, Option, Some}
 use Rattle.std.proofs.lemmas.List.{length-map}
 use Rattle.std.proofs.Math.Seq.{take-length}
 use Rattle.std.proofs.lemmas.List.FromFn.{length-range_with_len}
@@ -9,6 +9,7 @@ use Rattle.outside.specs.Links.{Network}
 use Rattle.outside.specs.declared.links.Peer.{Peer}
 use Rattle.outside.specs.declared.sink.SinkError.{SinkError}
 use Rattle.outside.specs.declared.sink.SinkError.TheVariants as sink
+use Rattle.job_mean.specs.Job.{layered}
 use Rattle.layer_mean.specs.Tree.{LayerTree}
 use Rattle.packet_mean.specs.ChainedState.{IsNumber}
 use Rattle.chain_laws.specs.Runs.{TypedStack}
@@ -63,10 +64,11 @@ module _ (stack : List LayerTree) (plan : NodePlan) (me : List ℕ) (turns patie
 
   -- A group rests at its first world, with a desk at which nothing was done.
   pub rests_first : (plans : List Plan) (c : Peopled) (d : Desk) → TypedStack stack → IsNumber plan.group → IsNumber plan.stamp → length plan.peers ≤ 32 →
-      c.stack ≡ stack → c.plans ≡ plans → Stands c (first_of_plan stack plan) → d.outputs.places ≡ largest_weight stack →
+      c.mode ≡ layered → c.stack ≡ stack → c.plans ≡ plans → Stands c (first_of_plan stack plan) → d.outputs.places ≡ largest_weight stack →
       Rests stack plans (length plan.peers) c d (first_of_plan stack plan)
-  rests_first plans c d typed group stamp few stack_is plans_are stands places = record {
+  rests_first plans c d typed group stamp few mode_is stack_is plans_are stands places = record {
     somewhere = record {
+      mode_is = mode_is;
       stack_is = stack_is;
       plans_are = plans_are;
       count = ap length (sym stands.members) ∙ length-map (range_with_len 0 (length plan.peers)) (opened stack (first_view (length plan.peers)))

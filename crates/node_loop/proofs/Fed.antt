@@ -49,14 +49,17 @@ use Rattle.node_loop.proofs.Passing.{breaks_first, breaks_then, memory_stops, pa
 pub record Happened (stack : List LayerTree) (plans : List Plan) (w : World) (event : ScriptEvent) (c : Peopled) (outs : List (Output × Option ℕ))
     (before after : ℕ) (d : Did) : Type 0 where
   pub world : Stands c (happens stack plans w event).world
-  pub told : DidIs stack plans (happens stack plans w event).did outs before after d
+  pub told : DidIs layered stack plans (happens stack plans w event).did outs before after d
 
 pub happened : (stack : List LayerTree) (plans : List Plan) (w : World) (event : ScriptEvent) (c c' : Peopled) (outs : List (Output × Option ℕ))
-    (before after : ℕ) (d d' : Did) → c.stack ≡ stack → c.plans ≡ plans → d ≡ d' →
+    (before after : ℕ) (d d' : Did) → c.mode ≡ layered → c.stack ≡ stack → c.plans ≡ plans → d ≡ d' →
     IsFed c (happens c.stack c.plans w event) c' outs before after d → Happened stack plans w event c' outs before after d'
-happened stack plans w event c c' outs before after d d' stack_is plans_are d_is f = subst (Happened stack plans w event c' outs before after) d_is
+happened stack plans w event c c' outs before after d d' mode_is stack_is plans_are d_is f = subst (Happened stack plans w event c' outs before after) d_is
     (subst {A = List LayerTree × List Plan} (λ x. Happened x.0 x.1 w event c' outs before after d) (λ k. (stack_is k, plans_are k))
-    (record { world = f.world; told = f.told }))
+    (record {
+      world = f.world;
+      told = subst (λ mode. DidIs mode c.stack c.plans (happens c.stack c.plans w event).did outs before after d) mode_is f.told;
+    }))
 
 -- An event of a node's own is a step.
 abbrev IsStep : world.Did → Type 0
@@ -83,13 +86,13 @@ module _ (stack : List LayerTree) (plans : List Plan) (w : World) where
   own_is_step (script.Give k id) own = absurd own
   own_is_step (script.Show id) own = absurd own
 
-  never_absent : (d : world.Did) (outs : List (Output × Option ℕ)) (before after : ℕ) → IsStep d → DidIs stack plans d outs before after did.Absent → ⊥
+  never_absent : (d : world.Did) (outs : List (Output × Option ℕ)) (before after : ℕ) → IsStep d → DidIs layered stack plans d outs before after did.Absent → ⊥
   never_absent (world.taken s) outs before after step is = is
   never_absent (world.refused r) outs before after step is = is
   never_absent world.absent outs before after step is = step
   never_absent world.shown outs before after step is = step
 
-  never_shown : (d : world.Did) (outs : List (Output × Option ℕ)) (before after : ℕ) → IsStep d → DidIs stack plans d outs before after did.Shown → ⊥
+  never_shown : (d : world.Did) (outs : List (Output × Option ℕ)) (before after : ℕ) → IsStep d → DidIs layered stack plans d outs before after did.Shown → ⊥
   never_shown (world.taken s) outs before after step is = is
   never_shown (world.refused r) outs before after step is = is
   never_shown world.absent outs before after step is = step
@@ -105,7 +108,7 @@ module _ (stack : List LayerTree) (plans : List Plan) (w : World) where
 
   -- The acts of a step as it is told are those of what happened.
   did_acts_are : (event : ScriptEvent) (d : world.Did) (outs : List (Output × Option ℕ)) (before after : ℕ) (stepped : Stepped) (failed : List Bool) →
-      DidIs stack plans d outs before after (did.Stepped stepped) →
+      DidIs layered stack plans d outs before after (did.Stepped stepped) →
       did_acts stack plans w event d failed ≡ stepped_acts stack plans (member_of event) (first_in w) outs stepped failed
   did_acts_are event (world.taken s) outs before after (Taken common change) failed is =
       let id = member_of event in
@@ -132,7 +135,7 @@ module _ (stack : List LayerTree) (plans : List Plan) (w : World) where
 
   -- What a step hands on may be handed on.
   did_sendable : (id n : ℕ) (d : world.Did) (outs : List (Output × Option ℕ)) (before after : ℕ) (stepped : Stepped) →
-      DidIs stack plans d outs before after (did.Stepped stepped) → AllByRecursion (IsSendable n id) (handed_in layered stack plans id d) →
+      DidIs layered stack plans d outs before after (did.Stepped stepped) → AllByRecursion (IsSendable n id) (handed_in layered stack plans id d) →
       AllByRecursion (IsSendable n id) (sends_of_outputs plans id outs)
   did_sendable id n (world.taken s) outs before after (Taken common change) is all =
       subst (λ o. AllByRecursion (IsSendable n id) (flat_map (handed_output plans id) o)) (sym is.outs_are) all
@@ -162,6 +165,7 @@ module _ (stack : List LayerTree) (plans : List Plan) (w : World) where
       Happened stack plans w event c' outs before after told → d'.outputs.places ≡ d.outputs.places → Rests stack plans n c' d' (happens stack plans w event).world
   rests_again event n c c' d d' outs before after told typed numbered given r stays h places = record {
     somewhere = record {
+      mode_is = stays.mode ∙ r.somewhere.mode_is;
       stack_is = stays.stack ∙ r.somewhere.stack_is;
       plans_are = stays.plans ∙ r.somewhere.plans_are;
       count = stays.count ∙ r.somewhere.count;

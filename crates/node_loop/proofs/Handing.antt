@@ -7,8 +7,6 @@ use Rattle.std.specs.List.{AllByRecursion, flat_map}
 use Rattle.outside.specs.declared.sink.SinkError.{SinkError}
 use Rattle.file_layer.proofs.Lists.{all-behind, all-front}
 use Rattle.layer_mean.specs.Tree.{LayerTree}
-use Rattle.packet_full.specs.Sent.{sent_packet}
-use Rattle.packet_mean.specs.Spelling.{full_bytes}
 use Rattle.packet_mean.specs.declared.here.Here.{Here}
 use Rattle.stack_mean.specs.Plan.{Plan}
 use Rattle.run_mean.specs.Journal.{Handed, handed_output, receivers}
@@ -29,7 +27,7 @@ use Rattle.node_laws.proofs.Acts.{output_sends_are, outputs_sends_are, puts_none
 use Rattle.node_laws.proofs.Fans.{fans, output_fan, outputs_fan}
 use Rattle.node_loop.specs.Around.{Around}
 use Rattle.node_loop.specs.Passing.{Breaks, Handles, Passes, PassesAll}
-use Rattle.node_loop.specs.Sending.{MayTake, sends_of_outputs, sent_to}
+use Rattle.node_loop.specs.Sending.{MayTake, datagram_of, sends_of_outputs, sent_to}
 use Rattle.node_loop.proofs.Passing.{breaks_longer, breaks_then, handles_then, lines_break, lines_handled, passes_lines, passes_none, passes_then}
 
 -- One output.
@@ -44,14 +42,10 @@ one_line stack id k nowhere = omega arith
 one_line stack id k (timer a) = omega arith
 one_line stack id k (quiet dir event) = omega arith
 
--- A packet that is sent in full.
-pub packet_handed : (plans : List Plan) (id : ℕ) (here : Here) (o : OutputView) (v : PacketView) → o ≡ Packet v → (output_meant here o).1 ≡ None →
-    handed_output plans id (output_meant here o)
-    ≡ map (sent_to id (full_bytes (sent_packet here v.dest v.headers.now v.body.now))) (receivers id here.view v.dest)
-packet_handed plans id here o v is full =
-    let none : v.plan ≡ None = subst (λ x. (output_meant here x).1 ≡ None) is full in
-    ap (λ x. handed_output plans id (output_meant here x)) is
-    ∙ ap (λ plan. handed_output plans id (packet (sent_packet here v.dest v.headers.now v.body.now), plan)) none
+-- A packet.
+pub packet_handed : (plans : List Plan) (id : ℕ) (here : Here) (o : OutputView) (v : PacketView) → o ≡ Packet v →
+    handed_output plans id (output_meant here o) ≡ map (sent_to id (datagram_of plans here v)) (receivers id here.view v.dest)
+packet_handed plans id here o v is = ap (λ x. handed_output plans id (output_meant here x)) is
 
 -- Any other output.
 pub none_handed : (plans : List Plan) (id : ℕ) (here : Here) (o : OutputView) → ((v : PacketView) → o ≢ Packet v) →
@@ -62,7 +56,7 @@ none_handed plans id here (Block a) other = refl
 none_handed plans id here (Announce ranks) other = refl
 none_handed plans id here (Timer moment) other = refl
 none_handed plans id here (Packet v) other = absurd (other v refl)
-none_handed plans id here Nowhere other = refl
+none_handed plans id here (Nowhere plan) other = refl
 none_handed plans id here (Quiet dir signal) other = refl
 
 takes_each : (peers id : ℕ) (bytes tos : List ℕ) → AllByRecursion (IsSendable peers id) (map (sent_to id bytes) tos) →

@@ -3,6 +3,7 @@ use Rattle.std.specs.Prelude.{◌≡◌, ℕ, ◌+◌, ◌<◌, List, length, Op
 use Rattle.std.specs.List.{AllByRecursion}
 use Rattle.outside.specs.declared.sink.SinkError.{SinkError}
 use Rattle.layer_mean.specs.Tree.{LayerTree}
+use Rattle.job_mean.specs.Job.{layered}
 use Rattle.chain_laws.specs.Runs.{TypedStack}
 use Rattle.packet_laws.specs.Strays.{AreNumbered}
 use Rattle.member_laws.specs.Members.{IsChainedWorld}
@@ -18,8 +19,9 @@ use Rattle.node_loop.specs.Around.{Around}
 use Rattle.node_loop.specs.Passing.{Breaks, PassesAll}
 use Rattle.node_loop.specs.declared.desk.Desk.{Desk}
 
--- A group stands at a world of so many members, whose packets can be spelled.
+-- A group in layered mode stands at a world of so many members, whose packets can be spelled.
 pub record Somewhere (stack : List LayerTree) (plans : List Plan) (n : ℕ) (c : Peopled) (w : World) : Type 0 where
+  pub mode_is : c.mode ≡ layered
   pub stack_is : c.stack ≡ stack
   pub plans_are : c.plans ≡ plans
   pub count : length c.members ≡ n

@@ -4,10 +4,14 @@ use Rattle.std.specs.List.{flat_map}
 use Rattle.outside.specs.declared.links.TheConstants.{LONGEST_DATAGRAM}
 use Rattle.layer_mean.specs.Tree.{LayerTree}
 use Rattle.stack_mean.specs.Plan.{Plan}
+use Rattle.packet_full.specs.Sent.{sent_packet}
+use Rattle.packet_mean.specs.declared.here.Here.{Here}
+use Rattle.run_mean.specs.Common.{wire}
 use Rattle.run_mean.specs.Journal.{Handed, handed_output}
 use Rattle.run_mean.specs.Lines.{refused_line}
 use Rattle.run_mean.specs.Member.{Output}
 use Rattle.report_text.specs.Told.{change_lines}
+use Rattle.step_outputs.specs.declared.view.PacketView.{PacketView}
 use Rattle.view_core.specs.Refusals.{refusal_meant}
 use Rattle.view_core.specs.declared.step.Stepped.{Stepped}
 use Rattle.view_core.specs.declared.step.Stepped.TheVariants.{Taken, Refused}
@@ -16,6 +20,10 @@ use Rattle.node_laws.specs.Acts.{Act, puts, outputs_acts}
 -- A datagram from a member to a member.
 abbrev pub sent_to : ℕ → List ℕ → ℕ → Handed
 sent_to from bytes to = record { from = from; to = to; bytes = bytes }
+
+-- The bytes of a packet from a member that is here, as it is sent.
+abbrev pub datagram_of : List Plan → Here → PacketView → List ℕ
+datagram_of plans here v = wire plans (sent_packet here v.dest v.headers.now v.body.now) v.plan
 
 -- These bytes may be handed on to this one of so many peers.
 abbrev pub MayTake : List ℕ → (peers to : ℕ) → Type 0

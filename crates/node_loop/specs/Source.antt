@@ -5,7 +5,6 @@ use Rattle.event_graph.specs.Answer.{stack_tree}
 use Rattle.stack_shapes.specs.Trees.{plans_tree}
 use Rattle.run_mean.specs.Member.{Output}
 use Rattle.view_core.specs.declared.step.Stepped.{Stepped}
-use Rattle.report_text.specs.Told.{AreFull}
 use Rattle.node_laws.specs.Acts.{Act, output_acts, outputs_acts}
 use Rattle.node_laws.specs.Groups.{IsSendable}
 use Rattle.node_loop.specs.Sending.{sends_of_outputs, stepped_acts}
@@ -21,8 +20,7 @@ acts_of_outputs s = outputs_acts (stack_tree s.stack.now) (plans_tree s.plans.no
 abbrev pub acts_of_step : Source → List (Output × Option ℕ) → Stepped → List Bool → List Act
 acts_of_step s = stepped_acts (stack_tree s.stack.now) (plans_tree s.plans.now) s.id s.number
 
--- Its outputs may be passed on: their packets have numbers, each is full, and what they hand on may be sent to those that it is for.
+-- Its outputs may be passed on: their packets have numbers, and what they hand on may be sent to those that it is for.
 pub record MayPass (s : Source) (outs : List (Output × Option ℕ)) (listening : ℕ → Option ℕ) : Type 0 where
   pub few : s.number + length outs < 2 ^ 64
-  pub full : AreFull outs
   pub sendable : IsSomeAnd (listening s.id) (λ peers. AllByRecursion (IsSendable peers s.id) (sends_of_outputs (plans_tree s.plans.now) s.id outs))

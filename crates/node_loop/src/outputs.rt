@@ -1,6 +1,6 @@
 //! The outputs of a step: their lines, and the packets among them handed on.
 
-ghost use Rattle.std.specs.Prelude.{◌≡◌, ℕ, Bool, None, IsSomeAnd};
+ghost use Rattle.std.specs.Prelude.{◌≡◌, ℕ, Bool, IsSomeAnd};
 ghost use Rattle.std.specs.List.{AllByRecursion};
 ghost use Rattle.stack_shapes.specs.Trees.{plans_tree};
 ghost use Rattle.run_mean.specs.Journal.{handed_output};
@@ -29,7 +29,6 @@ fn pass_output<O: Sink, N: Links>(
     out: &mut O,
     links: &mut N,
 ) -> Result<(), SinkError>
-    requires full { (output_meant here.now output.now).1 ≡ None }
     requires sendable { IsSomeAnd (N.listening links.old source.id) (λ peers.
         AllByRecursion (IsSendable peers source.id) (handed_output (plans_tree source.plans.now) source.id (output_meant here.now output.now))) }
     ensures handed { Handles (acts_of_output source.entry (output_meant here.now output.now))
@@ -46,9 +45,7 @@ fn pass_output<O: Sink, N: Links>(
         out,
     )?;
     match output {
-        OutputView::Packet(packet) => {
-            hand_on(tools, here, source.id, source.number, packet, out, links)
-        }
+        OutputView::Packet(packet) => { hand_on(tools, source, here, packet, out, links) }
         _ => Ok(()),
     }
 }

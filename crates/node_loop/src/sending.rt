@@ -1,10 +1,8 @@
 //! Packets that are handed to the network.
 
-ghost use Rattle.std.specs.Prelude.{◌≡◌, ℕ, ◌<◌, ◌≤◌, [], ◌∷◌, map, IsSomeAnd, OnOk, length};
+ghost use Rattle.std.specs.Prelude.{◌≡◌, ℕ, ◌<◌, ◌≤◌, [], ◌∷◌, map, IsSomeAnd, length};
 ghost use Rattle.std.specs.List.{AllByRecursion};
 ghost use Rattle.msg_core.specs.declared.packet.Dest.TheVariants.{All};
-ghost use Rattle.packet_full.specs.Sent.{sent_packet};
-ghost use Rattle.packet_mean.specs.Spelling.{full_bytes};
 ghost use Rattle.run_mean.specs.Journal.{receivers};
 ghost use Rattle.outside.specs.Lines.{Wrote};
 ghost use Rattle.outside.specs.Tells.{tells_of};
@@ -12,15 +10,17 @@ ghost use Rattle.node_laws.specs.Losses as losses;
 ghost use Rattle.node_loop.specs.Around.{around};
 ghost use Rattle.node_loop.specs.Passing.{Handles};
 ghost use Rattle.node_laws.specs.Acts.{sending_acts};
-ghost use Rattle.node_loop.specs.Sending.{MayTake, sent_to};
+ghost use Rattle.node_loop.specs.Sending.{MayTake, datagram_of, sent_to};
+ghost use Rattle.stack_shapes.specs.Trees.{plans_tree};
 
 use crate::receivers::{has, member_at};
+use crate::source::Source;
 use crate::tools::Tools;
 use msg_core::{Dest, MOST_MEMBERS, Memory, View};
 use outside::{LONGEST_DATAGRAM, LinkError, Links, Sink, SinkError, put_line};
-use packet_full::{put_full_of, room_of};
 use packet_mean::Here;
 use report_lines::{Line, lost_line};
+use report_text::spell;
 use step_outputs::PacketView;
 
 /// A datagram on its way out: who sends it, and the number of its packet.
@@ -84,16 +84,6 @@ fn send_to_others<O: Sink, N: Links>(
     Ok(())
 }
 
-/// Spells a packet in full.
-fn spell(bytes: &mut Vec<u8>, here: &Here, packet: &PacketView<'_>) -> Result<(), Memory>
-    ensures { OnOk result (bytes.new.items ≡ full_bytes (sent_packet here.now packet.now.dest packet.now.headers.now packet.now.body.now)) }
-{
-    bytes.clear();
-    bytes.reserve(room_of(packet.headers, packet.body))?;
-    put_full_of(here, packet.dest, packet.headers, packet.body, bytes);
-    Ok(())
-}
-
 /// Hands a datagram on to those that it is for.
 fn send_to_all_of<O: Sink, N: Links>(
     line: &mut Line,
@@ -117,30 +107,28 @@ fn send_to_all_of<O: Sink, N: Links>(
     }
 }
 
-/// Hands a packet on to those that it is for, in full; for each sending that fails a line says so.
+/// Hands a packet on to those that it is for, as it is sent; for each sending that fails a line says so.
 pub(crate) fn hand_on<O: Sink, N: Links>(
     tools: &mut Tools,
+    source: Source<'_>,
     here: &Here,
-    id: u8,
-    number: u64,
     packet: &PacketView<'_>,
     out: &mut O,
     links: &mut N,
 ) -> Result<(), SinkError>
-    requires peers { IsSomeAnd (N.listening links.old id) (λ peers. AllByRecursion
-        (MayTake (full_bytes (sent_packet here.now packet.now.dest packet.now.headers.now packet.now.body.now)) peers)
-        (receivers id here.now.view packet.now.dest)) }
-    ensures handed { Handles (sending_acts number
-        (map (sent_to id (full_bytes (sent_packet here.now packet.now.dest packet.now.headers.now packet.now.body.now)))
-        (receivers id here.now.view packet.now.dest)))
+    requires peers { IsSomeAnd (N.listening links.old source.id) (λ peers. AllByRecursion
+        (MayTake (datagram_of (plans_tree source.plans.now) here.now packet.now) peers) (receivers source.id here.now.view packet.now.dest)) }
+    ensures handed { Handles (sending_acts source.entry.number
+        (map (sent_to source.entry.id (datagram_of (plans_tree source.entry.plans.now) here.now packet.now))
+        (receivers source.entry.id here.now.view packet.now.dest)))
         (around O.Sink N.Links out.old links.old) (around O.Sink N.Links out.new links.new) result }
     ensures listening { (m : ℕ) → N.listening links.new m ≡ N.listening links.old m }
 {
-    match spell(&mut tools.bytes, here, packet) {
+    match spell(&mut tools.bytes, source.plans, here, packet) {
         Ok(()) => {
             let sending = Sending {
-                from: id,
-                number,
+                from: source.id,
+                number: source.number,
                 bytes: &tools.bytes,
             };
             let line = &mut tools.line;

@@ -2,6 +2,7 @@
 
 ghost use Rattle.std.specs.Prelude.{◌≡◌, ◌<◌, ◌≤◌, ℕ, Some, IfOk, OnOk, length};
 ghost use Rattle.std.specs.List.{AllByRecursion};
+ghost use Rattle.job_mean.specs.Job.{layered};
 ghost use Rattle.stack_mean.specs.Acceptance.{largest_weight};
 ghost use Rattle.stack_mean.specs.Plans.{plans_of};
 ghost use Rattle.chain_laws.specs.Runs.{TypedStack};
@@ -109,8 +110,8 @@ fn make_turns<F: Feed, O: Sink, N: Links, C: Clock>(
     Ok(())
 }
 
-/// Runs the members `me` of a plan's group over links, through so many turns, and puts what they do and what it comes to line by line: behind
-/// `> ` each event, and then the lines of its report. Each packet is handed on just behind its line, in full; a sending that fails is
+/// Runs the members `me` of a plan's group, one in layered mode, over links, through so many turns, and puts what they do and what it comes to
+/// line by line: behind `> ` each event, and then the lines of its report. Each packet is handed on just behind its line, in full; a sending that fails is
 /// told by `lost` and the packet's number, and not made again. A receive that fails is told by `deaf` and the member; of these so many
 /// are borne as `patience` says.
 ///
@@ -127,6 +128,7 @@ pub fn serve<F: Feed, O: Sink, N: Links, C: Clock>(
 ) -> Result<(), NodeError>
     requires typed { TypedStack (stack_in course) }
     requires plans { plans_in course ≡ plans_of (stack_in course) }
+    requires mode { (F.group feed.old).mode ≡ layered }
     requires stack { (F.group feed.old).stack ≡ stack_in course }
     requires group_plans { (F.group feed.old).plans ≡ plans_in course }
     requires group { Stands (F.group feed.old) (first_of_plan (stack_in course) course.plan.now) }

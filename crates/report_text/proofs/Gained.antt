@@ -4,7 +4,7 @@ use Rattle.std.proofs.lemmas.Grind.{flat_map-append}
 use Rattle.std.proofs.lemmas.List.Sums.{sum_by-append, sum_by-cons}
 use Rattle.std.specs.List.{enumerate_from, flat_map, fold, sum_by}
 use Rattle.std.specs.Prelude.{cond, count_by, is_some, slice_index_or}
-use Rattle.job_mean.specs.Job.{layered}
+use Rattle.job_mean.specs.Job.{Mode}
 use Rattle.msg_core.specs.declared.packet.Packet.{Packet}
 use Rattle.msg_core.specs.declared.packet.View.{View}
 use Rattle.layer_mean.specs.State.{cell_at}
@@ -238,53 +238,53 @@ told_gained c stack plans event d outs shown first =
     ∙ event_gained c (told_lines stack plans false event d outs shown first) (short_told d outs)
 
 -- the packets that an event sends short, as they are told
-short_is : (stack : List LayerTree) (plans : List Plan) (h : world.Did) (outs : List (Output × Option ℕ)) (before after : ℕ) (d : code.Did) →
-    DidIs stack plans h outs before after d → short_told d outs ≡ short_in layered stack plans h
+short_is : (mode : Mode) (stack : List LayerTree) (plans : List Plan) (h : world.Did) (outs : List (Output × Option ℕ)) (before after : ℕ) (d : code.Did) →
+    DidIs mode stack plans h outs before after d → short_told d outs ≡ short_in mode stack plans h
 unfolding short_told
-short_is stack plans (world.taken s) outs before after (did.Stepped (Taken common change)) is = ap (count_by is_short_packet) is.outs_are
-short_is stack plans (world.refused r) outs before after (did.Stepped (Refused told)) is = refl
-short_is stack plans world.absent outs before after did.Absent is = refl
-short_is stack plans world.shown outs before after did.Shown is = refl
-short_is stack plans (world.taken s) outs before after (did.Stepped (Refused told)) is = absurd is
-short_is stack plans (world.taken s) outs before after did.Absent is = absurd is
-short_is stack plans (world.taken s) outs before after did.Shown is = absurd is
-short_is stack plans (world.refused r) outs before after (did.Stepped (Taken common change)) is = absurd is
-short_is stack plans (world.refused r) outs before after did.Absent is = absurd is
-short_is stack plans (world.refused r) outs before after did.Shown is = absurd is
-short_is stack plans world.absent outs before after (did.Stepped (Taken common change)) is = absurd is
-short_is stack plans world.absent outs before after (did.Stepped (Refused told)) is = absurd is
-short_is stack plans world.absent outs before after did.Shown is = absurd is
-short_is stack plans world.shown outs before after (did.Stepped (Taken common change)) is = absurd is
-short_is stack plans world.shown outs before after (did.Stepped (Refused told)) is = absurd is
-short_is stack plans world.shown outs before after did.Absent is = absurd is
+short_is mode stack plans (world.taken s) outs before after (did.Stepped (Taken common change)) is = ap (count_by is_short_packet) is.outs_are
+short_is mode stack plans (world.refused r) outs before after (did.Stepped (Refused told)) is = refl
+short_is mode stack plans world.absent outs before after did.Absent is = refl
+short_is mode stack plans world.shown outs before after did.Shown is = refl
+short_is mode stack plans (world.taken s) outs before after (did.Stepped (Refused told)) is = absurd is
+short_is mode stack plans (world.taken s) outs before after did.Absent is = absurd is
+short_is mode stack plans (world.taken s) outs before after did.Shown is = absurd is
+short_is mode stack plans (world.refused r) outs before after (did.Stepped (Taken common change)) is = absurd is
+short_is mode stack plans (world.refused r) outs before after did.Absent is = absurd is
+short_is mode stack plans (world.refused r) outs before after did.Shown is = absurd is
+short_is mode stack plans world.absent outs before after (did.Stepped (Taken common change)) is = absurd is
+short_is mode stack plans world.absent outs before after (did.Stepped (Refused told)) is = absurd is
+short_is mode stack plans world.absent outs before after did.Shown is = absurd is
+short_is mode stack plans world.shown outs before after (did.Stepped (Taken common change)) is = absurd is
+short_is mode stack plans world.shown outs before after (did.Stepped (Refused told)) is = absurd is
+short_is mode stack plans world.shown outs before after did.Absent is = absurd is
 
 -- one moment more
-counts_gained : (stack : List LayerTree) (plans : List Plan) (run : List Moment) (m : Moment) →
-    counts_of stack plans (run ++ m ∷ [])
-    ≡ gained (counts_of stack plans run) (moment_lines stack plans None m) (short_in layered stack plans m.happening.did) 1
+counts_gained : (mode : Mode) (stack : List LayerTree) (plans : List Plan) (run : List Moment) (m : Moment) →
+    counts_of mode stack plans (run ++ m ∷ [])
+    ≡ gained (counts_of mode stack plans run) (moment_lines stack plans None m) (short_in mode stack plans m.happening.did) 1
 unfolding gained
-counts_gained stack plans run m =
+counts_gained mode stack plans run m =
     let lines = moment_lines stack plans None m in
     let here = flat_map-append (moment_lines stack plans None) run (m ∷ [])
     ∙ ap (λ last. flat_map (moment_lines stack plans None) run ++ last) (append-nil lines) in
     let kind = λ (word : List ℕ). ap (λ all. count_of all word) here ∙ count_append (flat_map (moment_lines stack plans None) run) lines word in
     same_counts _ _ (kind (codes "deliver")) (kind (codes "packet")) (kind (codes "timer")) (kind (codes "block")) (kind (codes "announce"))
     (kind (codes "view")) (kind (codes "out")) (kind (codes "refused")) (kind (codes "absent"))
-    (sum_by-append (λ m. short_in layered stack plans m.happening.did) run (m ∷ [])
-    ∙ ap (λ short. sum_by (λ m. short_in layered stack plans m.happening.did) run + short) (zero-add (short_in layered stack plans m.happening.did)))
+    (sum_by-append (λ m. short_in mode stack plans m.happening.did) run (m ∷ [])
+    ∙ ap (λ short. sum_by (λ m. short_in mode stack plans m.happening.did) run + short) (zero-add (short_in mode stack plans m.happening.did)))
     (length-append run (m ∷ []))
 
-pub counted_moment : (stack : List LayerTree) (plans : List Plan) (run : List Moment) (m : Moment) (outs : List (Output × Option ℕ))
-    (before after : ℕ) (d : code.Did) → DidIs stack plans m.happening.did outs before after d →
-    counted (counts_of stack plans run) d outs ≡ counts_of stack plans (run ++ m ∷ [])
-counted_moment stack plans run m outs before after d is =
+pub counted_moment : (mode : Mode) (stack : List LayerTree) (plans : List Plan) (run : List Moment) (m : Moment) (outs : List (Output × Option ℕ))
+    (before after : ℕ) (d : code.Did) → DidIs mode stack plans m.happening.did outs before after d →
+    counted (counts_of mode stack plans run) d outs ≡ counts_of mode stack plans (run ++ m ∷ [])
+counted_moment mode stack plans run m outs before after d is =
     let shown = member_at m.before (member_of m.event) in
-    told_gained (counts_of stack plans run) stack plans m.event d outs shown (first_number m)
-    ∙ ap (λ lines. gained (counts_of stack plans run) lines (short_told d outs) 1)
-    (told_is_moment stack plans false m outs before after d shown (first_number m) is (λ seen. refl) refl)
-    ∙ ap (λ short. gained (counts_of stack plans run) (moment_lines stack plans None m) short 1)
-    (short_is stack plans m.happening.did outs before after d is)
-    ∙ sym (counts_gained stack plans run m)
+    told_gained (counts_of mode stack plans run) stack plans m.event d outs shown (first_number m)
+    ∙ ap (λ lines. gained (counts_of mode stack plans run) lines (short_told d outs) 1)
+    (told_is_moment mode stack plans false m outs before after d shown (first_number m) is (λ seen. refl) refl)
+    ∙ ap (λ short. gained (counts_of mode stack plans run) (moment_lines stack plans None m) short 1)
+    (short_is mode stack plans m.happening.did outs before after d is)
+    ∙ sym (counts_gained mode stack plans run m)
 
 -- the two lines of a whole run
 run_length : (stack : List LayerTree) (plans : List Plan) (w : World) (events : List ScriptEvent) →
@@ -292,8 +292,8 @@ run_length : (stack : List LayerTree) (plans : List Plan) (w : World) (events : 
 run_length stack plans w [] = refl
 run_length stack plans w (e ∷ events) = ap suc (run_length stack plans (happens stack plans w e).world events)
 
-pub counted_tally : (stack : List LayerTree) (plans : List Plan) (s : Script) →
-    tally_lines (counts_of stack plans (run_of stack plans s)) ≡ tally stack plans layered s
-counted_tally stack plans s =
-    ap (λ n. tally_lines (record (counts_of stack plans (run_of stack plans s)) { events = n }))
+pub counted_tally : (mode : Mode) (stack : List LayerTree) (plans : List Plan) (s : Script) →
+    tally_lines (counts_of mode stack plans (run_of stack plans s)) ≡ tally stack plans mode s
+counted_tally mode stack plans s =
+    ap (λ n. tally_lines (record (counts_of mode stack plans (run_of stack plans s)) { events = n }))
     (run_length stack plans (first_world stack s.group s.stamp s.members) s.events)

@@ -1,20 +1,16 @@
 -- The lines of outputs, one output behind the other.
-use Rattle.std.proofs.Common.{◌≡◌, ℕ, ◌+◌, ◌<◌, Bool, true, false, List, [], ◌∷◌, ◌++◌, length, take, drop, refl, sym, ap, subst, ◌∙◌, append_assoc, append-nil, Option, None, Some}
+use Rattle.std.proofs.Common.{◌≡◌, ℕ, ◌+◌, ◌<◌, List, [], ◌∷◌, ◌++◌, length, take, drop, refl, sym, ap, ◌∙◌, append_assoc, append-nil, Option, Some}
 use Rattle.std.proofs.lemmas.List.{take_more, take-append-drop}
 use Rattle.std.proofs.lemmas.Option.{get_or_from_slice_get}
 use Rattle.std.specs.Prelude.{slice_get, Err}
 use Rattle.layer_mean.specs.Tree.{LayerTree}
 use Rattle.outside.specs.declared.sink.SinkError.{SinkError}
-use Rattle.run_mean.specs.Member.{Output, deliver_cast, deliver_send, block, announce, packet, nowhere, timer, quiet}
+use Rattle.run_mean.specs.Member.{Output}
 use Rattle.run_mean.specs.Report.{Annex, lines_of_outputs, output_lines, number_behind}
 use Rattle.outside.specs.Lines.{Gains, Wrote}
 use Rattle.outside.specs.Tells.{Tells}
 use Rattle.outside.proofs.Gaining.{gains_then, cut_short}
-use Rattle.stack_mean.specs.Plan.{Plan}
-use Rattle.report_text.specs.Numbered.{full_annex, number_after}
-use Rattle.view_core.specs.declared.step.Stepped.{Stepped}
-use Rattle.view_core.specs.declared.step.Stepped.TheVariants.{Taken, Refused}
-use Rattle.report_text.specs.Told.{AreFull, annex_of, change_lines, stepped_lines}
+use Rattle.report_text.specs.Numbered.{number_after}
 
 pub lines_append : (stack : List LayerTree) (annex : Annex) (id k : ℕ) (xs ys : List (Output × Option ℕ)) →
     lines_of_outputs stack annex id k (xs ++ ys) ≡ lines_of_outputs stack annex id k xs ++ lines_of_outputs stack annex id (number_after k xs) ys
@@ -68,30 +64,3 @@ outputs_cut stack annex id first i k outs o a b c e h now ek lt is =
     ∙ lines_append stack annex id first (take (i + 1) outs) (drop (i + 1) outs)
     ∙ ap (λ lines. lines ++ lines_of_outputs stack annex id (number_after first (take (i + 1) outs)) (drop (i + 1) outs))
     (front_more stack annex id first i k outs o ek lt is))
-
--- without plans beside outputs the bytes are those in full
-full_at : (plans : List Plan) (wire : Bool) (k : ℕ) (o : Output) (plan : Option ℕ) → plan ≡ None →
-    full_annex wire k (o, plan) ≡ annex_of wire plans k (o, plan)
-full_at plans false k o plan none = refl
-full_at plans true k (deliver_cast peer body) plan none = refl
-full_at plans true k (deliver_send peer body) plan none = refl
-full_at plans true k (block a) plan none = refl
-full_at plans true k (announce a) plan none = refl
-full_at plans true k (packet p) plan none = subst (λ n. full_annex true k (packet p, n) ≡ annex_of true plans k (packet p, n)) (sym none) refl
-full_at plans true k nowhere plan none = refl
-full_at plans true k (timer a) plan none = refl
-full_at plans true k (quiet dir event) plan none = refl
-
-pub full_lines : (stack : List LayerTree) (plans : List Plan) (wire : Bool) (id k : ℕ) (outs : List (Output × Option ℕ)) → AreFull outs →
-    lines_of_outputs stack (full_annex wire) id k outs ≡ lines_of_outputs stack (annex_of wire plans) id k outs
-full_lines stack plans wire id k [] full = refl
-full_lines stack plans wire id k (o ∷ outs) full =
-    ap (λ lines. output_lines stack id k o.0 ++ lines ++ lines_of_outputs stack (full_annex wire) id (number_behind k o.0) outs)
-    (full_at plans wire k o.0 o.1 full.0)
-    ∙ ap (λ rest. output_lines stack id k o.0 ++ annex_of wire plans k o ++ rest) (full_lines stack plans wire id (number_behind k o.0) outs full.1)
-
-pub full_stepped : (stack : List LayerTree) (plans : List Plan) (wire : Bool) (id first : ℕ) (outs : List (Output × Option ℕ)) (stepped : Stepped) →
-    AreFull outs → stepped_lines stack (full_annex wire) id first outs stepped ≡ stepped_lines stack (annex_of wire plans) id first outs stepped
-full_stepped stack plans wire id first outs (Taken common change) full =
-    ap (λ lines. lines ++ change_lines id change) (full_lines stack plans wire id first outs full)
-full_stepped stack plans wire id first outs (Refused refusal) full = refl

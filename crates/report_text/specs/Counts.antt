@@ -2,7 +2,7 @@
 use Rattle.std.specs.Prelude.{ℕ, ◌+◌, if◌then◌else◌, List, [], ◌∷◌, ◌++◌, length, codes, Option, Some, None, is_some}
 use Rattle.std.specs.List.{fold, flat_map, sum_by}
 use Rattle.std.specs.Fmt.{decimal}
-use Rattle.job_mean.specs.Job.{layered}
+use Rattle.job_mean.specs.Job.{Mode}
 use Rattle.layer_mean.specs.Tree.{LayerTree}
 use Rattle.run_mean.specs.Lines.{line}
 use Rattle.run_mean.specs.Member.{Output, deliver_cast, deliver_send, block, announce, packet, nowhere, timer, quiet}
@@ -56,9 +56,9 @@ counted c did outs = lines_counted (record c { events = c.events + 1 }) did outs
 abbrev pub total : Counts → ℕ
 total c = c.deliver + c.packet + c.timer + c.block + c.announce + c.view + c.out + c.refused + c.absent + c.short
 
--- What the definitions count of a run in layered mode.
-abbrev pub counts_of : List LayerTree → List Plan → List Moment → Counts
-counts_of stack plans run = let lines = flat_map (moment_lines stack plans None) run in record {
+-- What the definitions count of a run in a mode.
+abbrev pub counts_of : Mode → List LayerTree → List Plan → List Moment → Counts
+counts_of mode stack plans run = let lines = flat_map (moment_lines stack plans None) run in record {
   deliver = count_of lines (codes "deliver");
   packet = count_of lines (codes "packet");
   timer = count_of lines (codes "timer");
@@ -68,7 +68,7 @@ counts_of stack plans run = let lines = flat_map (moment_lines stack plans None)
   out = count_of lines (codes "out");
   refused = count_of lines (codes "refused");
   absent = count_of lines (codes "absent");
-  short = sum_by (λ m. short_in layered stack plans m.happening.did) run;
+  short = sum_by (λ m. short_in mode stack plans m.happening.did) run;
   events = length run;
 }
 

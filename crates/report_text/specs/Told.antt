@@ -1,6 +1,5 @@
 -- The lines of what one event came to, from what the code has of it.
-use Rattle.std.specs.Prelude.{◌≡◌, ℕ, Bool, true, false, List, [], ◌∷◌, ◌++◌, map, codes, Option, None, option_to_list}
-use Rattle.std.specs.List.{AllByRecursion}
+use Rattle.std.specs.Prelude.{ℕ, Bool, true, false, List, [], ◌∷◌, ◌++◌, map, codes, Option, option_to_list}
 use Rattle.layer_mean.specs.Tree.{LayerTree}
 use Rattle.run_mean.specs.Lines.{view_line, out_line, refused_line, absent_line}
 use Rattle.run_mean.specs.Member.{Member, Output}
@@ -46,7 +45,3 @@ told_lines stack plans wire event (did.Stepped stepped) outs shown first =
     stepped_lines stack (annex_of wire plans) (member_of event) first outs stepped
 told_lines stack plans wire event did.Absent outs shown first = absent_line (member_of event) (packet_given event) ∷ []
 told_lines stack plans wire event did.Shown outs shown first = member_lines stack (member_of event) shown
-
--- No plan stands beside any output: each packet is sent in full.
-abbrev pub AreFull : List (Output × Option ℕ) → Type 0
-AreFull outs = AllByRecursion (λ o. o.1 ≡ None) outs

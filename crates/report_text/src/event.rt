@@ -9,8 +9,7 @@ ghost use Rattle.script_mean.specs.Event.{member_of};
 ghost use Rattle.outside.specs.Lines.{Wrote};
 ghost use Rattle.outside.specs.Tells.{tells_of};
 ghost use Rattle.view_core.specs.Refusals.{refusal_meant};
-ghost use Rattle.report_text.specs.Numbered.{full_annex};
-ghost use Rattle.report_text.specs.Told.{AreFull, change_line, change_lines, stepped_lines, taken_lines, told_lines};
+ghost use Rattle.report_text.specs.Told.{annex_of, change_line, change_lines, stepped_lines, taken_lines, told_lines};
 
 use crate::manner::{Issue, Manner, Outcome};
 use crate::output::write_outputs;
@@ -69,8 +68,8 @@ fn write_taken<O: Sink>(
     out: &mut O,
 ) -> Result<(), SinkError>
     requires { issue.first + length issue.outputs.now.outputs < 2 ^ 64 }
-    ensures { Wrote (taken_lines (stack_tree manner.entry.stack.now) (full_annex manner.entry.wire) issue.entry.id issue.entry.first
-        issue.entry.outputs.now.outputs change)
+    ensures { Wrote (taken_lines (stack_tree manner.entry.stack.now) (annex_of manner.entry.wire (plans_tree manner.entry.plans.now))
+        issue.entry.id issue.entry.first issue.entry.outputs.now.outputs change)
         (tells_of O.Sink out.old) (tells_of O.Sink out.new) result }
 {
     write_outputs(pen, manner, issue, out)?;
@@ -103,8 +102,8 @@ fn write_stepped<O: Sink>(
     out: &mut O,
 ) -> Result<(), SinkError>
     requires { issue.first + length issue.outputs.now.outputs < 2 ^ 64 }
-    ensures { Wrote (stepped_lines (stack_tree manner.entry.stack.now) (full_annex manner.entry.wire) issue.entry.id issue.entry.first
-        issue.entry.outputs.now.outputs stepped)
+    ensures { Wrote (stepped_lines (stack_tree manner.entry.stack.now) (annex_of manner.entry.wire (plans_tree manner.entry.plans.now))
+        issue.entry.id issue.entry.first issue.entry.outputs.now.outputs stepped)
         (tells_of O.Sink out.old) (tells_of O.Sink out.new) result }
 {
     match stepped {
@@ -126,15 +125,15 @@ fn write_absent<O: Sink>(pen: &mut Pen, id: u8, number: u32, out: &mut O) -> Res
 }
 
 /// Puts the lines of what an event came to, one by one: those of a step's outputs, and of where the member is then; a refusal; a packet that
-/// isn't there; or the member that is shown. Where it is wanted, the bytes of each packet stand behind its line, in full.
+/// isn't there; or the member that is shown. Where it is wanted, the bytes of each packet stand behind its line,
+/// as it is sent: short under the plan beside it, or in full.
 pub fn write_event<O: Sink>(
     pen: &mut Pen,
     manner: Manner<'_>,
     outcome: &Outcome<'_>,
     out: &mut O,
 ) -> Result<(), SinkError>
-    requires few { outcome.now.first + length outcome.now.outputs.now.outputs < 2 ^ 64 }
-    requires full { AreFull outcome.now.outputs.now.outputs }
+    requires { outcome.now.first + length outcome.now.outputs.now.outputs < 2 ^ 64 }
     ensures { Wrote (told_lines (stack_tree manner.entry.stack.now) (plans_tree manner.entry.plans.now) manner.entry.wire outcome.now.event.now
         outcome.now.did outcome.now.outputs.now.outputs outcome.now.shown.now outcome.now.first)
         (tells_of O.Sink out.old) (tells_of O.Sink out.new) result }

@@ -3,24 +3,27 @@
 ghost use Rattle.std.specs.Prelude.{◌≡◌, ◌+◌, ◌^◌, ◌<◌, ◌≤◌, ◌++◌, [], true, IfOk, OnOk, length};
 ghost use Rattle.event_graph.specs.Answer.{stack_tree};
 ghost use Rattle.packet_full.specs.Sent.{sent_packet};
-ghost use Rattle.packet_mean.specs.Spelling.{full_bytes};
+ghost use Rattle.run_mean.specs.Common.{wire};
 ghost use Rattle.run_mean.specs.Lines as report;
-ghost use Rattle.run_mean.specs.Report.{lines_of_outputs, number_behind, output_lines};
+ghost use Rattle.run_mean.specs.Report.{lines_of_outputs, number_behind, output_lines, wire_annex};
 ghost use Rattle.outside.specs.Lines.{Wrote};
 ghost use Rattle.outside.specs.Tells.{tells_of};
 ghost use Rattle.step_outputs.specs.Views.{output_meant};
-ghost use Rattle.report_text.specs.Numbered.{full_annex, line_if};
+ghost use Rattle.stack_shapes.specs.Trees.{plans_tree};
+ghost use Rattle.report_text.specs.Numbered.{line_if};
+ghost use Rattle.report_text.specs.Told.{annex_of};
 
 use crate::manner::{Issue, Manner};
 use crate::pen::Pen;
+use crate::wire::spell;
 use msg_core::Memory;
 use outside::{Sink, SinkError, put_line};
-use packet_full::{put_full_of, room_of};
 use packet_mean::Here;
 use report_lines::{
     Delivery, Line, NamedStack, announce_line, block_line, deliver_line, packet_line, timer_line,
     wire_line,
 };
+use stack_shapes::Plans;
 use step_outputs::{OutputView, PacketView};
 
 /// Builds the line of an output, if it has one: whether it has.
@@ -50,7 +53,7 @@ fn build_output(
             packet.headers,
             packet.body,
         )?,
-        OutputView::Nowhere => return Ok(false),
+        OutputView::Nowhere(_) => return Ok(false),
         OutputView::Quiet(_, _) => return Ok(false),
     }
     Ok(true)
@@ -81,35 +84,35 @@ pub fn put_output<O: Sink>(
 fn build_wire(
     line: &mut Line,
     bytes: &mut Vec<u8>,
+    plans: &Plans,
     here: &Here,
     number: u64,
     packet: &PacketView<'_>,
 ) -> Result<(), Memory>
-    ensures { OnOk result (line.new ≡ line.old
-        ++ report.wire_line number (full_bytes (sent_packet here.now packet.now.dest packet.now.headers.now packet.now.body.now))) }
+    ensures { OnOk result (line.new ≡ line.old ++ report.wire_line number
+        (wire (plans_tree plans.now) (sent_packet here.now packet.now.dest packet.now.headers.now packet.now.body.now) packet.now.plan)) }
 {
-    bytes.clear();
-    bytes.reserve(room_of(packet.headers, packet.body))?;
-    put_full_of(here, packet.dest, packet.headers, packet.body, bytes);
+    spell(bytes, plans, here, packet)?;
     wire_line(line, number, bytes.as_slice())
 }
 
 /// Puts the line of an output's bytes, if it is a packet.
 fn put_wire<O: Sink>(
     pen: &mut Pen,
+    plans: &Plans,
     here: &Here,
     number: u64,
     output: &OutputView<'_>,
     out: &mut O,
 ) -> Result<(), SinkError>
-    ensures { Wrote (full_annex true number (output_meant here.now output.now))
+    ensures { Wrote (wire_annex (plans_tree plans.now) number (output_meant here.now output.now))
         (tells_of O.Sink out.old) (tells_of O.Sink out.new) result }
 {
     let OutputView::Packet(packet) = output else {
         return Ok(())
     };
     pen.line.clear();
-    match build_wire(&mut pen.line, &mut pen.bytes, here, number, packet) {
+    match build_wire(&mut pen.line, &mut pen.bytes, plans, here, number, packet) {
         Ok(()) => put_line(pen.line.slice(), out),
         Err(Memory) => Err(SinkError::Memory),
     }
@@ -126,12 +129,12 @@ fn write_output<O: Sink>(
     out: &mut O,
 ) -> Result<(), SinkError>
     ensures { Wrote (output_lines (stack_tree manner.entry.stack.now) id number (output_meant here.now output.now).0
-        ++ full_annex manner.entry.wire number (output_meant here.now output.now))
+        ++ annex_of manner.entry.wire (plans_tree manner.entry.plans.now) number (output_meant here.now output.now))
         (tells_of O.Sink out.old) (tells_of O.Sink out.new) result }
 {
     put_output(pen, manner.stack, here, id, number, output, out)?;
     if manner.wire {
-        put_wire(pen, here, number, output, out)
+        put_wire(pen, manner.plans, here, number, output, out)
     } else {
         Ok(())
     }
@@ -149,7 +152,7 @@ pub fn number_behind(_here: &Here, number: u64, output: &OutputView<'_>) -> u64
     }
 }
 
-/// Puts the lines of a step's outputs, whose packets are sent in full.
+/// Puts the lines of a step's outputs.
 pub(crate) fn write_outputs<O: Sink>(
     pen: &mut Pen,
     manner: Manner<'_>,
@@ -157,8 +160,8 @@ pub(crate) fn write_outputs<O: Sink>(
     out: &mut O,
 ) -> Result<(), SinkError>
     requires { issue.first + length issue.outputs.now.outputs < 2 ^ 64 }
-    ensures { Wrote (lines_of_outputs (stack_tree manner.entry.stack.now) (full_annex manner.entry.wire) issue.entry.id issue.entry.first
-        issue.entry.outputs.now.outputs)
+    ensures { Wrote (lines_of_outputs (stack_tree manner.entry.stack.now) (annex_of manner.entry.wire (plans_tree manner.entry.plans.now))
+        issue.entry.id issue.entry.first issue.entry.outputs.now.outputs)
         (tells_of O.Sink out.old) (tells_of O.Sink out.new) result }
 {
     let here = issue.outputs.here();

@@ -1,7 +1,6 @@
 //! Counts of lines, in place of the lines.
 
 ghost use Rattle.std.specs.Prelude.{◌≡◌, ◌+◌, ◌*◌, ◌^◌, ◌<◌, ◌≤◌, ◌++◌, ◌∷◌, [], OnOk, length, codes};
-ghost use Rattle.std.specs.Fmt.{decimal};
 ghost use Rattle.std.specs.List.{fold};
 ghost use Rattle.run_mean.specs.Report.{end_line};
 ghost use Rattle.outside.specs.Lines.{Wrote};
@@ -96,7 +95,7 @@ fn count_output(counts: &mut Counts, _here: &Here, output: &OutputView<'_>)
                 counts.short += 1;
             }
         }
-        OutputView::Nowhere => {}
+        OutputView::Nowhere(_) => {}
         OutputView::Quiet(_, _) => {}
     }
 }

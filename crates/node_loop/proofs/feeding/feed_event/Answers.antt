@@ -1,6 +1,5 @@
 use Rattle.std.proofs.Common.{◌∙◌, refl, arith}
 use Rattle.std.proofs.lemmas.Result.{err_from_is_err_and}
-use Rattle.report_text.proofs.Moments.{told_full}
 use Rattle.node_loop.specs.Course.{plans_in, stack_in}
 use Rattle.node_loop.proofs.Fed.{first_is, happened, journal_cut, journal_none, journal_then, own_never_absent, own_never_shown, own_sendable, rests_again}
 use Rattle.node_loop.proofs.Passing.{breaks_first, line_stops}
@@ -17,10 +16,9 @@ pass_stepped-requires g c =
     let places = c.in-Ok-Stepped.ensures.places ∙ c.requires.up.rests.places in
     let light = rw (c.deref-in-Ok-Stepped.ensures, c.stack-in-Ok-Stepped.ensures) at c.an_accepted_stack_is_light.ensures in
     let h = happened (stack_in c.args.course) (plans_in c.args.course) c.requires.up.world c.args.event.now (g.F.Feed.group c.args.feed.now)
-    (g.F.Feed.group c.feed.new.self) c.feed.new.out.outputs 0 c.feed.new.visits _ _ at.stack_is at.plans_are c.in-Ok-Stepped.field-0-is (c.in-Ok-Stepped.ensures.fed c.requires.up.world at.stands) in
+    (g.F.Feed.group c.feed.new.self) c.feed.new.out.outputs 0 c.feed.new.visits _ _ at.mode_is at.stack_is at.plans_are c.in-Ok-Stepped.field-0-is (c.in-Ok-Stepped.ensures.fed c.requires.up.world at.stands) in
     record {
       few = omega (arith, c.next_number-number.ensures.small, c.has_places_for_all.ensures, places, light);
-      full = told_full _ _ _ _ _ _ _ h.told;
       sendable = own_sendable _ _ _ _ c.requires.up.members _ _ _ _ _ _ (g.N.Links.listening c.args.links.now)
           (record { places = rw (c.deref.ensures, c.stack.ensures) at c.is_within_limits.ensures.places; fields = rw (c.deref.ensures, c.stack.ensures) at c.is_within_limits.ensures.fields }) c.requires.up.typed c.requires.up.numbered c.is_given.ensures
           at.chained at.within h c.member_of.ensures c.requires.up.listen.0.1;
@@ -32,7 +30,7 @@ returns-in_err-pass_stepped-in-Ok-Stepped-clause-fed g c =
     rw (p.1, p.2) (λ n w r.
     let at = r.somewhere in
     let h = happened (stack_in c.args.course) (plans_in c.args.course) w c.args.event.now (g.F.Feed.group c.args.feed.now)
-    (g.F.Feed.group c.feed.new.self) c.feed.new.out.outputs 0 c.feed.new.visits _ _ at.stack_is at.plans_are c.in-Ok-Stepped.field-0-is (c.in-Ok-Stepped.ensures.fed w at.stands) in
+    (g.F.Feed.group c.feed.new.self) c.feed.new.out.outputs 0 c.feed.new.visits _ _ at.mode_is at.stack_is at.plans_are c.in-Ok-Stepped.field-0-is (c.in-Ok-Stepped.ensures.fed w at.stands) in
     journal_cut _ _ w _ _ _ _ _ _ _ _ _ _ _ _ h c.member_of.ensures
     (first_is _ _ w (g.F.Feed.group c.args.feed.now) n _ at c.next_number-number.ensures.number) c.in_ok-write_journal.ensures refl refl refl
     c.in_err-pass_stepped-in-Ok-Stepped.ensures.handed)
@@ -41,7 +39,7 @@ pub returns-in_ok-pass_stepped-in-Ok-Stepped-clause-fed : goal.returns-in_ok-pas
 returns-in_ok-pass_stepped-in-Ok-Stepped-clause-fed g c = λ n w r.
     let at = r.somewhere in
     let h = happened (stack_in c.args.course) (plans_in c.args.course) w c.args.event.now (g.F.Feed.group c.args.feed.now)
-    (g.F.Feed.group c.feed.new.self) c.feed.new.out.outputs 0 c.feed.new.visits _ _ at.stack_is at.plans_are c.in-Ok-Stepped.field-0-is (c.in-Ok-Stepped.ensures.fed w at.stands) in
+    (g.F.Feed.group c.feed.new.self) c.feed.new.out.outputs 0 c.feed.new.visits _ _ at.mode_is at.stack_is at.plans_are c.in-Ok-Stepped.field-0-is (c.in-Ok-Stepped.ensures.fed w at.stands) in
     record {
       rests = rests_again _ _ w _ n _ _ _ _ _ _ _ _ c.requires.up.typed c.requires.up.numbered c.is_given.ensures r c.in-Ok-Stepped.ensures.stays h
           c.in-Ok-Stepped.ensures.places;
@@ -55,14 +53,14 @@ pub unreachable-requires : goal.unreachable-requires
 unreachable-requires g c =
     let at = c.requires.up.rests.somewhere in
     let h = happened (stack_in c.args.course) (plans_in c.args.course) c.requires.up.world c.args.event.now (g.F.Feed.group c.args.feed.now)
-    (g.F.Feed.group c.feed.new.self) c.feed.new.out.outputs 0 c.feed.new.visits _ _ at.stack_is at.plans_are c.in-Ok-Absent.field-0-is (c.in-Ok-Absent.ensures.fed c.requires.up.world at.stands) in
+    (g.F.Feed.group c.feed.new.self) c.feed.new.out.outputs 0 c.feed.new.visits _ _ at.mode_is at.stack_is at.plans_are c.in-Ok-Absent.field-0-is (c.in-Ok-Absent.ensures.fed c.requires.up.world at.stands) in
     own_never_absent _ _ _ _ _ _ _ _ c.requires.own h
 
 pub unreachable-requires-in-Ok-Shown : goal.unreachable-requires-in-Ok-Shown
 unreachable-requires-in-Ok-Shown g c =
     let at = c.requires.up.rests.somewhere in
     let h = happened (stack_in c.args.course) (plans_in c.args.course) c.requires.up.world c.args.event.now (g.F.Feed.group c.args.feed.now)
-    (g.F.Feed.group c.feed.new.self) c.feed.new.out.outputs 0 c.feed.new.visits _ _ at.stack_is at.plans_are c.in-Ok-Shown.field-0-is (c.in-Ok-Shown.ensures.fed c.requires.up.world at.stands) in
+    (g.F.Feed.group c.feed.new.self) c.feed.new.out.outputs 0 c.feed.new.visits _ _ at.mode_is at.stack_is at.plans_are c.in-Ok-Shown.field-0-is (c.in-Ok-Shown.ensures.fed c.requires.up.world at.stands) in
     own_never_shown _ _ _ _ _ _ _ _ c.requires.own h
 
 pub returns-in-Err-clause-fed : goal.returns-in-Err-clause-fed

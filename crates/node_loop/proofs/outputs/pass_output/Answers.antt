@@ -17,7 +17,7 @@ returns-in_err-put_output-clause-handed g c =
 pub hand_on-requires : goal.hand_on-requires
 hand_on-requires g c = record {
   peers = sendable_takes c.args.source.id _ _ _ _ _
-      (packet_handed (plans_tree c.args.source.plans.now) c.args.source.id c.args.here.now c.args.output.now c.in-Packet.packet c.in-Packet.is c.requires.full)
+      (packet_handed (plans_tree c.args.source.plans.now) c.args.source.id c.args.here.now c.args.output.now c.in-Packet.packet c.in-Packet.is)
       refl c.requires.sendable;
 }
 
@@ -25,7 +25,7 @@ pub returns-in-Packet-clause-handed : goal.returns-in-Packet-clause-handed
 returns-in-Packet-clause-handed g c =
     output_handled (stack_tree c.args.source.stack.now) (plans_tree c.args.source.plans.now) c.args.source.id c.args.source.number
     (output_meant c.args.here.now c.args.output.now) _ _ _ c.hand_on.result _ c.in_ok-put_output.ensures refl refl refl
-    (packet_handed (plans_tree c.args.source.plans.now) c.args.source.id c.args.here.now c.args.output.now c.in-Packet.packet c.in-Packet.is c.requires.full)
+    (packet_handed (plans_tree c.args.source.plans.now) c.args.source.id c.args.here.now c.args.output.now c.in-Packet.packet c.in-Packet.is)
     c.hand_on.ensures.handed
 
 pub returns-in_default : goal.returns-in_default

@@ -1,7 +1,6 @@
-use Rattle.std.proofs.Common.{◌≡◌, ◌∙◌, arith, refl, sym, ap, Some, None}
+use Rattle.std.proofs.Common.{◌∙◌, arith, refl, sym, ap, Some}
 use Rattle.std.proofs.lemmas.Result.{err_from_is_err_and}
 use Rattle.event_graph.specs.Answer.{stack_tree}
-use Rattle.file_layer.proofs.Lists.{all-at}
 use Rattle.stack_shapes.specs.Trees.{plans_tree}
 use Rattle.report_text.proofs.Numbered.{number_more}
 use Rattle.step_outputs.specs.Views.{output_meant}
@@ -16,16 +15,12 @@ loop-k-init g c = record {
   listening = λ m. refl;
 }
 
-pub pass_output-requires-clause-full : goal.pass_output-requires-clause-full
-pass_output-requires-clause-full g c =
-    let at = c.at-output.ensures ∙ ap (λ here. Some (output_meant here c.at-output.result)) (sym c.here-here.ensures) in
-    all-at (λ o. o.1 ≡ None) c.args.outputs.now.outputs c.loop-k.k (output_meant c.here-here.result c.at-output.result) at c.requires.full
-
-pub pass_output-requires-clause-sendable : goal.pass_output-requires-clause-sendable
-pass_output-requires-clause-sendable g c =
-    let at = c.at-output.ensures ∙ ap (λ here. Some (output_meant here c.at-output.result)) (sym c.here-here.ensures) in
-    sendable_at (plans_tree c.args.source.plans.now) c.args.source.id c.args.outputs.now.outputs c.loop-k.k (output_meant c.here-here.result c.at-output.result) _ _ at
-    (c.loop-k.invariant.listening c.args.source.id) c.requires.sendable
+pub pass_output-requires : goal.pass_output-requires
+pass_output-requires g c =
+    let at = c.at-output.ensures ∙ ap (λ here. Some (output_meant here c.at-output.result)) (sym c.here-here.ensures) in record {
+      sendable = sendable_at (plans_tree c.args.source.plans.now) c.args.source.id c.args.outputs.now.outputs c.loop-k.k
+          (output_meant c.here-here.result c.at-output.result) _ _ at (c.loop-k.invariant.listening c.args.source.id) c.requires.sendable;
+    }
 
 pub returns-in_err-pass_output-clause-handed : goal.returns-in_err-pass_output-clause-handed
 returns-in_err-pass_output-clause-handed g c =

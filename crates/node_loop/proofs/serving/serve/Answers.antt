@@ -46,7 +46,7 @@ make_turns-requires-clause-up g c =
     up_first stack plan me turns patience plans group desk (g.N.Links.listening c.listen_all.new.links) c.requires.typed
     (subst AreNumbered (sym c.requires.plans) (plans_are_numbered stack c.requires.typed))
     (rests_first stack plan me turns patience plans group desk c.requires.typed c.number_fits.ensures c.number_fits-2.ensures c.requires.few_peers
-    c.requires.stack c.requires.group_plans c.requires.group (rw (c.deref.ensures, c.stack.ensures) at c.in-Ok.ensures.places)) c.requires.members
+    c.requires.mode c.requires.stack c.requires.group_plans c.requires.group (rw (c.deref.ensures, c.stack.ensures) at c.in-Ok.ensures.places)) c.requires.members
     (subst (λ peers. AllByRecursion (λ id. g.N.Links.listening c.listen_all.new.links id ≡ Some (length peers)) me) c.slice.ensures
     c.in_ok-listen_all.ensures.listening)
 
@@ -78,7 +78,7 @@ returns-in_err-make_turns g c =
     c.in_err-make_turns.field-0.0
     (made_first stack plan me turns patience plans group desk
     (rests_first stack plan me turns patience plans group desk c.requires.typed c.number_fits.ensures c.number_fits-2.ensures c.requires.few_peers
-    c.requires.stack c.requires.group_plans c.requires.group (rw (c.deref.ensures, c.stack.ensures) at c.in-Ok.ensures.places)) c.in-Ok.ensures.none c.requires.plans from clock at
+    c.requires.mode c.requires.stack c.requires.group_plans c.requires.group (rw (c.deref.ensures, c.stack.ensures) at c.in-Ok.ensures.places)) c.in-Ok.ensures.none c.requires.plans from clock at
     (Err c.in_err-make_turns.field-0.0) c.in_err-make_turns.ensures.told))
 
 pub returns : goal.returns
@@ -110,6 +110,6 @@ returns g c =
     (g.N.Links.told listening) (Ok tt)) c.slice.ensures c.in_ok-listen_all.ensures.told) c.in_ok-listen_all.ensures.sends) at
     (made_first stack plan me turns patience plans group desk
     (rests_first stack plan me turns patience plans group desk c.requires.typed c.number_fits.ensures c.number_fits-2.ensures c.requires.few_peers
-    c.requires.stack c.requires.group_plans c.requires.group (rw (c.deref.ensures, c.stack.ensures) at c.in-Ok.ensures.places)) c.in-Ok.ensures.none c.requires.plans from clock at (Ok tt)
+    c.requires.mode c.requires.stack c.requires.group_plans c.requires.group (rw (c.deref.ensures, c.stack.ensures) at c.in-Ok.ensures.places)) c.in-Ok.ensures.none c.requires.plans from clock at (Ok tt)
     c.in_ok-make_turns.ensures.told)
     last c.write_end.result c.write_end.ensures)

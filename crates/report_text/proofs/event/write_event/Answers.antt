@@ -1,22 +1,18 @@
 use Rattle.std.proofs.Common.{ap, sym, ◌∙◌}
 use Rattle.event_graph.specs.Answer.{stack_tree}
 use Rattle.stack_shapes.specs.Trees.{plans_tree}
-use Rattle.script_mean.specs.Event.{member_of}
 use Rattle.outside.proofs.Turns.{wrote_as}
-use Rattle.report_text.specs.Numbered.{full_annex}
-use Rattle.report_text.specs.Told.{stepped_lines, told_lines}
-use Rattle.report_text.proofs.Numbered.{full_stepped}
+use Rattle.report_text.specs.Told.{annex_of, stepped_lines, told_lines}
 use Rattle.report_text.proofs.event.write_event.Goals as goal
 
 pub returns-in-Stepped : goal.returns-in-Stepped
 returns-in-Stepped g c =
     let manner = c.args.manner in
     let outcome = c.args.outcome.now in
+    let plans = plans_tree manner.plans.now in
     wrote_as _ _ _ _ _
-    (ap (λ id. stepped_lines (stack_tree manner.stack.now) (full_annex manner.wire) id outcome.first outcome.outputs.now.outputs c.in-Stepped.stepped)
+    (ap (λ id. stepped_lines (stack_tree manner.stack.now) (annex_of manner.wire plans) id outcome.first outcome.outputs.now.outputs c.in-Stepped.stepped)
     c.member_of-id.ensures
-    ∙ full_stepped (stack_tree manner.stack.now) (plans_tree manner.plans.now) manner.wire (member_of outcome.event.now) outcome.first
-    outcome.outputs.now.outputs c.in-Stepped.stepped c.requires.full
-    ∙ ap (λ did. told_lines (stack_tree manner.stack.now) (plans_tree manner.plans.now) manner.wire outcome.event.now did
-    outcome.outputs.now.outputs outcome.shown.now outcome.first) (sym c.in-Stepped.is))
+    ∙ ap (λ did. told_lines (stack_tree manner.stack.now) plans manner.wire outcome.event.now did outcome.outputs.now.outputs outcome.shown.now outcome.first)
+    (sym c.in-Stepped.is))
     c.write_stepped.ensures
