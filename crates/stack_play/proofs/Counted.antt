@@ -3,6 +3,7 @@ use Rattle.std.proofs.Common.{◌≡◌, ℕ, ◌+◌, ◌<◌, ◌≤◌, List,
 use Rattle.std.specs.Prelude.{Some, slice_get}
 use Rattle.std.proofs.lemmas.List.{take_all, length-take-le}
 use Rattle.std.proofs.lemmas.Option.{get_or_from_slice_get, slice_get_within}
+use Rattle.job_mean.specs.Job.{Mode}
 use Rattle.layer_mean.specs.Tree.{LayerTree}
 use Rattle.script_mean.specs.declared.event.ScriptEvent.{ScriptEvent}
 use Rattle.script_mean.specs.declared.script.Script.{Script}
@@ -24,62 +25,65 @@ use Rattle.stack_play.proofs.Held.{StandsAt, stands_first, stands_next}
 use Rattle.stack_play.proofs.Moments.{stands_at, front, front_more, moments_length}
 
 -- After k events the lines of each are counted.
-pub record Counted (stack : List LayerTree) (plans : List Plan) (s : Script) (k : ℕ) (r : Run) (counts : Counts) : Type 0 where
-  pub stands : StandsAt stack plans s k r
-  pub counts_are : counts ≡ counts_of stack plans (front stack plans s k)
+pub record Counted (mode : Mode) (stack : List LayerTree) (plans : List Plan) (s : Script) (k : ℕ) (r : Run) (counts : Counts) : Type 0 where
+  pub stands : StandsAt mode stack plans s k r
+  pub counts_are : counts ≡ counts_of mode stack plans (front stack plans s k)
 
 -- The lines of an event that happened are counted.
-pub counted_event : (stack : List LayerTree) (plans : List Plan) (w : World) (event : ScriptEvent) (old new : Run) (did : Did) (before after : Counts) →
-    Happened stack plans w event new.world new.outputs.outputs old.visits new.visits did → after ≡ counted before did new.outputs.outputs →
-    IsCounted stack plans w event new before after
-counted_event stack plans w event old new did before after h is = record {
+pub counted_event : (mode : Mode) (stack : List LayerTree) (plans : List Plan) (w : World) (event : ScriptEvent) (old new : Run) (did : Did)
+    (before after : Counts) →
+    Happened mode stack plans w event new.world new.outputs.outputs old.visits new.visits did → after ≡ counted before did new.outputs.outputs →
+    IsCounted mode stack plans w event new before after
+counted_event mode stack plans w event old new did before after h is = record {
   world = h.world;
   counts = λ run was. is ∙ ap (λ c. counted c did new.outputs.outputs) was
-      ∙ counted_moment stack plans run (moment_at stack plans w event) new.outputs.outputs old.visits new.visits did h.told;
+      ∙ counted_moment mode stack plans run (moment_at stack plans w event) new.outputs.outputs old.visits new.visits did h.told;
 }
 
-module _ (stack : List LayerTree) (plans : List Plan) (s : Script) where
-  pub counted_more : (k : ℕ) (event : ScriptEvent) (r next : Run) (before after : Counts) → Counted stack plans s k r before → Keeps stack plans r next →
-      IsCounted stack plans (stands_at stack plans s k) event next before after → k < length s.events → event ≡ get_or s.events k event →
-      Counted stack plans s (k + 1) next after
+module _ (mode : Mode) (stack : List LayerTree) (plans : List Plan) (s : Script) where
+  pub counted_more : (k : ℕ) (event : ScriptEvent) (r next : Run) (before after : Counts) → Counted mode stack plans s k r before →
+      Keeps mode stack plans r next →
+      IsCounted mode stack plans (stands_at stack plans s k) event next before after → k < length s.events → event ≡ get_or s.events k event →
+      Counted mode stack plans s (k + 1) next after
   counted_more k event r next before after held kept c lt is = record {
-    stands = stands_next stack plans s k event r next held.stands kept c.world lt is;
-    counts_are = c.counts (front stack plans s k) held.counts_are ∙ ap (counts_of stack plans) (sym (front_more stack plans s k event lt is));
+    stands = stands_next mode stack plans s k event r next held.stands kept c.world lt is;
+    counts_are = c.counts (front stack plans s k) held.counts_are ∙ ap (counts_of mode stack plans) (sym (front_more stack plans s k event lt is));
   }
 
   -- as many events are counted as were played
-  pub events_counted : (k : ℕ) (r : Run) (counts : Counts) → Counted stack plans s k r counts → k ≤ length s.events → counts.events ≡ k
+  pub events_counted : (k : ℕ) (r : Run) (counts : Counts) → Counted mode stack plans s k r counts → k ≤ length s.events → counts.events ≡ k
   events_counted k r counts held le = ap (λ c. c.events) held.counts_are
       ∙ moments_length stack plans (first_world stack s.group s.stamp s.members) (take k s.events) ∙ length-take-le k s.events le
 
-  pub counted_last : (k : ℕ) (r : Run) (counts : Counts) → Counted stack plans s k r counts → length s.events ≤ k →
-      counts ≡ counts_of stack plans (run_of stack plans s)
+  pub counted_last : (k : ℕ) (r : Run) (counts : Counts) → Counted mode stack plans s k r counts → length s.events ≤ k →
+      counts ≡ counts_of mode stack plans (run_of stack plans s)
   counted_last k r counts held all = held.counts_are
-      ∙ ap (λ es. counts_of stack plans (moments stack plans (first_world stack s.group s.stamp s.members) es)) (take_all k s.events all)
+      ∙ ap (λ es. counts_of mode stack plans (moments stack plans (first_world stack s.group s.stamp s.members) es)) (take_all k s.events all)
 
 -- After k events of a workload's script they were made, too, and no more.
-pub record CountedSoFar (stack : List LayerTree) (plans : List Plan) (w : Workload) (k : ℕ) (r : Run) (counts : Counts) (script : Course) : Type 0 where
-  pub counted : Counted stack plans (script_for w) k r counts
+pub record CountedSoFar (mode : Mode) (stack : List LayerTree) (plans : List Plan) (w : Workload) (k : ℕ) (r : Run) (counts : Counts) (script : Course)
+    : Type 0 where
+  pub counted : Counted mode stack plans (script_for w) k r counts
   pub course : script ≡ record { workload = w; made = k }
 
-module _ (stack : List LayerTree) (plans : List Plan) (w : Workload) where
+module _ (mode : Mode) (stack : List LayerTree) (plans : List Plan) (w : Workload) where
   -- the script has as many events as are wanted
   many : length (script_for w).events ≡ w.events
   many = made_length w.seed w.members w.raw w.events
 
-  pub first_counted : (r : Run) (counts : Counts) (script : Course) → IsAtFirst stack plans 1 1 w.members r → counts ≡ no_counts →
-      script ≡ record { workload = w; made = 0 } → CountedSoFar stack plans w 0 r counts script
+  pub first_counted : (r : Run) (counts : Counts) (script : Course) → IsAtFirst mode stack plans 1 1 w.members r → counts ≡ no_counts →
+      script ≡ record { workload = w; made = 0 } → CountedSoFar mode stack plans w 0 r counts script
   first_counted r counts script first none course = record {
-    counted = record { stands = stands_first stack plans (script_for w) r first; counts_are = none };
+    counted = record { stands = stands_first mode stack plans (script_for w) r first; counts_are = none };
     course = course;
   }
 
-  module _ (k : ℕ) (r : Run) (counts : Counts) (script : Course) (held : CountedSoFar stack plans w k r counts script) where
+  module _ (k : ℕ) (r : Run) (counts : Counts) (script : Course) (held : CountedSoFar mode stack plans w k r counts script) where
     pub few_counted : k < w.events → counts.events ≡ k
-    few_counted lt = events_counted stack plans (script_for w) k r counts held.counted (omega (arith, lt, many))
+    few_counted lt = events_counted mode stack plans (script_for w) k r counts held.counted (omega (arith, lt, many))
 
-    pub all_counted : w.events ≤ k → counts ≡ counts_of stack plans (run_of stack plans (script_for w))
-    all_counted all = counted_last stack plans (script_for w) k r counts held.counted (omega (arith, all, many))
+    pub all_counted : w.events ≤ k → counts ≡ counts_of mode stack plans (run_of stack plans (script_for w))
+    all_counted all = counted_last mode stack plans (script_for w) k r counts held.counted (omega (arith, all, many))
 
     module _ (behind : Course) (event : ScriptEvent) (next : IsNext script behind event) where
       -- it is the next event of the script
@@ -90,10 +94,10 @@ module _ (stack : List LayerTree) (plans : List Plan) (w : Workload) where
       one_of_them = let of_member : member_of event < w.members = rw held.course at next.of_member in
           subst (λ n. member_of event < n) (sym held.counted.stands.count) of_member
 
-      pub next_counted : (r' : Run) (after : Counts) → Keeps stack plans r r' →
-          IsCounted stack plans (stands_at stack plans (script_for w) k) event r' counts after → CountedSoFar stack plans w (k + 1) r' after behind
+      pub next_counted : (r' : Run) (after : Counts) → Keeps mode stack plans r r' →
+          IsCounted mode stack plans (stands_at stack plans (script_for w) k) event r' counts after → CountedSoFar mode stack plans w (k + 1) r' after behind
       next_counted r' after kept c = record {
-        counted = counted_more stack plans (script_for w) k event r r' counts after held.counted kept c
+        counted = counted_more mode stack plans (script_for w) k event r r' counts after held.counted kept c
             (slice_get_within (script_for w).events k event next_is) (sym (get_or_from_slice_get (script_for w).events k event event next_is));
         course = next.course ∙ ap (λ c. record { workload = c.workload; made = c.made + 1 }) held.course;
       }

@@ -3,7 +3,7 @@ use Rattle.std.proofs.Common.{◌≡◌, ℕ, ◌+◌, add-zero, Bool, List, len
 use Rattle.std.proofs.lemmas.List.{length-map}
 use Rattle.std.specs.Prelude.{Result, Ok, Err, slice_index_or, Option, Some, None}
 use Rattle.outside.specs.declared.sink.SinkError.{SinkError}
-use Rattle.job_mean.specs.Job.{layered}
+use Rattle.job_mean.specs.Job.{Mode}
 use Rattle.layer_mean.specs.Tree.{LayerTree}
 use Rattle.msg_core.specs.declared.packet.Packet.{Packet}
 use Rattle.packet_mean.specs.Spelling.{full_bytes}
@@ -30,45 +30,46 @@ use Rattle.stack_play.specs.Turns.{moment_at, TellsEvent}
 use Rattle.stack_play.specs.declared.run.Run.{Run}
 
 -- An event happened: the world behind it, and what is told of it.
-pub record Happened (stack : List LayerTree) (plans : List Plan) (w : World) (event : ScriptEvent) (c : Peopled) (outs : List (Output × Option ℕ))
+pub record Happened (mode : Mode) (stack : List LayerTree) (plans : List Plan) (w : World) (event : ScriptEvent) (c : Peopled) (outs : List (Output × Option ℕ))
     (before after : ℕ) (did : Did) : Type 0 where
   pub world : Stands c (happens stack plans w event).world
-  pub told : DidIs stack plans (happens stack plans w event).did outs before after did
+  pub told : DidIs mode stack plans (happens stack plans w event).did outs before after did
 
-pub happened : (stack : List LayerTree) (plans : List Plan) (w : World) (event : ScriptEvent) (c c' : Peopled) (outs : List (Output × Option ℕ))
-    (before after : ℕ) (did : Did) → c.stack ≡ stack → c.plans ≡ plans → IsFed c (happens c.stack c.plans w event) c' outs before after did →
-    Happened stack plans w event c' outs before after did
-happened stack plans w event c c' outs before after did stack_is plans_are f =
-    subst {A = List LayerTree × List Plan} (λ x. Happened x.0 x.1 w event c' outs before after did) (λ k. (stack_is k, plans_are k))
+pub happened : (mode : Mode) (stack : List LayerTree) (plans : List Plan) (w : World) (event : ScriptEvent) (c c' : Peopled) (outs : List (Output × Option ℕ))
+    (before after : ℕ) (did : Did) → c.mode ≡ mode → c.stack ≡ stack → c.plans ≡ plans → IsFed c (happens c.stack c.plans w event) c' outs before after did →
+    Happened mode stack plans w event c' outs before after did
+happened mode stack plans w event c c' outs before after did mode_is stack_is plans_are f =
+    subst {A = Mode × (List LayerTree × List Plan)} (λ x. Happened x.0 x.1.0 x.1.1 w event c' outs before after did)
+    (λ k. (mode_is k, (stack_is k, plans_are k)))
     (record { world = f.world; told = f.told })
 
 -- visits are told on top of those before
-visits_told : (stack : List LayerTree) (plans : List Plan) (h : world.Did) (outs : List (Output × Option ℕ)) (before after : ℕ) (did : Did) →
-    DidIs stack plans h outs before after did → after ≡ before + visits_in layered stack plans h
-visits_told stack plans (world.taken s) outs before after (Stepped (Taken common change)) is = is.visits_are
-visits_told stack plans (world.refused r) outs before after (Stepped (Refused told)) is = is.quiet.visits_are ∙ sym (add-zero before)
-visits_told stack plans world.absent outs before after Absent is = is.visits_are ∙ sym (add-zero before)
-visits_told stack plans world.shown outs before after Shown is = is.visits_are ∙ sym (add-zero before)
-visits_told stack plans (world.taken s) outs before after (Stepped (Refused told)) is = absurd is
-visits_told stack plans (world.taken s) outs before after Absent is = absurd is
-visits_told stack plans (world.taken s) outs before after Shown is = absurd is
-visits_told stack plans (world.refused r) outs before after (Stepped (Taken common change)) is = absurd is
-visits_told stack plans (world.refused r) outs before after Absent is = absurd is
-visits_told stack plans (world.refused r) outs before after Shown is = absurd is
-visits_told stack plans world.absent outs before after (Stepped (Taken common change)) is = absurd is
-visits_told stack plans world.absent outs before after (Stepped (Refused told)) is = absurd is
-visits_told stack plans world.absent outs before after Shown is = absurd is
-visits_told stack plans world.shown outs before after (Stepped (Taken common change)) is = absurd is
-visits_told stack plans world.shown outs before after (Stepped (Refused told)) is = absurd is
-visits_told stack plans world.shown outs before after Absent is = absurd is
+visits_told : (mode : Mode) (stack : List LayerTree) (plans : List Plan) (h : world.Did) (outs : List (Output × Option ℕ)) (before after : ℕ) (did : Did) →
+    DidIs mode stack plans h outs before after did → after ≡ before + visits_in mode stack plans h
+visits_told mode stack plans (world.taken s) outs before after (Stepped (Taken common change)) is = is.visits_are
+visits_told mode stack plans (world.refused r) outs before after (Stepped (Refused told)) is = is.quiet.visits_are ∙ sym (add-zero before)
+visits_told mode stack plans world.absent outs before after Absent is = is.visits_are ∙ sym (add-zero before)
+visits_told mode stack plans world.shown outs before after Shown is = is.visits_are ∙ sym (add-zero before)
+visits_told mode stack plans (world.taken s) outs before after (Stepped (Refused told)) is = absurd is
+visits_told mode stack plans (world.taken s) outs before after Absent is = absurd is
+visits_told mode stack plans (world.taken s) outs before after Shown is = absurd is
+visits_told mode stack plans (world.refused r) outs before after (Stepped (Taken common change)) is = absurd is
+visits_told mode stack plans (world.refused r) outs before after Absent is = absurd is
+visits_told mode stack plans (world.refused r) outs before after Shown is = absurd is
+visits_told mode stack plans world.absent outs before after (Stepped (Taken common change)) is = absurd is
+visits_told mode stack plans world.absent outs before after (Stepped (Refused told)) is = absurd is
+visits_told mode stack plans world.absent outs before after Shown is = absurd is
+visits_told mode stack plans world.shown outs before after (Stepped (Taken common change)) is = absurd is
+visits_told mode stack plans world.shown outs before after (Stepped (Refused told)) is = absurd is
+visits_told mode stack plans world.shown outs before after Absent is = absurd is
 
 -- what is told as a member that is shown is one
-is_shown : (stack : List LayerTree) (plans : List Plan) (h : world.Did) (outs : List (Output × Option ℕ)) (before after : ℕ) →
-    DidIs stack plans h outs before after Shown → h ≡ world.shown
-is_shown stack plans world.shown outs before after is = refl
-is_shown stack plans (world.taken s) outs before after is = absurd is
-is_shown stack plans (world.refused r) outs before after is = absurd is
-is_shown stack plans world.absent outs before after is = absurd is
+is_shown : (mode : Mode) (stack : List LayerTree) (plans : List Plan) (h : world.Did) (outs : List (Output × Option ℕ)) (before after : ℕ) →
+    DidIs mode stack plans h outs before after Shown → h ≡ world.shown
+is_shown mode stack plans world.shown outs before after is = refl
+is_shown mode stack plans (world.taken s) outs before after is = absurd is
+is_shown mode stack plans (world.refused r) outs before after is = absurd is
+is_shown mode stack plans world.absent outs before after is = absurd is
 
 module _ (stack : List LayerTree) (plans : List Plan) (w : World) where
   -- a step shows no member
@@ -94,37 +95,37 @@ module _ (stack : List LayerTree) (plans : List Plan) (w : World) where
   same_world (script.Raw id bytes) is = absurd (step_shows_none id (datagram bytes) (member_at w id) is)
   same_world (script.Show id) is = refl
 
-module _ (stack : List LayerTree) (plans : List Plan) (wire : Bool) (w : World) (event : ScriptEvent) (old new : Run) (did : Did)
-    (h : Happened stack plans w event new.world new.outputs.outputs old.visits new.visits did) where
+module _ (mode : Mode) (stack : List LayerTree) (plans : List Plan) (wire : Bool) (w : World) (event : ScriptEvent) (old new : Run) (did : Did)
+    (h : Happened mode stack plans w event new.world new.outputs.outputs old.visits new.visits did) where
   -- the member that is shown is the one of the world before
   member_shown : (shown : Member) → shown ≡ slice_index_or new.world.members (member_of event) out → did ≡ Shown → shown ≡ member_at w (member_of event)
   member_shown shown is shows =
-      let told : DidIs stack plans (happens stack plans w event).did new.outputs.outputs old.visits new.visits Shown =
-      subst (DidIs stack plans (happens stack plans w event).did new.outputs.outputs old.visits new.visits) shows h.told in
+      let told : DidIs mode stack plans (happens stack plans w event).did new.outputs.outputs old.visits new.visits Shown =
+      subst (DidIs mode stack plans (happens stack plans w event).did new.outputs.outputs old.visits new.visits) shows h.told in
       let same : (happens stack plans w event).world ≡ w =
-      same_world stack plans w event (is_shown stack plans (happens stack plans w event).did new.outputs.outputs old.visits new.visits told) in
+      same_world stack plans w event (is_shown mode stack plans (happens stack plans w event).did new.outputs.outputs old.visits new.visits told) in
       is ∙ ap (λ ms. slice_index_or ms (member_of event) out) (sym h.world.members)
       ∙ ap (λ x. slice_index_or x.members (member_of event) out) same
 
   pub told_event : (shown : Member) (first : ℕ) (a b : Tells) (r : Result (Unit {0}) SinkError) →
       shown ≡ slice_index_or new.world.members (member_of event) out → first ≡ length old.world.spelled + 1 → Stands old.world w →
-      Wrote (told_lines stack plans wire event did new.outputs.outputs shown first) a b r → TellsEvent stack plans wire w event old new a b r
+      Wrote (told_lines stack plans wire event did new.outputs.outputs shown first) a b r → TellsEvent mode stack plans wire w event old new a b r
   told_event shown first a b r is number stands wrote =
       go r (wrote_as a b (told_lines stack plans wire event did new.outputs.outputs shown first)
-      (moment_lines stack plans (mode_if wire layered) (moment_at stack plans w event)) r same wrote) where
+      (moment_lines stack plans (mode_if wire mode) (moment_at stack plans w event)) r same wrote) where
         numbered : first ≡ length w.packets + 1
         numbered = number ∙ ap (λ n. n + 1) (sym (ap length stands.spelled) ∙ length-map w.packets full_bytes)
 
         same : told_lines stack plans wire event did new.outputs.outputs shown first
-            ≡ moment_lines stack plans (mode_if wire layered) (moment_at stack plans w event)
-        same = told_is_moment stack plans wire (moment_at stack plans w event) new.outputs.outputs old.visits new.visits did shown first h.told
+            ≡ moment_lines stack plans (mode_if wire mode) (moment_at stack plans w event)
+        same = told_is_moment mode stack plans wire (moment_at stack plans w event) new.outputs.outputs old.visits new.visits did shown first h.told
             (member_shown shown is) numbered
 
-        go : (r : Result (Unit {0}) SinkError) → Wrote (moment_lines stack plans (mode_if wire layered) (moment_at stack plans w event)) a b r →
-            TellsEvent stack plans wire w event old new a b r
+        go : (r : Result (Unit {0}) SinkError) → Wrote (moment_lines stack plans (mode_if wire mode) (moment_at stack plans w event)) a b r →
+            TellsEvent mode stack plans wire w event old new a b r
         go (Ok done) gained = record {
           world = h.world;
-          visits = visits_told stack plans (happens stack plans w event).did new.outputs.outputs old.visits new.visits did h.told;
+          visits = visits_told mode stack plans (happens stack plans w event).did new.outputs.outputs old.visits new.visits did h.told;
           gained = gained;
         }
         go (Err e) cut = cut

@@ -6,7 +6,7 @@ use Rattle.std.proofs.lemmas.List.Sums.{fold-append}
 use Rattle.std.specs.List.{flat_map, sum_by}
 use Rattle.std.specs.Prelude.{Err}
 use Rattle.outside.specs.declared.sink.SinkError.{SinkError}
-use Rattle.job_mean.specs.Job.{layered}
+use Rattle.job_mean.specs.Job.{Mode}
 use Rattle.layer_mean.specs.Tree.{LayerTree}
 use Rattle.script_mean.specs.declared.event.ScriptEvent.{ScriptEvent}
 use Rattle.script_mean.specs.declared.script.Script.{Script}
@@ -23,27 +23,27 @@ use Rattle.stack_play.specs.declared.run.Run.{Run}
 use Rattle.stack_play.proofs.Moments.{stands_at, front, front_more, stands_more, rest, whole}
 
 -- The lines of a moment, and its visits.
-abbrev pub lines_at : List LayerTree → List Plan → Bool → Moment → List (List ℕ)
-lines_at stack plans wire = moment_lines stack plans (mode_if wire layered)
+abbrev pub lines_at : Mode → List LayerTree → List Plan → Bool → Moment → List (List ℕ)
+lines_at mode stack plans wire = moment_lines stack plans (mode_if wire mode)
 
-abbrev pub visits_at : List LayerTree → List Plan → Moment → ℕ
-visits_at stack plans = visits_of layered stack plans
+abbrev pub visits_at : Mode → List LayerTree → List Plan → Moment → ℕ
+visits_at mode stack plans = visits_of mode stack plans
 
 -- After k events a run stands at their world, with as many members as at first and their visits.
-pub record StandsAt (stack : List LayerTree) (plans : List Plan) (s : Script) (k : ℕ) (r : Run) : Type 0 where
-  pub ready : IsReady stack plans r
+pub record StandsAt (mode : Mode) (stack : List LayerTree) (plans : List Plan) (s : Script) (k : ℕ) (r : Run) : Type 0 where
+  pub ready : IsReady mode stack plans r
   pub count : length r.world.members ≡ s.members
   pub world : Stands r.world (stands_at stack plans s k)
   pub few : r.visits ≤ k * 65536
 
 -- The sink gained their lines.
-pub record Held (stack : List LayerTree) (plans : List Plan) (wire : Bool) (s : Script) (k : ℕ) (r : Run) (a b : Tells) : Type 0 where
-  pub stands : StandsAt stack plans s k r
-  pub visits : r.visits ≡ sum_by (visits_at stack plans) (front stack plans s k)
-  pub gained : Gains a b (flat_map (lines_at stack plans wire) (front stack plans s k))
+pub record Held (mode : Mode) (stack : List LayerTree) (plans : List Plan) (wire : Bool) (s : Script) (k : ℕ) (r : Run) (a b : Tells) : Type 0 where
+  pub stands : StandsAt mode stack plans s k r
+  pub visits : r.visits ≡ sum_by (visits_at mode stack plans) (front stack plans s k)
+  pub gained : Gains a b (flat_map (lines_at mode stack plans wire) (front stack plans s k))
 
-module _ (stack : List LayerTree) (plans : List Plan) (s : Script) where
-  pub stands_first : (r : Run) → IsAtFirst stack plans s.group s.stamp s.members r → StandsAt stack plans s 0 r
+module _ (mode : Mode) (stack : List LayerTree) (plans : List Plan) (s : Script) where
+  pub stands_first : (r : Run) → IsAtFirst mode stack plans s.group s.stamp s.members r → StandsAt mode stack plans s 0 r
   stands_first r first = let none = first.visits in record {
     ready = first.ready;
     count = first.count;
@@ -51,8 +51,9 @@ module _ (stack : List LayerTree) (plans : List Plan) (s : Script) where
     few = omega (arith, none);
   }
 
-  pub stands_next : (k : ℕ) (event : ScriptEvent) (r next : Run) → StandsAt stack plans s k r → Keeps stack plans r next →
-      Stands next.world (happens stack plans (stands_at stack plans s k) event).world → k < length s.events → event ≡ get_or s.events k event → StandsAt stack plans s (k + 1) next
+  pub stands_next : (k : ℕ) (event : ScriptEvent) (r next : Run) → StandsAt mode stack plans s k r → Keeps mode stack plans r next →
+      Stands next.world (happens stack plans (stands_at stack plans s k) event).world → k < length s.events → event ≡ get_or s.events k event →
+      StandsAt mode stack plans s (k + 1) next
   stands_next k event r next held kept world lt is = let few = held.few in let more = kept.few in record {
     ready = kept.ready;
     count = kept.count ∙ held.count;
@@ -61,44 +62,44 @@ module _ (stack : List LayerTree) (plans : List Plan) (s : Script) where
   }
 
   module _ (wire : Bool) where
-    pub held_first : (r : Run) (a : Tells) → IsAtFirst stack plans s.group s.stamp s.members r → Held stack plans wire s 0 r a a
+    pub held_first : (r : Run) (a : Tells) → IsAtFirst mode stack plans s.group s.stamp s.members r → Held mode stack plans wire s 0 r a a
     held_first r a first = record { stands = stands_first r first; visits = first.visits; gained = gains_none a }
 
     module _ (k : ℕ) (event : ScriptEvent) (lt : k < length s.events) (is : event ≡ get_or s.events k event) where
       abbrev m : Moment
       m = moment_at stack plans (stands_at stack plans s k) event
 
-      lines_more : flat_map (lines_at stack plans wire) (front stack plans s (k + 1))
-          ≡ flat_map (lines_at stack plans wire) (front stack plans s k) ++ lines_at stack plans wire m
-      lines_more = ap (flat_map (lines_at stack plans wire)) (front_more stack plans s k event lt is)
-          ∙ flat_map-append (lines_at stack plans wire) (front stack plans s k) (m ∷ [])
-          ∙ ap (λ ls. flat_map (lines_at stack plans wire) (front stack plans s k) ++ ls) (append-nil (lines_at stack plans wire m))
+      lines_more : flat_map (lines_at mode stack plans wire) (front stack plans s (k + 1))
+          ≡ flat_map (lines_at mode stack plans wire) (front stack plans s k) ++ lines_at mode stack plans wire m
+      lines_more = ap (flat_map (lines_at mode stack plans wire)) (front_more stack plans s k event lt is)
+          ∙ flat_map-append (lines_at mode stack plans wire) (front stack plans s k) (m ∷ [])
+          ∙ ap (λ ls. flat_map (lines_at mode stack plans wire) (front stack plans s k) ++ ls) (append-nil (lines_at mode stack plans wire m))
 
-      visits_more : sum_by (visits_at stack plans) (front stack plans s (k + 1))
-          ≡ sum_by (visits_at stack plans) (front stack plans s k) + visits_at stack plans m
-      visits_more = ap (sum_by (visits_at stack plans)) (front_more stack plans s k event lt is)
-          ∙ fold-append (λ n x. n + visits_at stack plans x) 0 (front stack plans s k) (m ∷ [])
+      visits_more : sum_by (visits_at mode stack plans) (front stack plans s (k + 1))
+          ≡ sum_by (visits_at mode stack plans) (front stack plans s k) + visits_at mode stack plans m
+      visits_more = ap (sum_by (visits_at mode stack plans)) (front_more stack plans s k event lt is)
+          ∙ fold-append (λ n x. n + visits_at mode stack plans x) 0 (front stack plans s k) (m ∷ [])
 
-      pub held_more : (r next : Run) (a b c : Tells) → Held stack plans wire s k r a b → Keeps stack plans r next →
-          IsTold stack plans wire (stands_at stack plans s k) event r next b c → Held stack plans wire s (k + 1) next a c
+      pub held_more : (r next : Run) (a b c : Tells) → Held mode stack plans wire s k r a b → Keeps mode stack plans r next →
+          IsTold mode stack plans wire (stands_at stack plans s k) event r next b c → Held mode stack plans wire s (k + 1) next a c
       held_more r next a b c held kept told = record {
         stands = stands_next k event r next held.stands kept told.world lt is;
-        visits = told.visits ∙ ap (λ n. n + visits_at stack plans m) held.visits ∙ sym visits_more;
+        visits = told.visits ∙ ap (λ n. n + visits_at mode stack plans m) held.visits ∙ sym visits_more;
         gained = gains_then a b c _ _ _ held.gained told.gained lines_more;
       }
 
-      pub held_cut : (r : Run) (a b c : Tells) (e : SinkError) → Held stack plans wire s k r a b → Wrote (lines_at stack plans wire m) b c (Err e) →
-          Wrote (flat_map (lines_at stack plans wire) (run_of stack plans s)) a c (Err e)
-      held_cut r a b c e held cut = cut_short a b c _ _ _ (flat_map (lines_at stack plans wire) (rest stack plans s k event lt is)) e held.gained cut
-          (ap (flat_map (lines_at stack plans wire)) (whole stack plans s k event lt is)
-          ∙ flat_map-append (lines_at stack plans wire) (front stack plans s (k + 1)) (rest stack plans s k event lt is)
-          ∙ ap (λ ls. ls ++ flat_map (lines_at stack plans wire) (rest stack plans s k event lt is)) lines_more)
+      pub held_cut : (r : Run) (a b c : Tells) (e : SinkError) → Held mode stack plans wire s k r a b → Wrote (lines_at mode stack plans wire m) b c (Err e) →
+          Wrote (flat_map (lines_at mode stack plans wire) (run_of stack plans s)) a c (Err e)
+      held_cut r a b c e held cut = cut_short a b c _ _ _ (flat_map (lines_at mode stack plans wire) (rest stack plans s k event lt is)) e held.gained cut
+          (ap (flat_map (lines_at mode stack plans wire)) (whole stack plans s k event lt is)
+          ∙ flat_map-append (lines_at mode stack plans wire) (front stack plans s (k + 1)) (rest stack plans s k event lt is)
+          ∙ ap (λ ls. ls ++ flat_map (lines_at mode stack plans wire) (rest stack plans s k event lt is)) lines_more)
 
-    pub held_last : (k : ℕ) (r : Run) (a b : Tells) → Held stack plans wire s k r a b → length s.events ≤ k →
-        Gains a b (flat_map (lines_at stack plans wire) (run_of stack plans s)) × (r.visits ≡ sum_by (visits_at stack plans) (run_of stack plans s))
+    pub held_last : (k : ℕ) (r : Run) (a b : Tells) → Held mode stack plans wire s k r a b → length s.events ≤ k →
+        Gains a b (flat_map (lines_at mode stack plans wire) (run_of stack plans s)) × (r.visits ≡ sum_by (visits_at mode stack plans) (run_of stack plans s))
     held_last k r a b held all =
         let same : front stack plans s k ≡ run_of stack plans s =
         ap (moments stack plans (first_world stack s.group s.stamp s.members)) (take_all k s.events all) in (
-          subst (λ ms. Gains a b (flat_map (lines_at stack plans wire) ms)) same held.gained,
-          held.visits ∙ ap (sum_by (visits_at stack plans)) same,
+          subst (λ ms. Gains a b (flat_map (lines_at mode stack plans wire) ms)) same held.gained,
+          held.visits ∙ ap (sum_by (visits_at mode stack plans)) same,
         )

@@ -4,7 +4,7 @@ use Rattle.std.specs.List.{flat_map, sum_by}
 use Rattle.std.specs.Prelude.{Result, Ok, Err}
 use Rattle.outside.specs.declared.sink.SinkError.{SinkError}
 use Rattle.outside.specs.declared.sink.SinkError.TheVariants.{Failed, Memory}
-use Rattle.job_mean.specs.Job.{layered}
+use Rattle.job_mean.specs.Job.{Mode}
 use Rattle.layer_mean.specs.Tree.{LayerTree}
 use Rattle.program_mean.specs.Output.{HasRoom}
 use Rattle.script_mean.specs.declared.script.Script.{Script}
@@ -17,13 +17,13 @@ use Rattle.stack_play.specs.Turns.{visits_if}
 use Rattle.stack_play.proofs.Held.{lines_at, visits_at}
 
 -- The output of a script: the lines of its moments, and the last ones.
-pub output_is : (stack : List LayerTree) (plans : List Plan) (s : Script) (wire count : Bool) →
-    output_in stack plans s layered wire count
-    ≡ flat_map (lines_at stack plans wire) (run_of stack plans s)
-    ++ end_line (length s.events) ∷ visits_if count (sum_by (visits_at stack plans) (run_of stack plans s))
+pub output_is : (mode : Mode) (stack : List LayerTree) (plans : List Plan) (s : Script) (wire count : Bool) →
+    output_in stack plans s mode wire count
+    ≡ flat_map (lines_at mode stack plans wire) (run_of stack plans s)
+    ++ end_line (length s.events) ∷ visits_if count (sum_by (visits_at mode stack plans) (run_of stack plans s))
 unfolding output_in
-output_is stack plans s wire true = refl
-output_is stack plans s wire false = refl
+output_is mode stack plans s wire true = refl
+output_is mode stack plans s wire false = refl
 
 -- Lines that were written over a stack whose members have room, as another stack and plans that are the same see it.
 pub plays : (lines : List LayerTree → List Plan → List (List ℕ)) (stack own : List LayerTree) (plans own_plans : List Plan) (members : ℕ) (a b : Tells)

@@ -6,7 +6,7 @@ use Rattle.layer_mean.specs.Tree.{LayerTree}
 use Rattle.script_mean.specs.declared.event.ScriptEvent.{ScriptEvent}
 use Rattle.stack_mean.specs.Acceptance.{largest_weight}
 use Rattle.stack_mean.specs.Plan.{Plan}
-use Rattle.job_mean.specs.Job.{layered}
+use Rattle.job_mean.specs.Job.{Mode}
 use Rattle.run_mean.specs.Report.{Moment, mode_if, moment_lines, visits_in, visits_line}
 use Rattle.run_mean.specs.World.{World, first_world, happens}
 use Rattle.outside.specs.Lines.{Gains, Wrote}
@@ -16,8 +16,9 @@ use Rattle.report_text.specs.declared.counts.Counts.{Counts}
 use Rattle.group_feed.specs.Standing.{Stands}
 use Rattle.stack_play.specs.declared.run.Run.{Run}
 
--- A run is over this stack with these plans, and has room for the outputs of a step.
-pub record IsReady (stack : List LayerTree) (plans : List Plan) (r : Run) : Type 0 where
+-- A run in a mode is over this stack with these plans, and has room for the outputs of a step.
+pub record IsReady (mode : Mode) (stack : List LayerTree) (plans : List Plan) (r : Run) : Type 0 where
+  pub mode_is : r.world.mode ≡ mode
   pub stack_is : r.world.stack ≡ stack
   pub plans_are : r.world.plans ≡ plans
   pub places : r.outputs.places ≡ largest_weight stack
@@ -27,16 +28,16 @@ pub record SomeWorld (r : Run) : Type 0 where
   pub world : World
   pub stands : Stands r.world world
 
--- It is where a group of so many members begins.
-pub record IsAtFirst (stack : List LayerTree) (plans : List Plan) (group stamp members : ℕ) (r : Run) : Type 0 where
-  pub ready : IsReady stack plans r
+-- It is where a group of so many members begins in a mode.
+pub record IsAtFirst (mode : Mode) (stack : List LayerTree) (plans : List Plan) (group stamp members : ℕ) (r : Run) : Type 0 where
+  pub ready : IsReady mode stack plans r
   pub world : Stands r.world (first_world stack group stamp members)
   pub count : length r.world.members ≡ members
   pub visits : r.visits ≡ 0
 
 -- An event leaves a run ready, with as many members, and adds few visits.
-pub record Keeps (stack : List LayerTree) (plans : List Plan) (old new : Run) : Type 0 where
-  pub ready : IsReady stack plans new
+pub record Keeps (mode : Mode) (stack : List LayerTree) (plans : List Plan) (old new : Run) : Type 0 where
+  pub ready : IsReady mode stack plans new
   pub count : length new.world.members ≡ length old.world.members
   pub few : new.visits ≤ old.visits + 65536
 
@@ -45,27 +46,30 @@ abbrev pub moment_at : List LayerTree → List Plan → World → ScriptEvent �
 moment_at stack plans w event = record { before = w; event = event; happening = happens stack plans w event }
 
 -- An event was played and its lines are written: the run stands at the world behind it, and its visits are counted.
-pub record IsTold (stack : List LayerTree) (plans : List Plan) (wire : Bool) (w : World) (event : ScriptEvent) (old new : Run) (before after : Tells)
-    : Type 0 where
+pub record IsTold (mode : Mode) (stack : List LayerTree) (plans : List Plan) (wire : Bool) (w : World) (event : ScriptEvent) (old new : Run)
+    (before after : Tells) : Type 0 where
   pub world : Stands new.world (happens stack plans w event).world
-  pub visits : new.visits ≡ old.visits + visits_in layered stack plans (happens stack plans w event).did
-  pub gained : Gains before after (moment_lines stack plans (mode_if wire layered) (moment_at stack plans w event))
+  pub visits : new.visits ≡ old.visits + visits_in mode stack plans (happens stack plans w event).did
+  pub gained : Gains before after (moment_lines stack plans (mode_if wire mode) (moment_at stack plans w event))
 
 -- It was, or its lines were cut short.
-abbrev pub TellsEvent : List LayerTree → List Plan → Bool → World → ScriptEvent → (old new : Run) → (before after : Tells) →
+abbrev pub TellsEvent : Mode → List LayerTree → List Plan → Bool → World → ScriptEvent → (old new : Run) → (before after : Tells) →
     Result (Unit {0}) SinkError → Type 0
-TellsEvent stack plans wire w event old new before after (Ok done) = IsTold stack plans wire w event old new before after
-TellsEvent stack plans wire w event old new before after (Err e) =
-    Wrote (moment_lines stack plans (mode_if wire layered) (moment_at stack plans w event)) before after (Err e)
+TellsEvent mode stack plans wire w event old new before after (Ok done) = IsTold mode stack plans wire w event old new before after
+TellsEvent mode stack plans wire w event old new before after (Err e) =
+    Wrote (moment_lines stack plans (mode_if wire mode) (moment_at stack plans w event)) before after (Err e)
 
 -- An event was played and its lines are counted, behind those of any run.
-pub record IsCounted (stack : List LayerTree) (plans : List Plan) (w : World) (event : ScriptEvent) (new : Run) (before after : Counts) : Type 0 where
+pub record IsCounted (mode : Mode) (stack : List LayerTree) (plans : List Plan) (w : World) (event : ScriptEvent) (new : Run) (before after : Counts)
+    : Type 0 where
   pub world : Stands new.world (happens stack plans w event).world
-  pub counts : (run : List Moment) → before ≡ counts_of stack plans run → after ≡ counts_of stack plans (run ++ moment_at stack plans w event ∷ [])
+  pub counts : (run : List Moment) → before ≡ counts_of mode stack plans run →
+      after ≡ counts_of mode stack plans (run ++ moment_at stack plans w event ∷ [])
 
-abbrev pub CountsEvent : List LayerTree → List Plan → World → ScriptEvent → (new : Run) → (before after : Counts) → Result (Unit {0}) Memory → Type 0
-CountsEvent stack plans w event new before after (Ok done) = IsCounted stack plans w event new before after
-CountsEvent stack plans w event new before after (Err memory) = Unit {0}
+abbrev pub CountsEvent : Mode → List LayerTree → List Plan → World → ScriptEvent → (new : Run) → (before after : Counts) →
+    Result (Unit {0}) Memory → Type 0
+CountsEvent mode stack plans w event new before after (Ok done) = IsCounted mode stack plans w event new before after
+CountsEvent mode stack plans w event new before after (Err memory) = Unit {0}
 
 -- The line of how many visits were counted, where it is wanted.
 abbrev pub visits_if : Bool → ℕ → List (List ℕ)

@@ -77,7 +77,7 @@ fn write_counts<O: Sink>(
     workload: Workload,
     out: &mut O,
 ) -> Result<(), SinkError>
-    requires first { IsAtFirst (stack_tree stack.now) (plans_tree plans.now) GROUP STAMP workload.members run.old }
+    requires first { IsAtFirst layered (stack_tree stack.now) (plans_tree plans.now) GROUP STAMP workload.members run.old }
     requires members { (1 ≤ workload.members) × (workload.members ≤ most_members) }
     requires few { workload.events ≤ most_events }
     ensures { Wrote (tally (stack_tree stack.now) (plans_tree plans.now) layered (script_for workload))
@@ -99,12 +99,12 @@ fn count_events(
     workload: Workload,
     counts: &mut Tally,
 ) -> Result<(), Memory>
-    requires first { IsAtFirst (stack_tree stack.now) (plans_tree plans.now) GROUP STAMP workload.members run.old }
+    requires first { IsAtFirst layered (stack_tree stack.now) (plans_tree plans.now) GROUP STAMP workload.members run.old }
     requires members { (1 ≤ workload.members) × (workload.members ≤ most_members) }
     requires few { workload.events ≤ most_events }
     requires nothing { counts.old ≡ no_counts }
     ensures { OnOk result (counts.new
-        ≡ counts_of (stack_tree stack.now) (plans_tree plans.now) (run_of (stack_tree stack.now) (plans_tree plans.now) (script_for workload))) }
+        ≡ counts_of layered (stack_tree stack.now) (plans_tree plans.now) (run_of (stack_tree stack.now) (plans_tree plans.now) (script_for workload))) }
 {
     let mut script = Generation::begin(alloc, workload)?;
     for _ in 0..workload.events {
@@ -123,13 +123,13 @@ fn count_event(
     event: &ScriptEvent,
     counts: &mut Tally,
 ) -> Result<(), Memory>
-    requires ready { IsReady (stack_tree stack.now) (plans_tree _plans.now) run.old }
+    requires ready { IsReady layered (stack_tree stack.now) (plans_tree _plans.now) run.old }
     requires member { member_of event.now < length run.old.world.members }
     requires visits { run.old.visits ≤ 2 ^ 63 }
     requires events { counts.old.events < 2 ^ 32 }
-    ensures kept { Keeps (stack_tree stack.now) (plans_tree _plans.now) run.old run.new }
+    ensures kept { Keeps layered (stack_tree stack.now) (plans_tree _plans.now) run.old run.new }
     ensures counted { (w : mean.World) → Stands run.old.world w →
-        CountsEvent (stack_tree stack.now) (plans_tree _plans.now) w event.now run.new counts.old counts.new result }
+        CountsEvent layered (stack_tree stack.now) (plans_tree _plans.now) w event.now run.new counts.old counts.new result }
 {
     let did = run.world.feed(event, &mut run.outputs, &mut run.visits)?;
     an_accepted_stack_is_light(stack);

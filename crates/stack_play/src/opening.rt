@@ -26,18 +26,23 @@ fn prepare(alloc: Global, stack: Stack) -> Result<Parts, Memory>
 {
     let (maker, stack) = Maker::of(alloc, stack)?;
     let stack = NamedStack::of(alloc, stack)?;
-    let StackShapes { plans, entries } = StackShapes::of(alloc, stack.stack())?;
+    let StackShapes {
+        plans,
+        starts,
+        entries,
+    } = StackShapes::of(alloc, stack.stack())?;
     let outputs = Outputs::fresh(alloc, stack.stack())?;
     Ok(Parts {
         maker,
         stack,
         plans: Rc::new(alloc, plans)?,
         entries: Rc::new(alloc, entries)?,
+        starts,
         outputs,
     })
 }
 
-/// Opens a group of so many members over a stack.
+/// Opens a group of so many members over a stack, which run it layer by layer.
 pub fn open(
     alloc: Global,
     stack: Stack,
@@ -54,6 +59,7 @@ pub fn open(
         stack,
         plans,
         entries,
+        starts,
         outputs,
     } = match prepare(alloc, stack) {
         Ok(parts) => parts,
@@ -63,6 +69,8 @@ pub fn open(
         stack: stack.stack(),
         plans: &plans,
         entries: &entries,
+        starts,
+        codes: None,
         group,
         stamp,
     };

@@ -73,7 +73,7 @@ fn write_report<O: Sink>(
     count: bool,
     out: &mut O,
 ) -> Result<(), SinkError>
-    requires first { IsAtFirst (stack_tree manner.stack.now) (plans_tree manner.plans.now) script.now.group script.now.stamp
+    requires first { IsAtFirst layered (stack_tree manner.stack.now) (plans_tree manner.plans.now) script.now.group script.now.stamp
         script.now.members run.old }
     requires runs { IsRunnable script.now }
     requires few { length script.now.events ≤ most_events }
@@ -112,7 +112,7 @@ fn write_events<O: Sink>(
     script: &Script,
     out: &mut O,
 ) -> Result<(), SinkError>
-    requires first { IsAtFirst (stack_tree manner.stack.now) (plans_tree manner.plans.now) script.now.group script.now.stamp
+    requires first { IsAtFirst layered (stack_tree manner.stack.now) (plans_tree manner.plans.now) script.now.group script.now.stamp
         script.now.members run.old }
     requires runs { IsRunnable script.now }
     requires few { length script.now.events ≤ most_events }
@@ -137,13 +137,13 @@ fn play_event<O: Sink>(
     event: &ScriptEvent,
     out: &mut O,
 ) -> Result<(), SinkError>
-    requires ready { IsReady (stack_tree manner.stack.now) (plans_tree manner.plans.now) run.old }
+    requires ready { IsReady layered (stack_tree manner.stack.now) (plans_tree manner.plans.now) run.old }
     requires world { SomeWorld run.old }
     requires member { member_of event.now < length run.old.world.members }
     requires visits { run.old.visits ≤ 2 ^ 63 }
-    ensures kept { Keeps (stack_tree manner.entry.stack.now) (plans_tree manner.entry.plans.now) run.old run.new }
+    ensures kept { Keeps layered (stack_tree manner.entry.stack.now) (plans_tree manner.entry.plans.now) run.old run.new }
     ensures told { (w : mean.World) → Stands run.old.world w →
-        TellsEvent (stack_tree manner.entry.stack.now) (plans_tree manner.entry.plans.now) manner.entry.wire w event.now run.old run.new
+        TellsEvent layered (stack_tree manner.entry.stack.now) (plans_tree manner.entry.plans.now) manner.entry.wire w event.now run.old run.new
         (tells_of O.Sink out.old) (tells_of O.Sink out.new) result }
 {
     let first = run.world.next_number();

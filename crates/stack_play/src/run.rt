@@ -3,7 +3,7 @@
 use file_layer::Maker;
 use report_lines::NamedStack;
 use report_text::Pen;
-use stack_shapes::{EntryShapes, Plans};
+use stack_shapes::{EntryShapes, PlanStarts, Plans};
 use std::rc::Rc;
 use step_outputs::Outputs;
 use world_core::World;
@@ -15,6 +15,7 @@ pub(crate) struct Parts {
     pub stack: NamedStack,
     pub plans: Rc<Plans>,
     pub entries: Rc<EntryShapes>,
+    pub starts: PlanStarts,
     pub outputs: Outputs,
 }
 
