@@ -11,10 +11,7 @@ use Rattle.report_lines.proofs.Joined.{join_step, line_more}
 use Rattle.report_lines.specs.Lead.{lead}
 use Rattle.synth_print.specs.Headers.{atom_texts, joined}
 use Rattle.synth_print.specs.Operations.{core_of, last_part, listed_cores, listed_rows, number_texts, pushed_of}
-use Rattle.synth_print.specs.Written.{row_called, written_tree}
-use Rattle.synth_print.specs.declared.written.Written as code
-use Rattle.trace_core.specs.Arena.{IsNumber}
-use Rattle.trace_core.specs.Operations.{AllNumbers, operation_in}
+use Rattle.trace_core.specs.Operations.{operation_in}
 use Rattle.trace_core.specs.View.{Term, atom_tree, number_in}
 use Rattle.trace_core.specs.declared.node.Atom.{Atom}
 use Rattle.trace_core.specs.declared.operation.Chained.{Chained}
@@ -108,16 +105,7 @@ rows_listed stack w ts cs ks (Some m) r old new put =
     (joined (number_texts stack w ts ks ++ pushed_of stack w cs m ∷ []))
     (all_parts (number_texts stack w ts ks) (length ks) (Some (pushed_of stack w cs m)) (sym (many_numbers stack w ts ks))) put
 
--- one of numbers that are all there
-pub number_among : (ts : List Term) (ks : List ℕ) (k n : ℕ) → AllNumbers ts ks → k < length ks → n ≡ get_or ks k 0 → IsNumber ts n
-number_among ts [] k n all lt is = absurd (omega (arith, lt))
-number_among ts (x ∷ ks) zero n all lt is = subst (λ m. IsNumber ts m) (sym is) all.0
-number_among ts (x ∷ ks) (suc k) n all lt is = number_among ts ks k n all.1 (omega (arith, lt)) is
-
--- as many rows are named as were taken
-pub many_rows : (stack : List LayerTree) (w : code.Written) (n : ℕ) → n ≡ length w.rows.items → n ≡ length (written_tree stack w).rows
-many_rows stack w n is = is ∙ sym (length-map w.rows.items (row_called stack))
-
+-- a number of a list
 pub number_text_at : (stack : List LayerTree) (w : Written) (ts : List Term) (ks : List ℕ) (k n : ℕ) → k < length ks → n ≡ get_or ks k 0 →
     number_text stack w (number_in ts n) ≡ get_or (number_texts stack w ts ks) k []
 number_text_at stack w ts ks k n lt is =

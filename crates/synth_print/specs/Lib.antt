@@ -3,7 +3,8 @@ pub mod Counts
 pub mod Entries
 pub mod Headers
 pub mod Lines
-pub mod Nodes
 pub mod Operations
+pub mod Parts
 pub mod Texts
+pub mod Within
 pub mod Written

@@ -19,6 +19,10 @@ ended lines = map ended_line lines
 abbrev pub bare : Written → Written
 bare w = record w { lines = [] }
 
+-- With one more taken row, whose numbers are called so.
+abbrev pub with_row : List (List ℕ) → Written → Written
+with_row called w = record w { rows = w.rows ++ called ∷ [] }
+
 -- The line of an operation, where it has one.
 abbrev pub done_lines : List LayerTree → Written → Operation → List (List ℕ)
 done_lines stack w o = ended (map done_line (writes false stack w o).lines)

@@ -1,26 +1,58 @@
 -- What operations may name, as the code keeps it.
-use Rattle.std.specs.Prelude.{ℕ, List, [], map}
+use Rattle.std.specs.Prelude.{ℕ, List, [], ◌∷◌, ◌++◌, map, take}
+use Rattle.std.specs.List.{fold}
 use Rattle.layer_mean.specs.Tree.{LayerTree}
 use Rattle.trace_mean.specs.Fuse.{form_at}
 use Rattle.bypass_mean.specs.Text as mean
-use Rattle.bypass_mean.specs.Text.{layer_of, numbers_called}
+use Rattle.bypass_mean.specs.Text.{layer_of, message_text, numbers_called}
 use Rattle.synth_print.specs.declared.written.Note.{Note}
 use Rattle.synth_print.specs.declared.written.Spot.{Spot}
 use Rattle.synth_print.specs.declared.written.Written.{Written}
+use Rattle.trace_core.specs.View.{Term, message_in}
 
--- How the numbers of a taken row are called.
+-- How the numbers of taken rows are called.
 abbrev pub row_called : List LayerTree → Spot → List (List ℕ)
-row_called stack row = numbers_called (form_at (layer_of stack row.place) row.cell)
+row_called stack spot = numbers_called (form_at (layer_of stack spot.place) spot.cell)
 
--- How a noted message is written.
-abbrev pub note_text : Note → List ℕ
-note_text note = note.text.items
+abbrev pub rows_called : List LayerTree → List Spot → List (List (List ℕ))
+rows_called stack spots = map (row_called stack) spots
 
--- The same, without the lines so far.
-abbrev pub written_tree : List LayerTree → Written → mean.Written
-written_tree stack w = record {
-  binds = w.binds;
-  rows = map (row_called stack) w.rows.items;
-  notes = map note_text w.notes.items;
+-- What the message of a note may name: the rows before it, and messages that are written so.
+abbrev pub before_note : List LayerTree → List Spot → List (List ℕ) → Note → mean.Written
+before_note stack spots texts note = record {
+  binds = 0;
+  rows = rows_called stack (take note.rows spots);
+  notes = texts;
   lines = [];
 }
+
+-- How the message of a note is written.
+abbrev pub note_text : List LayerTree → List Term → List Spot → List (List ℕ) → Note → List ℕ
+note_text stack ts spots texts note = message_text stack (before_note stack spots texts note) (message_in ts note.message)
+
+-- How the messages of notes are written, each of which may name those before it.
+abbrev pub with_text : List LayerTree → List Term → List Spot → List (List ℕ) → Note → List (List ℕ)
+with_text stack ts spots texts note = texts ++ note_text stack ts spots texts note ∷ []
+
+unfoldable pub note_texts : List LayerTree → List Term → List Spot → List Note → List (List ℕ)
+note_texts stack ts spots noted = fold (with_text stack ts spots) [] noted
+
+-- What may be named, where it may be so many first rows and notes; and where it may be all.
+abbrev pub written_first : List LayerTree → List Term → Written → (many_rows many_notes : ℕ) → mean.Written
+written_first stack ts w many_rows many_notes = record {
+  binds = w.binds;
+  rows = rows_called stack (take many_rows w.rows.items);
+  notes = note_texts stack ts w.rows.items (take many_notes w.notes.items);
+  lines = [];
+}
+
+abbrev pub written_all : List LayerTree → List Term → ℕ → List Spot → List Note → mean.Written
+written_all stack ts many spots noted = record {
+  binds = many;
+  rows = rows_called stack spots;
+  notes = note_texts stack ts spots noted;
+  lines = [];
+}
+
+abbrev pub written_tree : List LayerTree → List Term → Written → mean.Written
+written_tree stack ts w = written_all stack ts w.binds w.rows.items w.notes.items

@@ -6,17 +6,18 @@ ghost use Rattle.event_graph.specs.Answer.{stack_tree};
 ghost use Rattle.layer_mean.specs.Headers.{declared};
 ghost use Rattle.synth_print.specs.Cells.{layer_or_none};
 ghost use Rattle.synth_print.specs.Headers.{atom_texts, header_called, header_front, joined, more_links};
-ghost use Rattle.synth_print.specs.Written.{written_tree};
-ghost use Rattle.trace_core.specs.Links.{IsChain, chain_in, chains, link_tree};
+ghost use Rattle.synth_print.specs.Texts.{chains_in, layers_in, written_in};
+ghost use Rattle.trace_core.specs.Links.{IsChain, chain_in, link_tree};
 ghost use Rattle.trace_core.specs.Operations.{chained_in};
 
-use crate::atoms::{push_atom, push_core};
+use crate::atoms::push_atom;
 use crate::cells::layer_at;
-use crate::written::Written;
+use crate::numbers::push_core;
+use crate::scope::Scope;
 use event_graph::Stack;
 use msg_core::Memory;
 use report_lines::{Line, push_lead};
-use trace_core::{Atoms, Chained, Link, Links};
+use trace_core::{Atoms, Chained, Link};
 use typed_layer::TypedLayer;
 
 /// The name of a layer that there may be.
@@ -70,65 +71,48 @@ pub(crate) fn push_front(
 
 /// An atom of a list, if there is one.
 #[tactic(auto, using(crate::proofs::Joins::atom_there, crate::proofs::Joins::atom_missing))]
-fn push_some(
-    line: &mut Line,
-    stack: &Stack,
-    written: &Written,
-    atoms: &Atoms,
-    k: u32,
-) -> Result<(), Memory>
-    ensures { OnOk result (line.new ≡ line.old ++ slice_index_or (atom_texts (written_tree (stack_tree stack.now) written.now) atoms.now) k []) }
+fn push_some(line: &mut Line, scope: &Scope<'_>, atoms: &Atoms, k: u32) -> Result<(), Memory>
+    ensures { OnOk result (line.new ≡ line.old ++ slice_index_or (atom_texts (written_in scope.now) atoms.now) k []) }
 {
     match atoms.get(k) {
-        Some(atom) => push_atom(line, stack, written, atom),
+        Some(atom) => push_atom(line, scope, atom),
         None => Ok(()),
     }
 }
 
 /// Atoms, with commas between.
-pub(crate) fn push_atoms(
-    line: &mut Line,
-    stack: &Stack,
-    written: &Written,
-    atoms: &Atoms,
-) -> Result<(), Memory>
-    ensures { OnOk result (line.new ≡ line.old ++ joined (atom_texts (written_tree (stack_tree stack.now) written.now) atoms.now)) }
+pub(crate) fn push_atoms(line: &mut Line, scope: &Scope<'_>, atoms: &Atoms) -> Result<(), Memory>
+    ensures { OnOk result (line.new ≡ line.old ++ joined (atom_texts (written_in scope.now) atoms.now)) }
 {
     for k in 0..atoms.len() {
         push_lead(line, b",", k)?;
-        push_some(line, stack, written, atoms, k)?;
+        push_some(line, scope, atoms, k)?;
     }
     Ok(())
 }
 
 /// `LAYER.HEADER(F,F)`
-fn push_link(line: &mut Line, stack: &Stack, written: &Written, link: &Link) -> Result<(), Memory>
+fn push_link(line: &mut Line, scope: &Scope<'_>, link: &Link) -> Result<(), Memory>
     ensures { OnOk result (line.new ≡ line.old
-        ++ link_text (stack_tree stack.now) (atom_text (written_tree (stack_tree stack.now) written.now)) (link_tree link.now)) }
+        ++ link_text (layers_in scope.now) (atom_text (written_in scope.now)) (link_tree link.now)) }
 {
-    push_front(line, stack, usize::from(link.place), link.tag)?;
-    push_atoms(line, stack, written, &link.fields)?;
+    push_front(line, scope.stack, usize::from(link.place), link.tag)?;
+    push_atoms(line, scope, &link.fields)?;
     line.text(b")")
 }
 
 /// The headers of a chain, each with `/` in front.
 #[tactic(auto, using(crate::proofs::Chains::rest_read, crate::proofs::Chains::rest_empty))]
-fn push_rest(
-    line: &mut Line,
-    stack: &Stack,
-    written: &Written,
-    links: &Links,
-    chain: u32,
-) -> Result<(), Memory>
-    requires { IsChain (chains links.now) chain }
+fn push_rest(line: &mut Line, scope: &Scope<'_>, chain: u32) -> Result<(), Memory>
+    requires { IsChain (chains_in scope.now) chain }
     ensures { OnOk result (line.new ≡ line.old
-        ++ more_links (stack_tree stack.now) (written_tree (stack_tree stack.now) written.now) (chain_in (chains links.now) chain)) }
+        ++ more_links (layers_in scope.now) (written_in scope.now) (chain_in (chains_in scope.now) chain)) }
 {
-    match links.front(chain) {
+    match scope.guarded.links.front(chain) {
         Some(link) => {
             line.text(b"/")?;
-            push_link(line, stack, written, &link)?;
-            push_rest(line, stack, written, links, link.rest)
+            push_link(line, scope, &link)?;
+            push_rest(line, scope, link.rest)
         }
         None => Ok(()),
     }
@@ -136,22 +120,16 @@ fn push_rest(
 
 /// Known headers behind what they are of, where there are any.
 #[tactic(auto, using(crate::proofs::Chains::behind_read, crate::proofs::Chains::behind_empty))]
-pub(crate) fn push_behind(
-    line: &mut Line,
-    stack: &Stack,
-    written: &Written,
-    links: &Links,
-    chain: u32,
-) -> Result<(), Memory>
-    requires { IsChain (chains links.now) chain }
+pub(crate) fn push_behind(line: &mut Line, scope: &Scope<'_>, chain: u32) -> Result<(), Memory>
+    requires { IsChain (chains_in scope.now) chain }
     ensures { OnOk result (line.new ≡ line.old
-        ++ behind (stack_tree stack.now) (written_tree (stack_tree stack.now) written.now) (chain_in (chains links.now) chain)) }
+        ++ behind (layers_in scope.now) (written_in scope.now) (chain_in (chains_in scope.now) chain)) }
 {
-    match links.front(chain) {
+    match scope.guarded.links.front(chain) {
         Some(link) => {
             line.text(b" ")?;
-            push_link(line, stack, written, &link)?;
-            push_rest(line, stack, written, links, link.rest)
+            push_link(line, scope, &link)?;
+            push_rest(line, scope, link.rest)
         }
         None => Ok(()),
     }
@@ -160,15 +138,13 @@ pub(crate) fn push_behind(
 /// A message with its known headers.
 pub(crate) fn push_chained(
     line: &mut Line,
-    stack: &Stack,
-    written: &Written,
-    links: &Links,
+    scope: &Scope<'_>,
     message: Chained,
 ) -> Result<(), Memory>
-    requires { IsChain (chains links.now) message.chain }
+    requires { IsChain (chains_in scope.now) message.chain }
     ensures { OnOk result (line.new ≡ line.old
-        ++ pushed_text (stack_tree stack.now) (written_tree (stack_tree stack.now) written.now) (chained_in (chains links.now) message)) }
+        ++ pushed_text (layers_in scope.now) (written_in scope.now) (chained_in (chains_in scope.now) message)) }
 {
-    push_core(line, stack, written, message.core)?;
-    push_behind(line, stack, written, links, message.chain)
+    push_core(line, scope, message.core)?;
+    push_behind(line, scope, message.chain)
 }

@@ -11,6 +11,7 @@ mod headers;
 mod name;
 mod numbers;
 mod operations;
+mod part;
 mod plans;
 mod print;
 mod scope;

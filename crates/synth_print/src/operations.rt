@@ -2,17 +2,17 @@
 
 ghost use Rattle.std.specs.Prelude.{◌≡◌, ◌++◌, [], true, OnOk, codes, length, option_map};
 ghost use Rattle.std.specs.Option.{option_map_or};
+ghost use Rattle.bypass_mean.specs.Text.{cell_name, indexed};
 ghost use Rattle.layer_ast.specs.Printed.{direction_sign};
 ghost use Rattle.synth_print.specs.Headers.{atom_texts, joined};
 ghost use Rattle.synth_print.specs.Operations.{behind_of, core_of, is_change, last_part, listed_cores, listed_rows, number_texts, pushed_of};
 ghost use Rattle.synth_print.specs.Texts.{chains_in, layers_in, number_at, operation_text, terms_in, written_in};
-ghost use Rattle.trace_core.specs.Arena.{IsNumber};
-ghost use Rattle.trace_core.specs.Operations.{AllNumbers, HasChain, IsPart, chained_in};
+ghost use Rattle.trace_core.specs.Operations.{HasChain, IsPart, chained_in};
 ghost use Rattle.trace_core.specs.declared.operation.Operation.TheVariants as operations;
 
-use crate::atoms::push_core;
+use crate::cells::push_cell_name;
 use crate::headers::{push_atoms, push_behind, push_chained};
-use crate::numbers::{push_element, push_number, push_pair};
+use crate::numbers::{push_cell, push_core, push_indexed, push_number};
 use crate::scope::Scope;
 use crate::words::{direction_text, kind_text};
 use crate::written::Spot;
@@ -22,9 +22,7 @@ use report_lines::{Line, push_lead};
 use trace_core::{Atoms, Chained, Operation};
 
 /// Numbers, with commas between.
-#[tactic(auto, using(crate::proofs::Joins::number_among))]
 fn push_numbers(line: &mut Line, scope: &Scope<'_>, numbers: &Fields) -> Result<(), Memory>
-    requires { AllNumbers (terms_in scope.now) numbers.now }
     ensures { OnOk result (line.new ≡ line.old
         ++ joined (number_texts (layers_in scope.now) (written_in scope.now) (terms_in scope.now) numbers.now)) }
 {
@@ -49,13 +47,7 @@ fn push_last_message(
     match message {
         Some(message) => {
             push_lead(line, b",", count)?;
-            push_chained(
-                line,
-                scope.stack,
-                scope.written,
-                &scope.guarded.links,
-                message,
-            )
+            push_chained(line, scope, message)
         }
         None => Ok(()),
     }
@@ -68,8 +60,7 @@ fn push_row_parts(
     numbers: &Fields,
     message: Option<Chained>,
 ) -> Result<(), Memory>
-    requires numbers { AllNumbers (terms_in scope.now) numbers.now }
-    requires message { HasChain (chains_in scope.now) message }
+    requires { HasChain (chains_in scope.now) message }
     ensures { OnOk result (line.new ≡ line.old ++ codes "("
         ++ joined (number_texts (layers_in scope.now) (written_in scope.now) (terms_in scope.now) numbers.now)
         ++ last_part (length numbers.now) (option_map (pushed_of (layers_in scope.now) (written_in scope.now) (chains_in scope.now)) message)
@@ -88,8 +79,7 @@ fn push_row(
     numbers: &Fields,
     message: Option<Chained>,
 ) -> Result<(), Memory>
-    requires numbers { AllNumbers (terms_in scope.now) numbers.now }
-    requires message { HasChain (chains_in scope.now) message }
+    requires { HasChain (chains_in scope.now) message }
     ensures { OnOk result (line.new ≡ line.old
         ++ listed_rows (layers_in scope.now) (written_in scope.now) (terms_in scope.now) (chains_in scope.now) numbers.now message) }
 {
@@ -108,7 +98,7 @@ fn push_last_core(
     match message {
         Some(message) => {
             push_lead(line, b",", count)?;
-            push_core(line, scope.stack, scope.written, message.core)
+            push_core(line, scope, message.core)
         }
         None => Ok(()),
     }
@@ -125,7 +115,7 @@ fn push_output_parts(
         ++ last_part (length numbers.now) (option_map (core_of (written_in scope.now)) message) ++ codes ")") }
 {
     line.text(b"(")?;
-    push_atoms(line, scope.stack, scope.written, numbers)?;
+    push_atoms(line, scope, numbers)?;
     push_last_core(line, scope, numbers.len(), message)?;
     line.text(b")")
 }
@@ -153,20 +143,13 @@ fn push_output_headers(
         (option_map (chained_in (chains_in scope.now)) message) []) }
 {
     match message {
-        Some(message) => push_behind(
-            line,
-            scope.stack,
-            scope.written,
-            &scope.guarded.links,
-            message.chain,
-        ),
+        Some(message) => push_behind(line, scope, message.chain),
         None => Ok(()),
     }
 }
 
 /// ` = `, and the number that is set.
 fn push_assigned(line: &mut Line, scope: &Scope<'_>, value: u32) -> Result<(), Memory>
-    requires { IsNumber (terms_in scope.now) value }
     ensures { OnOk result (line.new ≡ line.old ++ codes " = " ++ number_at scope.now value) }
 {
     line.text(b" = ")?;
@@ -175,7 +158,6 @@ fn push_assigned(line: &mut Line, scope: &Scope<'_>, value: u32) -> Result<(), M
 
 /// The operation that binds a number.
 fn push_bind(line: &mut Line, scope: &Scope<'_>, value: u32) -> Result<(), Memory>
-    requires { IsNumber (terms_in scope.now) value }
     ensures { OnOk result (line.new ≡ line.old ++ operation_text scope.now (operations.Bind value)) }
 {
     line.text(b"bind t.")?;
@@ -185,7 +167,6 @@ fn push_bind(line: &mut Line, scope: &Scope<'_>, value: u32) -> Result<(), Memor
 
 /// The operation that checks a condition.
 fn push_check(line: &mut Line, scope: &Scope<'_>, condition: u32) -> Result<(), Memory>
-    requires { IsNumber (terms_in scope.now) condition }
     ensures { OnOk result (line.new ≡ line.old ++ operation_text scope.now (operations.Check condition)) }
 {
     line.text(b"check ")?;
@@ -200,13 +181,27 @@ fn push_set(
     index: u32,
     value: u32,
 ) -> Result<(), Memory>
-    requires index { IsNumber (terms_in scope.now) index }
-    requires value { IsNumber (terms_in scope.now) value }
     ensures { OnOk result (line.new ≡ line.old ++ operation_text scope.now (operations.Set spot.place spot.cell index value)) }
 {
     line.text(b"set ")?;
-    push_element(line, scope, spot, index)?;
+    push_cell(line, scope, spot, index)?;
     push_assigned(line, scope, value)
+}
+
+/// A number of a square cell.
+fn push_pair(
+    line: &mut Line,
+    scope: &Scope<'_>,
+    spot: Spot,
+    row: u32,
+    column: u32,
+) -> Result<(), Memory>
+    ensures { OnOk result (line.new ≡ line.old ++ cell_name (layers_in scope.now) spot.place spot.cell
+        ++ indexed (number_at scope.now row) ++ indexed (number_at scope.now column)) }
+{
+    push_cell_name(line, scope.stack, spot.place, spot.cell)?;
+    push_indexed(line, scope, row)?;
+    push_indexed(line, scope, column)
 }
 
 /// The operation that sets a number of a square cell.
@@ -218,9 +213,6 @@ fn push_set_square(
     column: u32,
     value: u32,
 ) -> Result<(), Memory>
-    requires row { IsNumber (terms_in scope.now) row }
-    requires column { IsNumber (terms_in scope.now) column }
-    requires value { IsNumber (terms_in scope.now) value }
     ensures { OnOk result (line.new ≡ line.old ++ operation_text scope.now (operations.SetSquare spot.place spot.cell row column value)) }
 {
     line.text(b"set ")?;
@@ -237,27 +229,31 @@ fn push_push(
     numbers: &Fields,
     message: Option<Chained>,
 ) -> Result<(), Memory>
-    requires index { IsNumber (terms_in scope.now) index }
-    requires numbers { AllNumbers (terms_in scope.now) numbers.now }
-    requires message { HasChain (chains_in scope.now) message }
+    requires { HasChain (chains_in scope.now) message }
     ensures { OnOk result (line.new ≡ line.old ++ operation_text scope.now (operations.Push spot.place spot.cell index numbers.now message)) }
 {
     line.text(b"push ")?;
-    push_element(line, scope, spot, index)?;
+    push_cell(line, scope, spot, index)?;
     line.text(b" ")?;
     push_row(line, scope, numbers, message)
 }
 
+/// How many taken rows may be named.
+#[tactic(auto, using(crate::proofs::Notes::many_rows))]
+fn rows_of(scope: &Scope<'_>) -> u64
+    ensures { result ≡ length (written_in scope.now).rows }
+{
+    scope.rows.min(scope.written.rows.len()) as u64
+}
+
 /// The operation that takes a row.
-#[tactic(auto, using(crate::proofs::Joins::many_rows))]
 fn push_take(line: &mut Line, scope: &Scope<'_>, spot: Spot, index: u32) -> Result<(), Memory>
-    requires { IsNumber (terms_in scope.now) index }
     ensures { OnOk result (line.new ≡ line.old ++ operation_text scope.now (operations.Take spot.place spot.cell index)) }
 {
     line.text(b"take ")?;
-    push_element(line, scope, spot, index)?;
+    push_cell(line, scope, spot, index)?;
     line.text(b" row.")?;
-    line.number(scope.written.rows.len() as u64)
+    line.number(rows_of(scope))
 }
 
 /// The operation that sends an event.

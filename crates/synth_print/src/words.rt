@@ -1,7 +1,7 @@
 //! Symbols and words of operators, functions, directions and kinds.
 #![tactic(auto, unfolding(layer_ast::specs::Spelling::kinds, layer_ast::specs::Spelling::reserved, layer_ast::specs::Spelling::symbols))]
 
-ghost use Rattle.std.specs.Prelude.{◌≡◌};
+ghost use Rattle.std.specs.Prelude.{◌≡◌, ◌++◌, codes};
 ghost use Rattle.bypass_mean.specs.Lines.{packet_word};
 ghost use Rattle.bypass_mean.specs.Text.{sign_text};
 ghost use Rattle.job_mean.specs.Status as status;
@@ -9,37 +9,37 @@ ghost use Rattle.layer_ast.specs.Printed.{direction_sign, function_sign, operato
 
 use layer_ast::{Dir, Function, Kind, Operator};
 
-/// The symbol or word of an operator.
-pub(crate) fn operator_text(operator: Operator) -> &'static [u8]
-    ensures { result.now ≡ sign_text (operator_sign operator) }
+/// What stands between the two numbers of an operator.
+pub(crate) fn operator_between(operator: Operator) -> &'static [u8]
+    ensures { result.now ≡ codes " " ++ sign_text (operator_sign operator) ++ codes " " }
 {
     match operator {
-        Operator::Add => b"+",
-        Operator::Subtract => b"-",
-        Operator::Multiply => b"*",
-        Operator::Equal => b"==",
-        Operator::NotEqual => b"!=",
-        Operator::Less => b"<",
-        Operator::LessOrEqual => b"<=",
-        Operator::Greater => b">",
-        Operator::GreaterOrEqual => b">=",
-        Operator::And => b"and",
-        Operator::Or => b"or",
-        Operator::BitAnd => b"&",
-        Operator::BitOr => b"|",
-        Operator::BitXor => b"^",
+        Operator::Add => b" + ",
+        Operator::Subtract => b" - ",
+        Operator::Multiply => b" * ",
+        Operator::Equal => b" == ",
+        Operator::NotEqual => b" != ",
+        Operator::Less => b" < ",
+        Operator::LessOrEqual => b" <= ",
+        Operator::Greater => b" > ",
+        Operator::GreaterOrEqual => b" >= ",
+        Operator::And => b" and ",
+        Operator::Or => b" or ",
+        Operator::BitAnd => b" & ",
+        Operator::BitOr => b" | ",
+        Operator::BitXor => b" ^ ",
     }
 }
 
-/// The word of a function.
-pub(crate) fn function_text(function: Function) -> &'static [u8]
-    ensures { result.now ≡ sign_text (function_sign function) }
+/// What opens the number of a function.
+pub(crate) fn function_opening(function: Function) -> &'static [u8]
+    ensures { result.now ≡ sign_text (function_sign function) ++ codes "(" }
 {
     match function {
-        Function::Not => b"not",
-        Function::Bit => b"bit",
-        Function::Count => b"count",
-        Function::Lowest => b"lowest",
+        Function::Not => b"not(",
+        Function::Bit => b"bit(",
+        Function::Count => b"count(",
+        Function::Lowest => b"lowest(",
     }
 }
 

@@ -2,7 +2,7 @@ use Rattle.std.proofs.Common.{arith}
 use Rattle.std.proofs.lemmas.List.{length-map}
 use Rattle.std.proofs.lemmas.Result.{err_from_is_err_and}
 use Rattle.event_graph.specs.Answer.{stack_tree}
-use Rattle.synth_print.specs.Written.{written_tree}
+use Rattle.synth_print.specs.Texts.{written_of}
 use Rattle.synth_print.proofs.Joins.{operation_at}
 use Rattle.synth_print.proofs.Loops.{operations_cut, operations_done, operations_more, written_next}
 use Rattle.synth_print.proofs.handler.write_operations.Goals as goal
@@ -25,7 +25,7 @@ loop-k-preserved g c = record {
       (operation_at (terms c.args.guarded.now.nodes) (chains c.args.guarded.now.links) c.args.guarded.now.operations.items c.loop-k.k
       c.operation-operation.result (operation_in (terms c.args.guarded.now.nodes) (chains c.args.guarded.now.links) c.operation-operation.result)
       c.operation-operation.ensures.is)
-      (written_tree (stack_tree c.args.stack.now) c.loop-k.written) c.loop-k.invariant.written
+      (written_of c.args.stack.now c.args.guarded.now c.loop-k.written) c.loop-k.invariant.written
       _ _ _ c.loop-k.invariant.gained c.in_ok-write_operation.ensures.wrote;
   written = written_next (stack_tree c.args.stack.now) (guarded_tree c.args.guarded.now).operations c.loop-k.k
       (operation_in (terms c.args.guarded.now.nodes) (chains c.args.guarded.now.links) c.operation-operation.result) _
@@ -39,7 +39,7 @@ loop-k-preserved g c = record {
       (operation_at (terms c.args.guarded.now.nodes) (chains c.args.guarded.now.links) c.args.guarded.now.operations.items c.loop-k.k
       c.operation-operation.result (operation_in (terms c.args.guarded.now.nodes) (chains c.args.guarded.now.links) c.operation-operation.result)
       c.operation-operation.ensures.is)
-      (written_tree (stack_tree c.args.stack.now) c.loop-k.written) c.loop-k.invariant.written
+      (written_of c.args.stack.now c.args.guarded.now c.loop-k.written) c.loop-k.invariant.written
       _ c.in_ok-write_operation.ensures.written;
   few = omega (arith, c.in_ok-write_operation.ensures.few, c.loop-k.invariant.few);
 }
@@ -59,7 +59,7 @@ returns-in_err-write_operation g c =
     (operation_at (terms c.args.guarded.now.nodes) (chains c.args.guarded.now.links) c.args.guarded.now.operations.items c.loop-k.k
     c.operation-operation.result (operation_in (terms c.args.guarded.now.nodes) (chains c.args.guarded.now.links) c.operation-operation.result)
     c.operation-operation.ensures.is)
-    (written_tree (stack_tree c.args.stack.now) c.loop-k.written) c.loop-k.invariant.written
+    (written_of c.args.stack.now c.args.guarded.now c.loop-k.written) c.loop-k.invariant.written
     _ _ _ _ c.loop-k.invariant.gained c.in_err-write_operation.ensures.wrote)
 
 pub returns : goal.returns

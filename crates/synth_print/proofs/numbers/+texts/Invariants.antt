@@ -1,53 +1,40 @@
-use Rattle.std.proofs.Common.{◌+◌, ◌*◌}
+use Rattle.std.proofs.Common.{ℕ, ◌+◌, ◌*◌}
+use Rattle.std.specs.Prelude.{length}
+use denote.Ref.{Bor}
+use Rattle.synth_print.specs.Parts.{part_node}
+use Rattle.synth_print.specs.declared.scope.Scope.{Scope}
 use Rattle.synth_print.proofs.numbers.+texts.Given as goal
 
+-- A note more weighs more than any node, since these have numbers of 32 bits; and a node weighs more than the steps from it to those that it names.
+abbrev rank : Bor Scope → ℕ → ℕ → ℕ
+rank s node step = 34359738368 * s.now.notes + 8 * node + step
+
 abbrev pub decreases-push_number : goal.decreases-push_number
-decreases-push_number l = 6 * l.number + 5
+decreases-push_number l = rank l.scope l.number 4
 
 abbrev pub decreases-push_message : goal.decreases-push_message
-decreases-push_message l = 6 * l.message + 5
+decreases-push_message l = rank l.scope l.message 4
 
-abbrev pub decreases-push_other : goal.decreases-push_other
-decreases-push_other l = 6 * l.number + 4
+abbrev pub decreases-push_core : goal.decreases-push_core
+decreases-push_core l = rank l.scope 0 1
 
-abbrev pub decreases-push_item : goal.decreases-push_item
-decreases-push_item l = 6 * l.above + 3
+abbrev pub decreases-push_note : goal.decreases-push_note
+decreases-push_note l = rank l.scope 0 0
 
-abbrev pub decreases-push_held : goal.decreases-push_held
-decreases-push_held l = 6 * l.above + 3
+abbrev pub decreases-push_part : goal.decreases-push_part
+decreases-push_part l = rank l.scope (part_node l.part) 7
 
-abbrev pub decreases-push_rows : goal.decreases-push_rows
-decreases-push_rows l = 6 * l.above + 3
-
-abbrev pub decreases-push_row : goal.decreases-push_row
-decreases-push_row l = 6 * l.above + 2
-
-abbrev pub decreases-push_cell : goal.decreases-push_cell
-decreases-push_cell l = 6 * l.above + 1
+abbrev pub decreases-push_parts : goal.decreases-push_parts
+decreases-push_parts l = rank l.scope l.above (length l.parts.now)
 
 abbrev pub decreases-push_indexed : goal.decreases-push_indexed
-decreases-push_indexed l = 6 * l.above
+decreases-push_indexed l = rank l.scope l.index 5
+
+abbrev pub decreases-push_cell : goal.decreases-push_cell
+decreases-push_cell l = rank l.scope l.index 6
 
 abbrev pub decreases-push_square : goal.decreases-push_square
-decreases-push_square l = 6 * l.above + 1
+decreases-push_square l = rank l.scope l.above 0
 
-abbrev pub decreases-push_size : goal.decreases-push_size
-decreases-push_size l = 6 * l.above
-
-abbrev pub decreases-push_binary : goal.decreases-push_binary
-decreases-push_binary l = 6 * l.above
-
-abbrev pub decreases-push_apply : goal.decreases-push_apply
-decreases-push_apply l = 6 * l.above
-
-abbrev pub decreases-push_pick : goal.decreases-push_pick
-decreases-push_pick l = 6 * l.above
-
-abbrev pub decreases-push_cut : goal.decreases-push_cut
-decreases-push_cut l = 6 * l.above
-
-abbrev pub decreases-push_tail : goal.decreases-push_tail
-decreases-push_tail l = 6 * l.above
-
-abbrev pub decreases-push_join : goal.decreases-push_join
-decreases-push_join l = 6 * l.above
+abbrev pub decreases-push_item : goal.decreases-push_item
+decreases-push_item l = rank l.scope l.above 3
