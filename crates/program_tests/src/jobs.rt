@@ -116,20 +116,49 @@ const FLIP: &[u8] =
 const CASES: &[u8] =
     b"entry cast fused\nlet v.0 = (0.k + 1)\nwhen ((v.0 & 1) == 1)\ndo set 0.k = (0.k + 1)\ndo bind t.0 = peer\ndo bind t.1 = 0.k\ndo out down Cast(t.0,body) flip.a(t.1)\nentry cast second fused\nlet v.0 = (0.k + 1)\nwhen (((v.0 & 1) == 1) == 0)\ndo set 0.k = (0.k + 1)\ndo bind t.0 = peer\ndo bind t.1 = 0.k\ndo out down Cast(t.0,body) flip.b(t.1)\nentry send fused\ndo out down Send(peer,body) flip.none()\nplan 0 cast flip.a(?)\nentry plan 0 absent rare 0\nplan 1 send flip.none()\nentry plan 1 fused\ndo out up Send(peer,body)\nplan 2 cast flip.b(?)\nentry plan 2 absent rare 0\nend 4 fused 2 absent\n";
 
+/// A layer whose casts are never as predicted.
+const NEVER: &[u8] =
+    b"layer never { down Cast(p, m) common (1 == 2) { down Cast(p, m); } }\nstack { never; }\n";
+
+const NOT_RUN: &[u8] =
+    b"entry cast fused\nwhen 0\ndo bind t.0 = peer\ndo out down Cast(t.0,body) never.none()\nentry send fused\ndo out down Send(peer,body) never.none()\nplan 0 cast never.none()\nentry plan 0 fused\ndo out up Cast(peer,body)\nplan 1 send never.none()\nentry plan 1 fused\ndo out up Send(peer,body)\nend 4 fused 0 absent\n";
+
+/// A layer whose casts have 4,096 statements, and the argument of one that goes on.
+fn long_file(alloc: Global) -> Result<Vec<u8>, AllocError> {
+    let mut file = Vec::new(alloc);
+    file.extend_from_slice(b"layer long { state int k; down Cast(p, m) { ")?;
+    for _ in 0..4096 {
+        file.extend_from_slice(b"set k = (k + 1); ")?;
+    }
+    file.extend_from_slice(b"down Cast(p, m); } } stack { long; }")?;
+    Ok(file)
+}
+
+const LONG: &[u8] =
+    b"entry cast absent long\nentry send fused\ndo out down Send(peer,body) long.none()\nplan 0 cast long.none()\nentry plan 0 fused\ndo out up Cast(peer,body)\nplan 1 send long.none()\nentry plan 1 fused\ndo out up Send(peer,body)\nend 3 fused 1 absent\n";
+
+/// Whether the long file leaves its text.
+fn leaves_long(alloc: Global, synth: &[&str]) -> Result<bool, AllocError> {
+    let file = long_file(alloc)?;
+    leaves(alloc, synth, file.as_slice(), Vec::new(alloc), 0, LONG, b"")
+}
+
 #[test]
 fn prints_bypasses(rt: HostRuntime) -> Result<(), Fail> {
     let alloc = rt.alloc();
     let synth: &[&str] = &["synth", "f"];
-    let cases: [(&[u8], &[u8]); 5] = [
+    let cases: [(&[u8], &[u8]); 6] = [
         (COUNTER, BYPASSES),
         (REPEATER, LOOPS),
         (KEEPER, STORED),
         (LITERAL, COMPUTED),
         (FLIP, CASES),
+        (NEVER, NOT_RUN),
     ];
     for (file, text) in cases {
         assert!(rt; leaves(alloc, synth, file, Vec::new(alloc), 0, text, b"")?);
     }
+    assert!(rt; leaves_long(alloc, synth)?);
     Ok(())
 }
 
