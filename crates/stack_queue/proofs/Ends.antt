@@ -1,5 +1,5 @@
 -- How a run begins, and what it has come to where no task is left.
-use Rattle.std.proofs.Common.{◌≡◌, ℕ, ◌+◌, ◌≤◌, List, [], ◌∷◌, ◌++◌, Option, Some, None, Ok, length, refl, sym, ◌∙◌, subst, append-nil, arith}
+use Rattle.std.proofs.Common.{◌≡◌, ℕ, zero, suc, ◌+◌, ◌≤◌, List, [], ◌∷◌, ◌++◌, Option, Some, None, Ok, length, refl, sym, ap, ◌∙◌, subst, append-nil, arith}
 use Rattle.slot_pool.specs.Held.{Held, spare}
 use Rattle.slot_pool.specs.References.{Moved, Covers}
 use Rattle.slot_pool.specs.Times.{times}
@@ -8,7 +8,7 @@ use Rattle.slot_pool.proofs.References.{moved-same, moved-reordered}
 use Rattle.layer_mean.specs.declared.run.Event.{Event}
 use Rattle.layer_mean.specs.Tree.{LayerTree}
 use Rattle.layer_mean.specs.State.{State}
-use Rattle.layer_mean.specs.Queue.{Task, Line, Work, layers, run_for, run, unstarted}
+use Rattle.layer_mean.specs.Queue.{Task, Line, Work, Player, layers, run_for, run, unstarted}
 use Rattle.stack_mean.specs.Graph.{Node, first_on_cycle}
 use Rattle.stack_mean.specs.Acceptance.{weight_limit, without_cycle, accepted}
 use Rattle.weight_laws.specs.Nodes.{IsKnown}
@@ -29,6 +29,7 @@ use Rattle.layer_stage.specs.Room.{CountsWithin}
 use Rattle.stack_queue.specs.declared.tasks.PoolTask.{PoolTask}
 use Rattle.stack_queue.specs.Pending.{task_seen, tasks_refs}
 use Rattle.stack_queue.specs.Stages.{most_at_first}
+use Rattle.stack_queue.specs.Taken.{counted_on, visited_for, taken_within, taken_behind}
 use Rattle.stack_queue.specs.Going.{Begun, Now, BeginsWell, Going}
 use Rattle.stack_queue.proofs.Refs.{all_as}
 
@@ -45,10 +46,20 @@ turns_of_run : (k : ℕ) (stack : List LayerTree) (states : List State) (first :
 unfolding run
 turns_of_run k stack states first = refl
 
+counts_of_run : (k : ℕ) (stack : List LayerTree) (states : List State) (first : Task Event) (counts : List ℕ) →
+    counted_on (visited_for (length stack) (layers stack) k (record { world = unstarted states; tasks = first ∷ [] })) counts ≡ taken_within k stack states first counts
+unfolding taken_within
+counts_of_run k stack states first counts = refl
+
+-- with no task there is no visit
+none_visited : (places : ℕ) (play : Player Work Event) (k : ℕ) (w : Work) → visited_for places play k (record { world = w; tasks = [] }) ≡ []
+none_visited places play zero w = refl
+none_visited places play (suc k) w = refl
+
 module _ (stack : List LayerTree) (typed : TypedStack stack) (accepts : accepted stack ≡ Ok stack) (few : length stack ≤ most_places)
     (p : List Held) (states : List State) (chained : AreChainedStates stack states) (first : PoolTask)
     (first_chained : IsChainedTask stack (task_seen p first)) (enters : Enters stack first.at first.direction first.event.kind)
-    (refs : List ℕ) (out : List (Dir × PoolEvent)) (visits : ℕ) (counts : CountsWithin most_at_first p)
+    (refs : List ℕ) (out : List (Dir × PoolEvent)) (visits : ℕ) (taken : List ℕ) (counts : CountsWithin most_at_first p)
     (slots : task_joins stack (task_seen p first) ≤ spare p) where
   abbrev pub begun : Begun
   begun = record {
@@ -59,6 +70,7 @@ module _ (stack : List LayerTree) (typed : TypedStack stack) (accepts : accepted
     refs = refs ++ event_refs first.event;
     out = out;
     visits = visits;
+    taken = taken;
   }
 
   line_chained : IsChainedLine stack (record { world = unstarted states; tasks = task_seen p first ∷ [] })
@@ -89,11 +101,12 @@ module _ (stack : List LayerTree) (typed : TypedStack stack) (accepts : accepted
   }
 
   pub begins : EventLies p first.event → SentLie p out → Covers p (refs ++ (event_refs first.event ++ sent_refs out)) →
-      Going begun p (record { states = states; refs = refs; tasks = first ∷ []; out = out; predicted = as_predicted []; visits = visits })
+      Going begun p (record { states = states; refs = refs; tasks = first ∷ []; out = out; predicted = as_predicted []; visits = visits; taken = taken })
   begins lies lie covers = record {
     world = unstarted states;
     left = weight_limit;
     comes = turns_of_run weight_limit stack states (task_seen p first);
+    counts = counts_of_run weight_limit stack states (task_seen p first) taken;
     enough = omega (arith, light);
     chained = line_chained;
     states = refl;
@@ -138,6 +151,7 @@ pub record Ended (b : Begun) (p : List Held) (n : Now) : Type 0 where
   pub outs : sent_seen p n.out ≡ sent_seen b.pool b.out ++ line.world.outs
   pub predicted : n.predicted ≡ as_predicted line.world.decided
   pub visits : n.visits ≡ b.visits + line.world.visits
+  pub taken : n.taken ≡ taken_behind b.stack b.states b.first b.taken
   pub done : line.tasks ≡ []
   pub moved : Moved b.pool p (b.refs ++ sent_refs b.out) (n.refs ++ sent_refs n.out)
   pub spent : spare b.pool ≤ spare p + task_joins b.stack b.first
@@ -150,6 +164,7 @@ ended b p n g = record {
   outs = g.outs;
   predicted = g.predicted;
   visits = g.visits;
+  taken = ap (λ places. counted_on places n.taken) (sym (none_visited (length b.stack) (layers b.stack) g.left g.world)) ∙ g.counts;
   done = refl;
   moved = g.moved;
   spent = omega (arith, g.slots);

@@ -1,5 +1,5 @@
 -- One turn of the definition's line, while a run goes on.
-use Rattle.std.proofs.Common.{◌≡◌, ℕ, zero, suc, ◌+◌, ◌-◌, ◌≤◌, Bool, true, false, List, [], ◌∷◌, ◌++◌, None, length, refl, ap, ◌∙◌, arith}
+use Rattle.std.proofs.Common.{◌≡◌, ℕ, zero, suc, ◌+◌, ◌-◌, ◌≤◌, Bool, true, false, List, [], ◌∷◌, ◌++◌, None, length, refl, sym, ap, ◌∙◌, arith}
 use Rattle.std.specs.Prelude.{if◌then◌else◌}
 use Rattle.std.specs.List.{AllByRecursion}
 use Rattle.layer_mean.specs.declared.run.Event.{Event}
@@ -14,6 +14,7 @@ use Rattle.weight_laws.proofs.Runs.{turns_lighten, turns_join_less}
 use Rattle.chain_laws.specs.Runs.{TypedStack, IsChainedTask, IsChainedLine}
 use Rattle.chain_laws.proofs.Runs.{turns_keep_chains}
 use Rattle.chain_laws.proofs.Orderly.{chained_is_known, typed_is_orderly}
+use Rattle.stack_queue.specs.Taken.{counted_at, counted_on, visited_for}
 use Rattle.stack_queue.proofs.Refs.{all_right, all_as}
 
 module _ (stack : List LayerTree) (typed : TypedStack stack) (off : first_on_cycle stack ≡ None) (w : Work) (t : Task Event) (rest : List (Task Event))
@@ -77,3 +78,25 @@ module _ (stack : List LayerTree) (typed : TypedStack stack) (off : first_on_cyc
 
     pub enough_behind : pending_weight stack behind.tasks ≤ left - 1
     enough_behind = omega (arith, enough, lighter)
+
+  -- and its visits to the same counts
+  module _ (all counts : List ℕ) (left : ℕ)
+      (counted : counted_on (visited_for (length stack) (layers stack) left (record { world = w; tasks = t ∷ rest })) counts ≡ all)
+      (enough : pending_weight stack (t ∷ rest) ≤ left) where
+    one_turn : (c : Bool) (visited : List ℕ) →
+        counted_on visited (if c then counted_at counts t.at else counts) ≡ counted_on ((if c then t.at ∷ [] else []) ++ visited) counts
+    one_turn true visited = refl
+    one_turn false visited = refl
+
+    pub counts_behind : (c : Bool) → is_place (length stack) t.at ≡ c →
+        counted_on (visited_for (length stack) (layers stack) (left - 1) behind) (if c then counted_at counts t.at else counts) ≡ all
+    counts_behind c is = go left refl counted where
+      go : (n : ℕ) → n ≡ left → counted_on (visited_for (length stack) (layers stack) n (record { world = w; tasks = t ∷ rest })) counts ≡ all →
+          counted_on (visited_for (length stack) (layers stack) (left - 1) behind) (if c then counted_at counts t.at else counts) ≡ all
+      go zero same e = absurd (omega (arith, enough, lighter))
+      go (suc n) same e =
+          let one : left - 1 ≡ n = omega (arith, same) in
+          ap (λ m. counted_on (visited_for (length stack) (layers stack) m behind) (if c then counted_at counts t.at else counts)) one
+          ∙ one_turn c (visited_for (length stack) (layers stack) n behind)
+          ∙ ap (λ (d : Bool). counted_on ((if d then t.at ∷ [] else []) ++ visited_for (length stack) (layers stack) n behind) counts) (sym is)
+          ∙ e

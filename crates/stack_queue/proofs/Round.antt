@@ -33,18 +33,18 @@ joins_none p = (λ j. record { first = stays p.first j; second = stays p.second 
   stays false = refl
 
 module _ {S : Type 0} (place : S → ℕ) (layer : S → LayerTree) (refs : S → List ℕ) (Ready : List Held → S → Type 0)
-    (state : List Held → S → State) (s s' : S) where
+    (state : List Held → S → State) (taken : S → ℕ) (s s' : S) where
   -- The two lists, of which each was turned.
   pub goes_round : (ps : Buffer ℕ) (es : List (Dir × PoolEvent)) (tasks : Buffer PoolTask) → length ps.items ≡ length es →
       buffer (tasks_at ps.items es) (ps.capacity - 1) ≡ tasks → (sent w : Dir × PoolEvent) → sent ≡ first_sent es →
-      HasPassed place layer refs Ready state s sent s' w → (at to : ℕ) (dir : Dir) → (first_task tasks.items).at ≡ at →
+      HasPassed place layer refs Ready state taken s sent s' w → (at to : ℕ) (dir : Dir) → (first_task tasks.items).at ≡ at →
       dir ≡ (first_sent es).0 → to ≡ beyond dir at →
       (front now : Buffer ℕ) (events : Buffer (Dir × PoolEvent)) → front ≡ buffer (drop 1 ps.items) ps.capacity →
       now ≡ buffer (front.items ++ to ∷ []) front.capacity → events.items ≡ drop 1 es ++ w ∷ [] →
-      HasGoneRound place layer refs Ready state s tasks s' (buffer (tasks_at now.items events.items) (now.capacity - 1))
+      HasGoneRound place layer refs Ready state taken s tasks s' (buffer (tasks_at now.items events.items) (now.capacity - 1))
   goes_round ps es tasks same view sent w sent_is passed at to dir first dir_is to_is front now events ended put turned = record {
     task = record { at = to; direction = w.0; event = w.1 };
-    passed = subst (λ x. HasPassed place layer refs Ready state s x s' w) (sent_is ∙ sym was) passed;
+    passed = subst (λ x. HasPassed place layer refs Ready state taken s x s' w) (sent_is ∙ sym was) passed;
     to = to_is ∙ (λ j. beyond (way j) (sym first j));
     round = (λ j. buffer (tasks_at (placed j).items (turned j)) ((placed j).capacity - 1))
         ∙ ap (λ ts. buffer ts (ps.capacity - 1)) (pushed (drop 1 ps.items) (drop 1 es) to w.0 w.1 (same_behind ps.items es same))
@@ -63,7 +63,7 @@ module _ {S : Type 0} (place : S → ℕ) (layer : S → LayerTree) (refs : S �
     behind = rest_at ps.items es tasks.items same (ap (λ b. b.items) view)
 
   -- What that is: the visit of a layer that has no handler for the event.
-  module _ (p : List Held) (tasks after : Buffer PoolTask) (on : HasGoneRound place layer refs Ready state s tasks s' after) (at : ℕ)
+  module _ (p : List Held) (tasks after : Buffer PoolTask) (on : HasGoneRound place layer refs Ready state taken s tasks s' after) (at : ℕ)
       (first : (first_task tasks.items).at ≡ at) where
     abbrev t : PoolTask
     t = first_task tasks.items

@@ -1,5 +1,5 @@
 -- A visit, and an output, while a run goes on.
-use Rattle.std.proofs.Common.{◌≡◌, ℕ, ◌+◌, ◌-◌, ◌≤◌, true, false, List, [], ◌∷◌, ◌++◌, map, set, get_or, length, refl, sym, ap, ◌∙◌, subst, append_assoc, arith}
+use Rattle.std.proofs.Common.{◌≡◌, ℕ, ◌+◌, ◌-◌, ◌≤◌, Bool, true, false, if◌then◌else◌, List, [], ◌∷◌, ◌++◌, map, set, get_or, length, refl, sym, ap, ◌∙◌, subst, append_assoc, arith}
 use Rattle.std.proofs.lemmas.List.{map-append, length-append}
 use Rattle.std.proofs.lemmas.List.Sums.{sum_by-cons, sum_by-append}
 use Rattle.slot_pool.specs.Held.{Held, count_at, spare}
@@ -26,9 +26,10 @@ use Rattle.pool_message.proofs.Stays.{sent_stay}
 use Rattle.layer_stage.specs.Room.{slots_needed}
 use Rattle.stack_queue.specs.declared.tasks.PoolTask.{PoolTask}
 use Rattle.stack_queue.specs.Pending.{task_seen, tasks_seen, tasks_refs, TasksLie}
+use Rattle.stack_queue.specs.Taken.{counted_at, counted_on, visited_for, taken_behind}
 use Rattle.stack_queue.specs.Going.{Begun, Now, BeginsWell, Going, line_of, weight_of, joins_of}
 use Rattle.stack_queue.proofs.Refs.{all_both, each_both}
-use Rattle.stack_queue.proofs.Lines.{behind, chained_behind, lighter, joins_less, visited_behind, put_out_behind, comes_behind, enough_behind}
+use Rattle.stack_queue.proofs.Lines.{behind, chained_behind, lighter, joins_less, visited_behind, put_out_behind, comes_behind, enough_behind, counts_behind}
 use Rattle.stack_queue.proofs.Asked.{fits, slots_are}
 
 -- one more is seen behind others
@@ -58,6 +59,12 @@ module _ (b : Begun) (well : BeginsWell b) (p : List Held) (states : List State)
   enough_next : pending_weight b.stack next.tasks ≤ g.left - 1
   enough_next = enough_behind b.stack well.typed well.no_cycle g.world (task_seen p t) (tasks_seen p rest) g.chained
       (run weight_limit b.stack b.states b.first) g.left g.comes g.enough
+
+  counts_next : (c : Bool) → is_place (length b.stack) t.at ≡ c →
+      counted_on (visited_for (length b.stack) (layers b.stack) (g.left - 1) next) (if c then counted_at n.taken t.at else n.taken)
+      ≡ taken_behind b.stack b.states b.first b.taken
+  counts_next = counts_behind b.stack well.typed well.no_cycle g.world (task_seen p t) (tasks_seen p rest) g.chained
+      (taken_behind b.stack b.states b.first b.taken) n.taken g.left g.counts g.enough
 
   cover : (i : ℕ) → times i refs + times i (event_refs t.event) + times i (tasks_refs rest) + times i (sent_refs n.out) ≤ count_at p i
   cover i = omega (
@@ -119,18 +126,20 @@ module _ (b : Begun) (well : BeginsWell b) (p : List Held) (states : List State)
     visit_falls = omega (arith, lighter_next, weight_next)
 
     -- a visit that came about lets the run go on
-    pub visit_goes : Going b q (record {
+    pub visit_goes : (taken' : List ℕ) → taken' ≡ counted_at n.taken t.at → Going b q (record {
       states = states';
       refs = refs';
       tasks = after;
       out = n.out;
       predicted = both n.predicted decided;
       visits = n.visits + 1;
+      taken = taken';
     })
-    visit_goes = record {
+    visit_goes taken' taken_is = record {
       world = (visited t.at g.world (visit_of b p g.world.states t)).world;
       left = g.left - 1;
       comes = ap (run_for (length b.stack) (layers b.stack) (g.left - 1)) line_next ∙ comes_next;
+      counts = (λ k. counted_on (visited_for (length b.stack) (layers b.stack) (g.left - 1) (line_next k)) (taken_is k)) ∙ counts_next true placed;
       enough = omega (arith, weight_next, enough_next);
       chained = subst (IsChainedLine b.stack) (sym line_next) chained_next;
       states = (λ k. set (g.states k) (t.at - 1) (visit_of b p (g.states k) t).state) ∙ sym state_is;
@@ -188,6 +197,7 @@ module _ (b : Begun) (well : BeginsWell b) (p : List Held) (states : List State)
         world = record g.world { outs = g.world.outs ++ (t.direction, event_seen p t.event) ∷ [] };
         left = g.left - 1;
         comes = ap (run_for (length b.stack) (layers b.stack) (g.left - 1)) (sym next_is) ∙ comes_next;
+        counts = ap (λ (r : Line Work Event). counted_on (visited_for (length b.stack) (layers b.stack) (g.left - 1) r) n.taken) (sym next_is) ∙ counts_next false edge;
         enough = omega (arith, light, enough_next);
         chained = subst (IsChainedLine b.stack) next_is chained_next;
         states = g.states;

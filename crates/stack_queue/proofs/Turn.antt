@@ -2,7 +2,7 @@
 use Rattle.std.proofs.Common.{◌≡◌, ℕ, suc, ◌+◌, ◌-◌, ◌<◌, ◌≤◌, Bool, true, false, ◌&&◌, not, List, [], ◌∷◌, ◌++◌, map, set, get_or, flat_map, drop, length, refl, sym, ap, ◌∙◌, subst, arith}
 use Rattle.std.specs.Prelude.{nat_le}
 use Rattle.std.proofs.lemmas.Bool.{leb-true}
-use Rattle.std.proofs.lemmas.List.{length-append}
+use Rattle.std.proofs.lemmas.List.{length-append, get_or-map, map-set}
 use Rattle.slot_pool.specs.Held.{Held, spare}
 use Rattle.slot_pool.specs.References.{Moved, Covers}
 use Rattle.layer_ast.specs.declared.tokens.Dir.{Dir}
@@ -18,21 +18,23 @@ use Rattle.pool_message.specs.Seen.{event_refs, event_seen}
 use Rattle.pool_message.specs.Sent.{sent_refs}
 use Rattle.pool_message.specs.declared.event.PoolEvent.{PoolEvent}
 use Rattle.layer_stage.specs.Room.{slots_needed, places_needed, headers_met, most_counted, most_kept, CountsWithin}
+use Rattle.layer_stage.specs.Taken.{one_more}
 use Rattle.stack_queue.specs.declared.tasks.PoolTask.{PoolTask}
 use Rattle.stack_queue.specs.Pending.{first_task, tasks_seen, tasks_refs, TasksLie}
 use Rattle.stack_queue.specs.Stages.{Stand}
+use Rattle.stack_queue.specs.Taken.{counted_at}
 use Rattle.stack_queue.specs.Going.{Begun, Now, BeginsWell, Going, weight_of}
 use Rattle.stack_queue.proofs.Lists.{IsFirst}
 use Rattle.stack_queue.proofs.Asked.{few_tasks, counts_within, headers_within, slots_within, places_within}
-use Rattle.stack_queue.proofs.Stages.{few_refs, ready_at, visit_is, layer_at_place, covers_at, moved_all, stands, states_are}
+use Rattle.stack_queue.proofs.Stages.{as_many, few_refs, ready_at, visit_is, layer_at_place, covers_at, moved_all, stands, states_are}
 use Rattle.stack_queue.proofs.Steps.{visit_of, visit_goes, visit_falls, output_goes, output_falls}
 
 -- a run that goes on with equal tasks, outputs, decisions and visits
 pub goes_with : (b : Begun) (p : List Held) (n : Now) → Going b p n → (tasks : List PoolTask) (out : List (Dir × PoolEvent)) (says : Predicted)
     (visits : ℕ) → n.tasks ≡ tasks → n.out ≡ out → n.predicted ≡ says → n.visits ≡ visits →
-    Going b p (record { states = n.states; refs = n.refs; tasks = tasks; out = out; predicted = says; visits = visits })
+    Going b p (record { states = n.states; refs = n.refs; tasks = tasks; out = out; predicted = says; visits = visits; taken = n.taken })
 goes_with b p n g tasks out says visits ts os ps vs =
-    subst (Going b p) (λ j. record { states = n.states; refs = n.refs; tasks = ts j; out = os j; predicted = ps j; visits = vs j }) g
+    subst (Going b p) (λ j. record { states = n.states; refs = n.refs; tasks = ts j; out = os j; predicted = ps j; visits = vs j; taken = n.taken }) g
 
 -- where a task isn't at an edge, it is at a place
 pub placed_at : (places at : ℕ) (c : Bool) → c ≡ not (is_place places at) → c ≡ false → is_place places at ≡ true
@@ -56,12 +58,12 @@ bounds places at placed =
     let parts = both_true (nat_le 1 at) (nat_le at places) placed in (leb-true 1 at parts.0, leb-true at places parts.1)
 
 module _ {S : Type 0} (place : S → ℕ) (layer : S → LayerTree) (refs : S → List ℕ) (Ready : List Held → S → Type 0)
-    (state : List Held → S → State)
+    (state : List Held → S → State) (taken : S → ℕ)
     (frame : (p q : List Held) (a b : List ℕ) (s : S) → Moved p q a b → Covers p (a ++ refs s) → Ready p s → Ready q s × (state q s ≡ state p s))
     (few : (p : List Held) (s : S) → Ready p s → length (refs s) ≤ most_kept)
     (b : Begun) (well : BeginsWell b) (p : List Held) (stages : List S) (stand : Stand place layer Ready b.stack p stages)
     (tasks : List PoolTask) (out : List (Dir × PoolEvent)) (says : Predicted) (visits : ℕ)
-    (going : Going b p (record { states = map (state p) stages; refs = flat_map refs stages; tasks = tasks; out = out; predicted = says; visits = visits }))
+    (going : Going b p (record { states = map (state p) stages; refs = flat_map refs stages; tasks = tasks; out = out; predicted = says; visits = visits; taken = map taken stages }))
     (at : ℕ) (is : IsFirst tasks at) where
   -- the first task, and those behind it
   abbrev t : PoolTask
@@ -71,10 +73,10 @@ module _ {S : Type 0} (place : S → ℕ) (layer : S → LayerTree) (refs : S �
   rest = drop 1 tasks
 
   abbrev now : Now
-  now = record { states = map (state p) stages; refs = flat_map refs stages; tasks = t ∷ rest; out = out; predicted = says; visits = visits }
+  now = record { states = map (state p) stages; refs = flat_map refs stages; tasks = t ∷ rest; out = out; predicted = says; visits = visits; taken = map taken stages }
 
-  front : Going b p (record { states = map (state p) stages; refs = flat_map refs stages; tasks = t ∷ rest; out = out; predicted = says; visits = visits })
-  front = subst (λ ts. Going b p (record { states = map (state p) stages; refs = flat_map refs stages; tasks = ts; out = out; predicted = says; visits = visits })) is.0 going
+  front : Going b p (record { states = map (state p) stages; refs = flat_map refs stages; tasks = t ∷ rest; out = out; predicted = says; visits = visits; taken = map taken stages })
+  front = subst (λ ts. Going b p (record { states = map (state p) stages; refs = flat_map refs stages; tasks = ts; out = out; predicted = says; visits = visits; taken = map taken stages })) is.0 going
 
   -- an output has a place
   pub output_fits : length out < length b.out + task_weight b.stack b.first
@@ -87,7 +89,7 @@ module _ {S : Type 0} (place : S → ℕ) (layer : S → LayerTree) (refs : S �
   )
 
   pub puts_out : is_place (length b.stack) at ≡ false →
-      Going b p (record { states = map (state p) stages; refs = flat_map refs stages; tasks = rest; out = out ++ (t.direction, t.event) ∷ []; predicted = says; visits = visits })
+      Going b p (record { states = map (state p) stages; refs = flat_map refs stages; tasks = rest; out = out ++ (t.direction, t.event) ∷ []; predicted = says; visits = visits; taken = map taken stages })
   puts_out edge = output_goes b well p (map (state p) stages) (flat_map refs stages) t rest now front
       (ap (is_place (length b.stack)) is.1 ∙ edge)
 
@@ -136,16 +138,16 @@ module _ {S : Type 0} (place : S → ℕ) (layer : S → LayerTree) (refs : S �
       places_within b well p (map (state p) stages) (flat_map refs stages) t rest now front placed,
     )
 
-    -- what is taken: the references of its event, and of the other tasks
-    abbrev taken : List ℕ
-    taken = event_refs t.event ++ tasks_refs rest
+    -- the references of the event that is taken, and of the other tasks
+    abbrev pending : List ℕ
+    pending = event_refs t.event ++ tasks_refs rest
 
-    all_covered : Covers p (flat_map refs stages ++ (taken ++ sent_refs out))
+    all_covered : Covers p (flat_map refs stages ++ (pending ++ sent_refs out))
     all_covered = front.covers
 
     pub covers_it : Covers p (refs (get_or stages k d) ++ tasks_refs tasks)
     covers_it = subst (λ ts. Covers p (refs (get_or stages k d) ++ tasks_refs ts)) (sym is.0)
-        (covers_at place layer refs Ready state frame few b.stack p stages stand k lt d taken (sent_refs out) all_covered)
+        (covers_at place layer refs Ready state frame few b.stack p stages stand k lt d pending (sent_refs out) all_covered)
 
     -- and behind it the run goes on
     module _ (q : List Held) (s' : S) (after : List PoolTask) (decided : Predicted)
@@ -155,7 +157,7 @@ module _ {S : Type 0} (place : S → ℕ) (layer : S → LayerTree) (refs : S �
         (state_is : state q s' ≡ (step (place (get_or stages k d)) (layer (get_or stages k d)) (state p (get_or stages k d)) t.direction (event_seen p t.event)).state)
         (tasks_are : tasks_seen q after ≡ tasks_seen p rest ++ tasks_of at (step (place (get_or stages k d)) (layer (get_or stages k d)) (state p (get_or stages k d)) t.direction (event_seen p t.event)).sent)
         (decided_is : decided ≡ as_predicted (step (place (get_or stages k d)) (layer (get_or stages k d)) (state p (get_or stages k d)) t.direction (event_seen p t.event)).decided) where
-      first_moved : Moved p q (refs (get_or stages k d) ++ taken) (refs s' ++ tasks_refs after)
+      first_moved : Moved p q (refs (get_or stages k d) ++ pending) (refs s' ++ tasks_refs after)
       first_moved = subst (λ ts. Moved p q (refs (get_or stages k d) ++ tasks_refs ts) (refs s' ++ tasks_refs after)) is.0 moved
 
       same_visit : step (place (get_or stages k d)) (layer (get_or stages k d)) (state p (get_or stages k d)) t.direction (event_seen p t.event)
@@ -164,33 +166,39 @@ module _ {S : Type 0} (place : S → ℕ) (layer : S → LayerTree) (refs : S �
           ∙ ap (λ i. step i (get_or b.stack i no_layer) (get_or (map (state p) stages) i no_state) t.direction (event_seen p t.event)) k_is
 
       shown : map (state q) (set stages k s') ≡ set (map (state p) stages) (t.at - 1) (visit_of b p (map (state p) stages) t).state
-      shown = states_are place layer refs Ready state frame few b.stack p stages stand k lt d taken (sent_refs out) all_covered q s' (tasks_refs after) first_moved ready
+      shown = states_are place layer refs Ready state frame few b.stack p stages stand k lt d pending (sent_refs out) all_covered q s' (tasks_refs after) first_moved ready
           ∙ (λ j. set (map (state p) stages) (k_is j) ((state_is ∙ ap (λ (v : Visited). v.state) same_visit) j))
 
       shown_tasks : tasks_seen q after ≡ tasks_seen p rest ++ tasks_of t.at (visit_of b p (map (state p) stages) t).sent
       shown_tasks = tasks_are ∙ (λ j. tasks_seen p rest ++ tasks_of (sym is.1 j) (same_visit j).sent)
 
-      moved_on : Moved p q (flat_map refs stages ++ taken) (flat_map refs (set stages k s') ++ tasks_refs after)
-      moved_on = moved_all place layer refs Ready state frame few b.stack p stages stand k lt d taken (sent_refs out) all_covered q s' (tasks_refs after) first_moved
+      moved_on : Moved p q (flat_map refs stages ++ pending) (flat_map refs (set stages k s') ++ tasks_refs after)
+      moved_on = moved_all place layer refs Ready state frame few b.stack p stages stand k lt d pending (sent_refs out) all_covered q s' (tasks_refs after) first_moved
 
       spent_on : spare p ≤ spare q + slots_needed (layer_at b.stack t.at) t.direction (event_seen p t.event)
       spent_on = omega (arith, spent, ap (λ l. slots_needed l t.direction (event_seen p t.event)) same_layer)
 
-      pub visit_goes_on : Going b q (record {
+      counted : taken s' ≡ one_more (taken (get_or stages k d)) → map taken (set stages k s') ≡ counted_at (map taken stages) t.at
+      counted more = map-set taken stages k s'
+          ∙ ap (set (map taken stages) k) (more ∙ ap one_more (sym (get_or-map taken stages k d 0 (omega (arith, lt, as_many place layer refs Ready state frame few b.stack p stages stand)))))
+          ∙ ap (λ i. set (map taken stages) i (one_more (get_or (map taken stages) i 0))) k_is
+
+      pub visit_goes_on : taken s' ≡ one_more (taken (get_or stages k d)) → Going b q (record {
         states = map (state q) (set stages k s');
         refs = flat_map refs (set stages k s');
         tasks = after;
         out = out;
         predicted = both says decided;
         visits = visits + 1;
+        taken = map taken (set stages k s');
       })
-      visit_goes_on = visit_goes b well p (map (state p) stages) (flat_map refs stages) t rest now front placed q (map (state q) (set stages k s'))
+      visit_goes_on more = visit_goes b well p (map (state p) stages) (flat_map refs stages) t rest now front placed q (map (state q) (set stages k s'))
           (flat_map refs (set stages k s')) after decided moved_on spent_on lie shown
           shown_tasks
-          (decided_is ∙ ap (λ (v : Visited). as_predicted v.decided) same_visit)
+          (decided_is ∙ ap (λ (v : Visited). as_predicted v.decided) same_visit) (map taken (set stages k s')) (counted more)
 
       pub visit_stands : place s' ≡ place (get_or stages k d) → layer s' ≡ layer (get_or stages k d) → Stand place layer Ready b.stack q (set stages k s')
-      visit_stands same_place same_layer = stands place layer refs Ready state frame few b.stack p stages stand k lt d taken (sent_refs out) all_covered q s'
+      visit_stands same_place same_layer = stands place layer refs Ready state frame few b.stack p stages stand k lt d pending (sent_refs out) all_covered q s'
           (tasks_refs after) first_moved ready same_place same_layer
 
       pub falls : suc (weight_of b q after) ≤ weight_of b p tasks

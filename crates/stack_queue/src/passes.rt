@@ -19,8 +19,8 @@ pub(crate) fn pass_along<S: Stage>(
     sent: &mut (Dir, PoolEvent),
     visits: &mut u64,
 ) -> u16
-    requires { (r : Rest) × GoesWith S.place S.layer S.refs S.ready S.state r stages.old (standing_at at sent.old ∷ []) visits.old }
-    ensures goes { Continues S.place S.layer S.refs S.ready S.state stages.old (standing_at at sent.old ∷ []) visits.old
+    requires { (r : Rest) × GoesWith S.place S.layer S.refs S.ready S.state S.taken r stages.old (standing_at at sent.old ∷ []) visits.old }
+    ensures goes { Continues S.place S.layer S.refs S.ready S.state S.taken stages.old (standing_at at sent.old ∷ []) visits.old
         stages.new (standing_at result sent.new ∷ []) visits.new }
     ensures stays { StaysAt (map S.layer stages.new) (standing_at result sent.new) }
 {
@@ -39,7 +39,7 @@ pub(crate) fn pass_along<S: Stage>(
 /// An event passes a layer, if that has no handler for it. Says whether it did; where it didn't, nothing has changed.
 pub(crate) fn pass_one<S: Stage>(stage: &mut S, sent: &mut (Dir, PoolEvent)) -> bool
     requires { CanPass sent.old.0 sent.old.1.message }
-    ensures { Passes S.place S.layer S.refs S.ready S.state stage.old sent.old stage.new sent.new result }
+    ensures { Passes S.place S.layer S.refs S.ready S.state S.taken stage.old sent.old stage.new sent.new result }
 {
     stage.pass(sent.0, &mut sent.1)
 }

@@ -64,6 +64,7 @@ impl Tasks {
     ghost use Rattle.layer_desk.specs.Need.{most_above};
     ghost use Rattle.layer_eval.specs.Did.{as_predicted, both};
     ghost use Rattle.layer_stage.specs.Room.{slots_needed, places_needed, headers_met, most_counted, CountsWithin};
+    ghost use Rattle.layer_stage.specs.Taken.{one_more};
     ghost use Rattle.pool_message.specs.Seen.{event_seen};
     ghost use Rattle.pool_message.specs.Sent.{CanPass};
     ghost use Rattle.stack_queue.specs.Passing.{Rest, GoesWith, Continues, StaysAt};
@@ -145,9 +146,9 @@ impl Tasks {
     /// has one. Each of them is a visit. Says where the first task stands then.
     pub(crate) fn pass<S: Stage>(&mut self, at: u16, stages: &mut [S], visits: &mut u64) -> u16
         requires first { (self.old.items ≡ first_task self.old.items ∷ drop 1 self.old.items) × ((first_task self.old.items).at ≡ at) }
-        requires goes { (r : Rest) × GoesWith S.place S.layer S.refs S.ready S.state r stages.old self.old.items visits.old }
+        requires goes { (r : Rest) × GoesWith S.place S.layer S.refs S.ready S.state S.taken r stages.old self.old.items visits.old }
         ensures first { (self.new.items ≡ first_task self.new.items ∷ drop 1 self.new.items) × ((first_task self.new.items).at ≡ result) }
-        ensures goes { Continues S.place S.layer S.refs S.ready S.state stages.old self.old.items visits.old stages.new self.new.items visits.new }
+        ensures goes { Continues S.place S.layer S.refs S.ready S.state S.taken stages.old self.old.items visits.old stages.new self.new.items visits.new }
         ensures stays { length self.old.items ≡ 1 → StaysAt (map S.layer stages.new) (first_task self.new.items) }
         ensures capacity { self.new.capacity ≡ self.old.capacity }
     {
@@ -195,6 +196,7 @@ impl Tasks {
         ensures lie { TasksLie pool.new self.new.items }
         ensures place { S.place stage.new ≡ S.place stage.old }
         ensures layer { S.layer stage.new ≡ S.layer stage.old }
+        ensures taken { S.taken stage.new ≡ one_more (S.taken stage.old) }
     {
         if self.pass_round(at, stage) {
             return;
@@ -210,7 +212,7 @@ impl Tasks {
         requires at { (first_task self.old.items).at ≡ at }
         requires place { (1 ≤ at) × (at ≤ 255) }
         requires room { CanPass (first_task self.old.items).direction (first_task self.old.items).event.message }
-        ensures { PassesRound S.place S.layer S.refs S.ready S.state stage.old self.old stage.new self.new result }
+        ensures { PassesRound S.place S.layer S.refs S.ready S.state S.taken stage.old self.old stage.new self.new result }
     {
         if self.events.len() < 2 {
             return false;
@@ -254,6 +256,7 @@ impl Tasks {
         ensures lie { TasksLie pool.new self.new.items }
         ensures place { S.place stage.new ≡ S.place stage.old }
         ensures layer { S.layer stage.new ≡ S.layer stage.old }
+        ensures taken { S.taken stage.new ≡ one_more (S.taken stage.old) }
     {
         let decided = stage.take(pool, &mut self.events);
         go_on(&mut self.places, &self.events, at);

@@ -16,6 +16,7 @@ ghost use Rattle.pool_message.specs.Sent.{sent_refs, sent_seen, SentLie};
 ghost use Rattle.layer_stage.specs.Room.{CountsWithin};
 ghost use Rattle.stack_queue.specs.Pending.{first_task, task_seen};
 ghost use Rattle.stack_queue.specs.Stages.{Stand, most_at_first, run_of};
+ghost use Rattle.stack_queue.specs.Taken.{taken_behind};
 
 use crate::tasks::Tasks;
 use event_graph::Stack;
@@ -56,6 +57,7 @@ pub fn run<S: Stage>(
     ensures outs { sent_seen pool.new out.new.items ≡ sent_seen pool.old out.old.items ++ (run_of (stack_tree stack.now) (map (S.state pool.old) stages.old) (task_seen pool.old (first_task tasks.old.items))).world.outs }
     ensures predicted { result ≡ as_predicted (run_of (stack_tree stack.now) (map (S.state pool.old) stages.old) (task_seen pool.old (first_task tasks.old.items))).world.decided }
     ensures visits { visits.new ≡ visits.old + (run_of (stack_tree stack.now) (map (S.state pool.old) stages.old) (task_seen pool.old (first_task tasks.old.items))).world.visits }
+    ensures taken { map S.taken stages.new ≡ taken_behind (stack_tree stack.now) (map (S.state pool.old) stages.old) (task_seen pool.old (first_task tasks.old.items)) (map S.taken stages.old) }
     ensures done { (run_of (stack_tree stack.now) (map (S.state pool.old) stages.old) (task_seen pool.old (first_task tasks.old.items))).tasks ≡ [] }
 
     // The references of the stages, of the event and of what came out have moved in the pool, and no others.

@@ -4,7 +4,7 @@ use Rattle.stack_queue.proofs.passes.pass_along.Given as goal
 
 abbrev pub invariant-loop-direction : goal.invariant-loop-direction
 invariant-loop-direction g l =
-    Continues g.S.Stage.place g.S.Stage.layer g.S.Stage.refs g.S.Stage.ready g.S.Stage.state
+    Continues g.S.Stage.place g.S.Stage.layer g.S.Stage.refs g.S.Stage.ready g.S.Stage.state g.S.Stage.taken
     l.fn.stages (standing_at l.fn.at l.fn.sent ∷ []) l.fn.visits l.stages (standing_at l.here l.sent ∷ []) l.visits
     × (l.sent.0 ≡ l.direction)
 

@@ -18,6 +18,7 @@ invariant-loop-at g l =
       refs = flat_map g.S.Stage.refs l.fn.stages ++ event_refs (first_task l.fn.tasks.items).event;
       out = l.fn.out.items;
       visits = l.fn.visits;
+      taken = map g.S.Stage.taken l.fn.stages;
     } in
     BeginsWell b
     × Going b l.pool (record {
@@ -27,6 +28,7 @@ invariant-loop-at g l =
       out = l.out.items;
       predicted = l.predicted;
       visits = l.visits;
+      taken = map g.S.Stage.taken l.stages;
     })
     × Stand g.S.Stage.place g.S.Stage.layer g.S.Stage.ready stack l.pool l.stages
     × (l.tasks.capacity ≡ l.fn.tasks.capacity)
