@@ -12,14 +12,14 @@ use Rattle.run_mean.specs.Report.{counted}
 use Rattle.layer_eval.specs.declared.predicted.Predicted.{Predicted}
 use Rattle.step_outputs.specs.Gathered.{Gathered}
 use Rattle.bypass_member.specs.Modes.{IsTakenSo}
-use Rattle.bypass_member.specs.Stepping.{stack_of, plans_in, mode_of, in_full, step_over, HasPlayed, HasGone}
+use Rattle.bypass_member.specs.Stepping.{stack_of, plans_in, mode_of, in_full, step_over, taken_over, HasPlayed, HasGone}
 use Rattle.bypass_member.specs.Trying.{IsMadeIn, IsUncommon}
 use Rattle.bypass_member.specs.Viewing.{IsIn}
 use Rattle.bypass_member.specs.Working.{states_in, taken_in, AreSame}
 use Rattle.bypass_member.specs.declared.ground.Ground.{Ground}
 use Rattle.bypass_member.specs.declared.works.Works.{Works}
 use Rattle.bypass_member.proofs.Playing.{members_stay}
-use Rattle.bypass_member.proofs.Same.{same_states}
+use Rattle.bypass_member.proofs.Same.{same_states, same_taken}
 
 -- where no plan comes next, none does
 
@@ -48,14 +48,18 @@ module _ (g : Ground) (old : Works) (what : Entered) where
   uncommon_counted layered un = refl
   uncommon_counted bypass un = ap (λ (c : Option Case). if is_some c then 0 else its.work.visits) un
 
-  uncommon_taken : (mode : Mode) → IsUncommon mode g (states_in old) what → (before after : List ℕ) →
-      IsTakenSo mode (is_common (stack_of g) (plans_in g) its) before after
-  uncommon_taken layered un before after = tt
-  uncommon_taken bypass un before after = subst (λ (c : Option Case). IsTakenSo bypass (is_some c) before after) (sym un) tt
+  uncommon_taken : (mode : Mode) → IsUncommon mode g (states_in old) what → (before ran after : List ℕ) → after ≡ ran →
+      IsTakenSo mode (is_common (stack_of g) (plans_in g) its) before ran after
+  uncommon_taken layered un before ran after is = is
+  uncommon_taken bypass un before ran after is = subst (λ (c : Option Case). IsTakenSo bypass (is_some c) before ran after) (sym un) is
+
+  -- what the layers have taken, where the run is made
+  abbrev ran_to : List ℕ
+  ran_to = taken_over g (states_in old) what (taken_in old)
 
   module _ (new : Works) (out : Gathered) (before after : ℕ) where
     by_run : (predicted : Predicted) (result : Bool) → IsUncommon (mode_of g) g (states_in old) what →
-        HasPlayed g (states_in old) what new out before after predicted → result ≡ is_common (stack_of g) (plans_in g) its →
+        HasPlayed g (states_in old) (taken_in old) what new out before after predicted → result ≡ is_common (stack_of g) (plans_in g) its →
         HasGone g old what new out before after result
     by_run predicted result un played common_is = record {
       ready = played.ready;
@@ -66,17 +70,18 @@ module _ (g : Ground) (old : Works) (what : Entered) where
       here = played.here;
       common = common_is;
       visits = played.visits ∙ ap (λ (n : ℕ). before + n) (sym (uncommon_counted (mode_of g) un));
-      taken = uncommon_taken (mode_of g) un (taken_in old) (taken_in new);
+      taken = uncommon_taken (mode_of g) un (taken_in old) ran_to (taken_in new) played.taken;
     }
 
     -- where nothing had changed before the run
     pub gone_by_run : (mid : Works) (predicted : Predicted) (result : Bool) → AreSame old mid → IsUncommon (mode_of g) g (states_in old) what →
-        HasPlayed g (states_in mid) what new out before after predicted →
+        HasPlayed g (states_in mid) (taken_in mid) what new out before after predicted →
         result ≡ is_common (stack_of g) (plans_in g) (step_over g (states_in mid) what) → HasGone g old what new out before after result
     gone_by_run mid predicted result same un played common_is =
         let states = same_states old mid same in
         by_run predicted result un
-        (subst (λ (states : List State). HasPlayed g states what new out before after predicted) states played)
+        (subst (λ (counts : List ℕ). HasPlayed g (states_in old) counts what new out before after predicted) (same_taken old mid same)
+        (subst (λ (states : List State). HasPlayed g states (taken_in mid) what new out before after predicted) states played))
         (subst (λ (states : List State). result ≡ is_common (stack_of g) (plans_in g) (step_over g states what)) states common_is)
 
   -- a step that is made by its code is common, and counts for no visit
@@ -99,6 +104,6 @@ module _ (g : Ground) (old : Works) (what : Entered) where
               let none : visits ≡ visits + 0 = omega arith in
               none ∙ ap (λ (c : Option Case). visits + (if is_some c then 0 else its.work.visits)) (sym is)
               ∙ ap (λ (mode : Mode). visits + counted mode (stack_of g) (plans_in g) its) (sym made.mode);
-          taken = subst (λ (mode : Mode). IsTakenSo mode (is_common (stack_of g) (plans_in g) its) (taken_in old) (taken_in new)) (sym made.mode)
-              (subst (λ (c : Option Case). IsTakenSo bypass (is_some c) (taken_in old) (taken_in new)) (sym is) made.made.taken);
+          taken = subst (λ (mode : Mode). IsTakenSo mode (is_common (stack_of g) (plans_in g) its) (taken_in old) ran_to (taken_in new)) (sym made.mode)
+              (subst (λ (c : Option Case). IsTakenSo bypass (is_some c) (taken_in old) ran_to (taken_in new)) (sym is) made.made.taken);
         }

@@ -31,7 +31,8 @@ use Rattle.packet_mean.specs.declared.here.Here.{Here}
 use Rattle.job_mean.specs.Job.{Mode}
 use Rattle.run_mean.specs.Common.{is_common, as_sent}
 use Rattle.run_mean.specs.Report.{counted}
-use Rattle.run_mean.specs.Member.{Member, inside, out, Input, Refusal, Entered, entered, Step, step_from, member_behind}
+use Rattle.run_mean.specs.Member.{Member, inside, out, Input, Refusal, Entered, entered, first_task, Step, step_from, member_behind}
+use Rattle.stack_queue.specs.Taken.{taken_behind}
 use Rattle.step_outputs.specs.Gathered.{Gathered}
 use Rattle.view_core.specs.Refusals.{refusal_meant}
 use Rattle.view_core.specs.Steps.{changed}
@@ -39,8 +40,8 @@ use Rattle.view_core.specs.declared.refusal.Refusal as refusal
 use Rattle.view_core.specs.declared.refusal.Refusal.TheVariants as reasons
 use Rattle.member_reads.specs.Shown.{member_in}
 use Rattle.bypass_member.specs.Behind.{rank_of, view_behind}
-use Rattle.bypass_member.specs.Placed.{Placed, here_in, step_in, step_at, step_of, member_after, SamePlace, Takes}
-use Rattle.bypass_member.specs.Stepping.{stack_of, plans_in, codes_in, mode_of, IsGround, step_over, HasTaken}
+use Rattle.bypass_member.specs.Placed.{Placed, here_in, step_in, step_at, step_of, member_after, taken_at, SamePlace, Takes}
+use Rattle.bypass_member.specs.Stepping.{stack_of, plans_in, codes_in, mode_of, IsGround, step_over, taken_over, HasTaken}
 use Rattle.bypass_member.specs.Working.{states_in, taken_in, IsReady}
 use Rattle.bypass_member.specs.declared.ground.Ground.{Ground}
 use Rattle.bypass_member.specs.declared.ground.Took.{Took}
@@ -83,7 +84,10 @@ module _ (p : Placed) (view : View) (states : List State) (input : Input) (is : 
   takes g what old works gathered before after took new stack plans mode here id enters taken are told member tells place =
       let same : step_over g (states_in old) what ≡ its what = λ i. step_from (stack i) (here i) (id i) (are i) what in
       let common : is_common (stack_of g) (plans_in g) (step_over g (states_in old) what) ≡ is_common p.stack p.plans (its what) =
-      λ i. is_common (stack i) (plans i) (same i) in record {
+      λ i. is_common (stack i) (plans i) (same i) in
+      let ran : taken_over g (states_in old) what (taken_in old) ≡ taken_at p p.member what =
+      (λ i. taken_behind (stack i) (are i) (first_task (stack i) (here i).rank what) (sym told i)) ∙ ap (λ (m : Member). taken_at p m what) (sym is)
+      in record {
         step = its what;
         is = steps_in what enters;
         member =
@@ -94,11 +98,13 @@ module _ (p : Placed) (view : View) (states : List State) (input : Input) (is : 
         change_is = taken.change ∙ ap (λ (s : Step). changed s.installs) same;
         visits = taken.visits ∙ (λ i. before + counted (mode i) (stack i) (plans i) (same i));
         taken_is =
-            subst (λ (xs : List ℕ). IsTakenSo p.mode (is_common p.stack p.plans (its what)) p.taken xs) (sym tells)
-            (subst (λ (xs : List ℕ). IsTakenSo p.mode (is_common p.stack p.plans (its what)) xs (taken_in works)) (sym told)
-            (subst (λ (b : Bool). IsTakenSo p.mode b (taken_in old) (taken_in works)) common
+            subst (λ (xs : List ℕ). IsTakenSo p.mode (is_common p.stack p.plans (its what)) p.taken (taken_at p p.member what) xs) (sym tells)
+            (subst (λ (xs : List ℕ). IsTakenSo p.mode (is_common p.stack p.plans (its what)) p.taken xs (taken_in works)) ran
+            (subst (λ (xs : List ℕ). IsTakenSo p.mode (is_common p.stack p.plans (its what)) xs (taken_over g (states_in old) what (taken_in old))
+            (taken_in works)) (sym told)
+            (subst (λ (b : Bool). IsTakenSo p.mode b (taken_in old) (taken_over g (states_in old) what (taken_in old)) (taken_in works)) common
             (subst (λ (m : Mode). IsTakenSo m (is_common (stack_of g) (plans_in g) (step_over g (states_in old) what)) (taken_in old)
-            (taken_in works)) mode taken.taken)));
+            (taken_over g (states_in old) what (taken_in old)) (taken_in works)) mode taken.taken))));
         place = place;
       }
 

@@ -46,12 +46,13 @@ use Rattle.pool_message.specs.declared.event.PoolEvent.{PoolEvent}
 use Rattle.pool_message.specs.declared.message.PoolMessage.{PoolMessage}
 use Rattle.stack_queue.specs.Pending.{task_seen}
 use Rattle.stack_queue.specs.Stages.{Stand}
+use Rattle.stack_queue.specs.Taken.{taken_behind}
 use Rattle.stack_queue.specs.declared.tasks.PoolTask.{PoolTask}
 use Rattle.stack_queue.proofs.Entries.{entries_fit}
 use Rattle.pool_laws.specs.Room.{IsPoolFor}
 use Rattle.pool_laws.proofs.Room.{not_full}
 use Rattle.pool_laws.proofs.Stages.{own_pool_is_made}
-use Rattle.file_layer.specs.Layer.{place_of, tree_of, refs_of, IsInOrder, state_in}
+use Rattle.file_layer.specs.Layer.{place_of, tree_of, refs_of, taken_by, IsInOrder, state_in}
 use Rattle.file_layer.specs.Staged.{layer_keeps}
 use Rattle.file_layer.specs.declared.layer.FileLayer.{FileLayer}
 use Rattle.step_outputs.specs.Gathered.{Gathered, full_output}
@@ -60,7 +61,7 @@ use Rattle.bypass_member.specs.Gathering.{BringsAsKind}
 use Rattle.bypass_member.specs.Judged.{entry_meant, body_of}
 use Rattle.bypass_member.specs.Stepping.{stack_of, in_full, IsGround, HasPlayed}
 use Rattle.bypass_member.specs.Viewing.{input_at, HasMembers, IsIn}
-use Rattle.bypass_member.specs.Working.{states_in, refs_in, IsReady, CanRun, HasRun, work_of, outputs_in}
+use Rattle.bypass_member.specs.Working.{states_in, refs_in, taken_in, IsReady, CanRun, HasRun, work_of, outputs_in}
 use Rattle.bypass_member.specs.declared.entry.Entry.{Entry}
 use Rattle.bypass_member.specs.declared.entry.Entry.TheVariants.{Cast, Send, Leave, Tick, Packet}
 use Rattle.bypass_member.specs.declared.ground.Ground.{Ground}
@@ -182,6 +183,7 @@ module _ (stack : List LayerTree) (here : Here) (id : ℕ) (states : List State)
     pub outs : sent_seen new.pool new.outs.items ≡ its.work.outs
     pub predicted : result ≡ as_predicted its.work.decided
     pub visits : after ≡ before + its.work.visits
+    pub taken : taken_in new ≡ taken_behind stack states (first_task stack here.rank what) (taken_in old)
 
   pub ended : (w : Works) (first : PoolTask) (before : ℕ) (new : Works) (after : ℕ) (result : Predicted) → states_in w ≡ states →
       task_seen w.pool first ≡ first_task stack here.rank what → HasRun stack w first before new after result → Ended w before new after result
@@ -191,6 +193,7 @@ module _ (stack : List LayerTree) (here : Here) (id : ℕ) (states : List State)
         outs = has.outs ∙ ap (λ (k : Work). k.outs) work;
         predicted = has.predicted ∙ ap (λ (k : Work). as_predicted k.decided) work;
         visits = has.visits ∙ ap (λ (k : Work). before + k.visits) work;
+        taken = has.taken ∙ (λ i. taken_behind stack (same i) (seen i) (taken_in w));
       }
 
   module _ (step : IsStep stack here states what) where
@@ -235,7 +238,7 @@ module _ (g : Ground) (w : Works) (what : Entered) where
       Returned mid.pool last.pool (sent_refs mid.outs.items) → last.layers ≡ mid.layers → last.tasks ≡ mid.tasks →
       last.outs ≡ buffer [] mid.outs.capacity → begun.outputs ≡ [] → begun.here ≡ g.here →
       out ≡ record begun { outputs = begun.outputs ++ outputs_in begun.here mid.pool mid.outs.items } →
-      HasPlayed g (states_in w) what last out before after result
+      HasPlayed g (states_in w) (taken_in w) what last out before after result
   played q ts first before mid after result last begun out ready is_in brings only has ended returned layers tasks outs none here gathered =
       let stays = stand_stays (stack_of g) mid.pool last.pool (sent_refs mid.outs.items) [] mid.layers.items returned.moved
       (covers_turned mid.pool (refs_in mid) (sent_refs mid.outs.items) has.exact) has.stand in
@@ -264,6 +267,7 @@ module _ (g : Ground) (w : Works) (what : Entered) where
         here = ap (λ (o : Gathered). o.here) gathered ∙ here;
         predicted = ended.predicted;
         visits = ended.visits;
+        taken = ap (λ (v : Vec FileLayer Global). map taken_by v.items) layers ∙ ended.taken;
       }
 
 -- what all steps share: the ground, what entered and the run

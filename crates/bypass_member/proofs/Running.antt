@@ -12,8 +12,9 @@ use Rattle.pool_message.specs.Sent.{sent_refs, sent_seen, SentLie}
 use Rattle.pool_message.specs.declared.event.PoolEvent.{PoolEvent}
 use Rattle.stack_queue.specs.Pending.{task_seen}
 use Rattle.stack_queue.specs.Stages.{Stand, run_of}
+use Rattle.stack_queue.specs.Taken.{taken_behind}
 use Rattle.stack_queue.specs.declared.tasks.PoolTask.{PoolTask}
-use Rattle.file_layer.specs.Layer.{place_of, tree_of, refs_of, IsInOrder, state_in}
+use Rattle.file_layer.specs.Layer.{place_of, tree_of, refs_of, taken_by, IsInOrder, state_in}
 use Rattle.file_layer.specs.declared.layer.FileLayer.{FileLayer}
 use Rattle.bypass_member.specs.Working.{refs_in, work_of, HasRun}
 use Rattle.bypass_member.specs.declared.works.Works.{Works}
@@ -30,6 +31,7 @@ pub record Ran (stack : List LayerTree) (old : Works) (first : PoolTask) (stages
   pub outs : sent_seen new.pool new.outs.items ≡ sent_seen old.pool old.outs.items ++ (work stack old first stages).outs
   pub predicted : result ≡ as_predicted (work stack old first stages).decided
   pub visits : after ≡ before + (work stack old first stages).visits
+  pub taken : map taken_by news ≡ taken_behind stack (map (state_in old.pool) stages) (task_seen old.pool first) (map taken_by stages)
   pub moved : Moved old.pool new.pool (flat_map refs_of stages ++ (event_refs first.event ++ sent_refs old.outs.items)) (flat_map refs_of news ++
       sent_refs new.outs.items)
   pub stand : Stand place_of tree_of IsInOrder stack new.pool news
@@ -49,6 +51,7 @@ has_run stack old first stages before new news after result same again none exac
       outs = its.outs ∙ ap (λ (xs : List (Dir × PoolEvent)). sent_seen old.pool xs ++ (work_of stack old first).outs) none;
       predicted = its.predicted;
       visits = its.visits;
+      taken = its.taken;
       stand = its.stand;
       exact = exact_run old.pool new.pool (refs_in old) (event_refs first.event) (refs_in new ++ sent_refs new.outs.items) exact
           (subst (λ (xs : List (Dir × PoolEvent)). Moved old.pool new.pool (refs_in old ++ (event_refs first.event ++ sent_refs xs))

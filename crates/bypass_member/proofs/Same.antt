@@ -4,13 +4,16 @@ use Rattle.slot_pool.specs.Held.{Held}
 use Rattle.slot_pool.specs.References.{Exact}
 use Rattle.layer_mean.specs.Tree.{LayerTree}
 use Rattle.stack_queue.specs.Stages.{Stand}
-use Rattle.file_layer.specs.Layer.{place_of, tree_of, refs_of, IsInOrder, state_in}
+use Rattle.file_layer.specs.Layer.{place_of, tree_of, refs_of, taken_by, IsInOrder, state_in}
 use Rattle.file_layer.specs.declared.layer.FileLayer.{FileLayer}
-use Rattle.bypass_member.specs.Working.{states_in, AreSame, IsReady}
+use Rattle.bypass_member.specs.Working.{states_in, taken_in, AreSame, IsReady}
 use Rattle.bypass_member.specs.declared.works.Works.{Works}
 
 pub same_states : (old new : Works) → AreSame old new → states_in new ≡ states_in old
 same_states old new same = λ i. map (state_in (same.pool i)) (same.layers i)
+
+pub same_taken : (old new : Works) → AreSame old new → taken_in new ≡ taken_in old
+same_taken old new same = ap (map taken_by) same.layers
 
 pub same_ready : (stack : List LayerTree) (most : ℕ) (old new : Works) → AreSame old new → IsReady stack most old → IsReady stack most new
 same_ready stack most old new same ready = record {

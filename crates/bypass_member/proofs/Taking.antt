@@ -17,7 +17,7 @@ use Rattle.view_core.specs.declared.step.Change.TheVariants.{Into, Out}
 use Rattle.member_reads.specs.Shown.{member_in}
 use Rattle.bypass_member.specs.Behind.{view_behind}
 use Rattle.bypass_member.specs.Modes.{IsTakenSo}
-use Rattle.bypass_member.specs.Stepping.{stack_of, plans_in, mode_of, IsGround, step_over, HasGone, HasTaken}
+use Rattle.bypass_member.specs.Stepping.{stack_of, plans_in, mode_of, IsGround, step_over, taken_over, HasGone, HasTaken}
 use Rattle.bypass_member.specs.Viewing.{HasMembers, IsAt, Changes}
 use Rattle.bypass_member.specs.Working.{states_in, taken_in, IsReady}
 use Rattle.bypass_member.specs.declared.ground.Ground.{Ground}
@@ -107,6 +107,7 @@ module _ (g : Ground) (old : Works) (what : Entered) where
         common = gone.common;
         change = moved.change_is;
         visits = gone.visits;
-        taken = subst (λ (now : List ℕ). IsTakenSo (mode_of g) (is_common (stack_of g) (plans_in g) its) (taken_in old) now) (sym moved.taken)
+        taken = subst (λ (now : List ℕ). IsTakenSo (mode_of g) (is_common (stack_of g) (plans_in g) its) (taken_in old) (taken_over g (states_in old) what (taken_in old)) now)
+            (sym moved.taken)
             gone.taken;
       }

@@ -7,7 +7,7 @@ use Rattle.stack_mean.specs.Plans.{plans_of}
 use Rattle.job_mean.specs.Job.{Mode}
 use Rattle.run_mean.specs.Common.{is_common, as_sent}
 use Rattle.run_mean.specs.Report.{counted}
-use Rattle.run_mean.specs.Member.{Entered, Output, Step, step_from, member_behind}
+use Rattle.run_mean.specs.Member.{Entered, Output, Step, first_task, step_from, member_behind}
 use Rattle.chain_laws.specs.Runs.{TypedStack}
 use Rattle.member_laws.specs.Members.{IsHere}
 use Rattle.event_graph.specs.Answer.{stack_tree}
@@ -17,6 +17,7 @@ use Rattle.stack_shapes.specs.Shapes.{short_shapes}
 use Rattle.layer_eval.specs.Did.{as_predicted}
 use Rattle.layer_eval.specs.declared.predicted.Predicted.{Predicted}
 use Rattle.step_outputs.specs.Gathered.{Gathered}
+use Rattle.stack_queue.specs.Taken.{taken_behind}
 use Rattle.view_core.specs.Steps.{changed}
 use Rattle.member_reads.specs.Shown.{member_in}
 use Rattle.bypass_codes.specs.Codes.{CodesTree}
@@ -59,12 +60,16 @@ pub record IsGround (g : Ground) : Type 0 where
 abbrev pub step_over : Ground → List State → Entered → Step
 step_over g states what = step_from (stack_of g) g.here g.id states what
 
+-- How many events each layer has taken behind the run of that step.
+abbrev pub taken_over : Ground → List State → Entered → List ℕ → List ℕ
+taken_over g states what taken = taken_behind (stack_of g) states (first_task (stack_of g) g.here.rank what) taken
+
 -- An output that isn't sent short.
 abbrev pub in_full : Output → Output × Option ℕ
 in_full o = (o, None)
 
 -- The run of a step was made, and what came out of it is gathered: the member is between two steps, with the states that its layers came to.
-pub record HasPlayed (g : Ground) (states : List State) (what : Entered) (new : Works) (out : Gathered) (before after : ℕ)
+pub record HasPlayed (g : Ground) (states : List State) (counts : List ℕ) (what : Entered) (new : Works) (out : Gathered) (before after : ℕ)
     (result : Predicted) : Type 0 where
   pub ready : IsReady (stack_of g) g.most new
   pub states_are : states_in new ≡ (step_over g states what).work.states
@@ -73,6 +78,7 @@ pub record HasPlayed (g : Ground) (states : List State) (what : Entered) (new : 
   pub here : out.here ≡ g.here
   pub predicted : result ≡ as_predicted (step_over g states what).work.decided
   pub visits : after ≡ before + (step_over g states what).work.visits
+  pub taken : taken_in new ≡ taken_over g states what counts
 
 -- The step was made, by code or by its run, and the member is between two steps, in the same view as before.
 pub record HasGone (g : Ground) (old : Works) (what : Entered) (new : Works) (out : Gathered) (before after : ℕ) (result : Bool) : Type 0 where
@@ -83,7 +89,8 @@ pub record HasGone (g : Ground) (old : Works) (what : Entered) (new : Works) (ou
   pub here : out.here ≡ g.here
   pub common : result ≡ is_common (stack_of g) (plans_in g) (step_over g (states_in old) what)
   pub visits : after ≡ before + counted (mode_of g) (stack_of g) (plans_in g) (step_over g (states_in old) what)
-  pub taken : IsTakenSo (mode_of g) (is_common (stack_of g) (plans_in g) (step_over g (states_in old) what)) (taken_in old) (taken_in new)
+  pub taken : IsTakenSo (mode_of g) (is_common (stack_of g) (plans_in g) (step_over g (states_in old) what)) (taken_in old)
+      (taken_over g (states_in old) what (taken_in old)) (taken_in new)
 
 -- The step was taken.
 pub record HasTaken (g : Ground) (old : Works) (what : Entered) (new : Works) (out : Gathered) (before after : ℕ) (result : Took) : Type 0 where
@@ -95,4 +102,5 @@ pub record HasTaken (g : Ground) (old : Works) (what : Entered) (new : Works) (o
   pub common : result.common ≡ is_common (stack_of g) (plans_in g) (step_over g (states_in old) what)
   pub change : result.change ≡ changed (step_over g (states_in old) what).installs
   pub visits : after ≡ before + counted (mode_of g) (stack_of g) (plans_in g) (step_over g (states_in old) what)
-  pub taken : IsTakenSo (mode_of g) (is_common (stack_of g) (plans_in g) (step_over g (states_in old) what)) (taken_in old) (taken_in new)
+  pub taken : IsTakenSo (mode_of g) (is_common (stack_of g) (plans_in g) (step_over g (states_in old) what)) (taken_in old)
+      (taken_over g (states_in old) what (taken_in old)) (taken_in new)

@@ -20,6 +20,7 @@ use Rattle.pool_message.specs.Sent.{sent_refs, sent_seen, SentLie}
 use Rattle.pool_message.specs.declared.event.PoolEvent.{PoolEvent}
 use Rattle.stack_queue.specs.Pending.{task_seen}
 use Rattle.stack_queue.specs.Stages.{Stand, most_at_first}
+use Rattle.stack_queue.specs.Taken.{taken_behind}
 use Rattle.stack_queue.specs.declared.tasks.PoolTask.{PoolTask}
 use Rattle.run_mean.specs.Member.{Output, most_turns}
 use Rattle.pool_laws.specs.Room.{slots_beyond}
@@ -80,12 +81,14 @@ abbrev pub work_of : List LayerTree → Works → PoolTask → Work
 work_of stack w first = (run most_turns stack (states_in w) (task_seen w.pool first)).world
 
 -- The run was made: the states of the layers and what came out, in order, are those of its work, and so are the visits and whether they
--- went as predicted. What the layers and what came out refer to is all that the pool counts. No task is left.
+-- went as predicted. Each layer has taken an event at each of its visits. What the layers and what came out refer to is all that the pool
+-- counts. No task is left.
 pub record HasRun (stack : List LayerTree) (old : Works) (first : PoolTask) (before : ℕ) (new : Works) (after : ℕ) (result : Predicted) : Type 0 where
   pub states : states_in new ≡ (work_of stack old first).states
   pub outs : sent_seen new.pool new.outs.items ≡ (work_of stack old first).outs
   pub predicted : result ≡ as_predicted (work_of stack old first).decided
   pub visits : after ≡ before + (work_of stack old first).visits
+  pub taken : taken_in new ≡ taken_behind stack (states_in old) (task_seen old.pool first) (taken_in old)
   pub stand : AreStanding stack new
   pub exact : Exact new.pool (refs_in new ++ sent_refs new.outs.items)
   pub lie : SentLie new.pool new.outs.items

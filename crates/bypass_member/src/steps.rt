@@ -10,7 +10,7 @@ ghost use Rattle.bypass_member.specs.Judged.{entry_meant, LiesWithin};
 ghost use Rattle.bypass_member.specs.Serving.{IsSpare};
 ghost use Rattle.bypass_member.specs.Stepping.{codes_in, in_full, plans_in, stack_of, IsGround, HasGone, HasPlayed, HasTaken};
 ghost use Rattle.bypass_member.specs.Viewing.{IsIn};
-ghost use Rattle.bypass_member.specs.Working.{states_in, IsReady};
+ghost use Rattle.bypass_member.specs.Working.{states_in, taken_in, IsReady};
 
 use crate::commons::make_common;
 use crate::enters::enter;
@@ -41,7 +41,7 @@ fn play(
     requires lies { LiesWithin entry }
     requires out { out.old.places ≡ largest_weight (stack_of ground.now) }
     requires visits { visits.old ≤ 2 ^ 63 }
-    ensures played { HasPlayed ground.now (states_in works.old) (entry_meant ground.now.here entry.entry) works.new out.new
+    ensures played { HasPlayed ground.now (states_in works.old) (taken_in works.old) (entry_meant ground.now.here entry.entry) works.new out.new
         visits.old visits.new result }
     ensures places { out.new.places ≡ out.old.places }
 {

@@ -49,6 +49,7 @@ returns c = has_run (stack_tree c.args.stack.now) c.args.works.now (first_task c
       outs = c.run.ensures.outs;
       predicted = c.run.ensures.predicted;
       visits = c.run.ensures.visits;
+      taken = c.run.ensures.taken;
       moved = c.run.ensures.moved;
       stand = c.run.ensures.stand;
       lie = c.run.ensures.lie;
