@@ -8,8 +8,8 @@ use Rattle.layer_mean.specs.Tree.{LayerTree}
 use Rattle.script_mean.specs.Event.{member_of}
 use Rattle.script_mean.specs.declared.event.ScriptEvent.{ScriptEvent}
 use Rattle.stack_mean.specs.Plan.{Plan}
-use Rattle.job_mean.specs.Job.{layered}
-use Rattle.run_mean.specs.Common.{with_plans}
+use Rattle.job_mean.specs.Job.{Mode}
+use Rattle.run_mean.specs.Common.{as_sent, plan_behind, short_from, with_plans}
 use Rattle.run_mean.specs.Journal.{Handed, handed_in, handed_output}
 use Rattle.run_mean.specs.Member.{Output}
 use Rattle.run_mean.specs.Report.{installed_line, lines_of, member_lines, number_behind, output_lines}
@@ -100,27 +100,37 @@ module _ (stack : List LayerTree) (plans : List Plan) (id : ℕ) where
       (output_sends_are k o (take (fan id o.0) failed))
       ∙ ap (λ hs. handed_output plans id o ++ hs) (outputs_sends_are (number_behind k o.0) outs (drop (fan id o.0) failed))
 
+-- The lines of outputs show no plan.
+lines_show_no_plan : (stack : List LayerTree) (plans : List Plan) (id k : ℕ) (next other : Option ℕ) (outputs : List Output) (failed : List Bool) →
+    lossy_lines stack id k (with_plans plans next outputs) failed ≡ lossy_lines stack id k (with_plans plans other outputs) failed
+lines_show_no_plan stack plans id k next other [] failed = refl
+lines_show_no_plan stack plans id k next other (o ∷ outputs) failed =
+    ap (λ ls. output_lines stack id k o ++ replicate (failures_in (take (fan id o) failed)) (lost_line k) ++ ls)
+    (lines_show_no_plan stack plans id (number_behind k o) (plan_behind next o) (plan_behind other o) outputs (drop (fan id o) failed))
+
 -- Events.
-module _ (stack : List LayerTree) (plans : List Plan) where
+module _ (mode : Mode) (stack : List LayerTree) (plans : List Plan) where
   did_lines_are : (w : World) (event : ScriptEvent) (d : Did) (failed : List Bool) →
-      lines_in (did_acts stack plans w event d failed)
+      lines_in (did_acts mode stack plans w event d failed)
       ≡ lines_of stack (λ s. lossy_lines stack (member_of event) (first_in w) (with_plans plans None s.outputs) failed) (moment_at stack plans w event) d
   did_lines_are w event (taken s) failed =
       let id = member_of event in
       let installed = map (installed_line id) (option_to_list s.installs) in
-      lines_append (outputs_acts stack plans id (first_in w) (with_plans plans None s.outputs) failed) (map puts installed)
-      ∙ ap (λ ls. ls ++ lines_in (map puts installed)) (outputs_lines_are stack plans id (first_in w) (with_plans plans None s.outputs) failed)
+      let outs = as_sent mode stack plans s in
+      lines_append (outputs_acts stack plans id (first_in w) outs failed) (map puts installed)
+      ∙ ap (λ ls. ls ++ lines_in (map puts installed)) (outputs_lines_are stack plans id (first_in w) outs failed
+      ∙ lines_show_no_plan stack plans id (first_in w) (short_from mode stack plans s) None s.outputs failed)
       ∙ ap (λ ls. lossy_lines stack id (first_in w) (with_plans plans None s.outputs) failed ++ ls) (puts_lines installed)
   did_lines_are w event (refused r) failed = refl
   did_lines_are w event absent failed = refl
   did_lines_are w event shown failed = puts_lines (member_lines stack (member_of event) (member_at w (member_of event)))
 
   did_sends_are : (w : World) (event : ScriptEvent) (d : Did) (failed : List Bool) →
-      sends_in (did_acts stack plans w event d failed) ≡ handed_in layered stack plans (member_of event) d
+      sends_in (did_acts mode stack plans w event d failed) ≡ handed_in mode stack plans (member_of event) d
   did_sends_are w event (taken s) failed =
       let id = member_of event in
       let installed = map (installed_line id) (option_to_list s.installs) in
-      let outs = with_plans plans None s.outputs in
+      let outs = as_sent mode stack plans s in
       sends_append (outputs_acts stack plans id (first_in w) outs failed) (map puts installed)
       ∙ ap (λ hs. hs ++ sends_in (map puts installed)) (outputs_sends_are stack plans id (first_in w) outs failed)
       ∙ ap (λ hs. flat_map (handed_output plans id) outs ++ hs) (puts_none installed)
@@ -130,44 +140,44 @@ module _ (stack : List LayerTree) (plans : List Plan) where
   did_sends_are w event shown failed = puts_none (member_lines stack (member_of event) (member_at w (member_of event)))
 
   pub event_lines_are : (w : World) (event : ScriptEvent) (failed : List Bool) →
-      lines_in (event_acts stack plans w event failed) ≡ event_lines stack plans w event failed
+      lines_in (event_acts mode stack plans w event failed) ≡ event_lines stack plans w event failed
   event_lines_are w event failed = ap (λ ls. journal_line event ∷ ls) (did_lines_are w event (happens stack plans w event).did failed)
 
   pub event_sends_are : (w : World) (event : ScriptEvent) (failed : List Bool) →
-      sends_in (event_acts stack plans w event failed) ≡ event_sends stack plans w event
+      sends_in (event_acts mode stack plans w event failed) ≡ event_sends mode stack plans w event
   event_sends_are w event failed = did_sends_are w event (happens stack plans w event).did failed
 
   pub acts_lines_are : (w : World) (doings : List Doing) (failed : List (List Bool)) →
-      lines_in (acts_of stack plans w doings failed) ≡ written_of stack plans w doings failed
+      lines_in (acts_of mode stack plans w doings failed) ≡ written_of stack plans w doings failed
   acts_lines_are w [] failed = refl
   acts_lines_are w (does event ∷ doings) failed =
       let on = (happens stack plans w event).world in
-      lines_append (event_acts stack plans w event (first_of failed)) (acts_of stack plans on doings (drop 1 failed))
-      ∙ ap (λ ls. ls ++ lines_in (acts_of stack plans on doings (drop 1 failed))) (event_lines_are w event (first_of failed))
+      lines_append (event_acts mode stack plans w event (first_of failed)) (acts_of mode stack plans on doings (drop 1 failed))
+      ∙ ap (λ ls. ls ++ lines_in (acts_of mode stack plans on doings (drop 1 failed))) (event_lines_are w event (first_of failed))
       ∙ ap (λ ls. event_lines stack plans w event (first_of failed) ++ ls) (acts_lines_are on doings (drop 1 failed))
   acts_lines_are w (asks id heard ∷ doings) failed = acts_lines_are w doings failed
   acts_lines_are w (bears id ∷ doings) failed = ap (λ ls. deaf_line id ∷ ls) (acts_lines_are w doings failed)
 
   pub acts_sends_are : (w : World) (doings : List Doing) (failed : List (List Bool)) →
-      sends_in (acts_of stack plans w doings failed) ≡ sends_of stack plans w doings
+      sends_in (acts_of mode stack plans w doings failed) ≡ sends_of mode stack plans w doings
   acts_sends_are w [] failed = refl
   acts_sends_are w (does event ∷ doings) failed =
       let on = (happens stack plans w event).world in
-      sends_append (event_acts stack plans w event (first_of failed)) (acts_of stack plans on doings (drop 1 failed))
-      ∙ ap (λ hs. hs ++ sends_in (acts_of stack plans on doings (drop 1 failed))) (event_sends_are w event (first_of failed))
-      ∙ ap (λ hs. event_sends stack plans w event ++ hs) (acts_sends_are on doings (drop 1 failed))
+      sends_append (event_acts mode stack plans w event (first_of failed)) (acts_of mode stack plans on doings (drop 1 failed))
+      ∙ ap (λ hs. hs ++ sends_in (acts_of mode stack plans on doings (drop 1 failed))) (event_sends_are w event (first_of failed))
+      ∙ ap (λ hs. event_sends mode stack plans w event ++ hs) (acts_sends_are on doings (drop 1 failed))
   acts_sends_are w (asks id heard ∷ doings) failed = acts_sends_are w doings failed
   acts_sends_are w (bears id ∷ doings) failed = acts_sends_are w doings failed
 
   -- Acts in parts: which sendings failed is told for each event in front.
   pub acts_append : (w : World) (xs ys : List Doing) (f g : List (List Bool)) → length f ≡ length (events_of xs) →
-      acts_of stack plans w (xs ++ ys) (f ++ g) ≡ acts_of stack plans w xs f ++ acts_of stack plans (behind stack plans w xs) ys g
+      acts_of mode stack plans w (xs ++ ys) (f ++ g) ≡ acts_of mode stack plans w xs f ++ acts_of mode stack plans (behind stack plans w xs) ys g
   acts_append w [] ys [] g is = refl
   acts_append w [] ys (x ∷ f) g is = absurd (cc is)
   acts_append w (does event ∷ xs) ys [] g is = absurd (cc is)
   acts_append w (does event ∷ xs) ys (x ∷ f) g is =
       let on = (happens stack plans w event).world in
-      ap (λ ls. event_acts stack plans w event x ++ ls) (acts_append on xs ys f g (omega (arith, is)))
-      ∙ sym (append_assoc (event_acts stack plans w event x) (acts_of stack plans on xs f) (acts_of stack plans (behind stack plans on xs) ys g))
+      ap (λ ls. event_acts mode stack plans w event x ++ ls) (acts_append on xs ys f g (omega (arith, is)))
+      ∙ sym (append_assoc (event_acts mode stack plans w event x) (acts_of mode stack plans on xs f) (acts_of mode stack plans (behind stack plans on xs) ys g))
   acts_append w (asks id heard ∷ xs) ys f g is = acts_append w xs ys f g is
   acts_append w (bears id ∷ xs) ys f g is = ap (λ ls. puts (deaf_line id) ∷ ls) (acts_append w xs ys f g is)

@@ -7,8 +7,8 @@ use Rattle.layer_mean.specs.Tree.{LayerTree}
 use Rattle.script_mean.specs.Event.{member_of}
 use Rattle.script_mean.specs.declared.event.ScriptEvent.{ScriptEvent}
 use Rattle.stack_mean.specs.Plan.{Plan}
-use Rattle.job_mean.specs.Job.{layered}
-use Rattle.run_mean.specs.Common.{with_plans}
+use Rattle.job_mean.specs.Job.{Mode}
+use Rattle.run_mean.specs.Common.{as_sent, plan_behind, short_from, with_plans}
 use Rattle.run_mean.specs.Journal.{handed_in, handed_output, receivers}
 use Rattle.run_mean.specs.Member.{Output, deliver_cast, deliver_send, block, announce, packet, nowhere, timer, quiet}
 use Rattle.run_mean.specs.Report.{number_behind}
@@ -38,6 +38,13 @@ outputs_fan plans id (o ∷ outs) =
     ∙ ap (λ n. n + length (flat_map (handed_output plans id) outs)) (output_fan plans id o.0 o.1)
     ∙ ap (λ n. fan id o.0 + n) (outputs_fan plans id outs)
 
+-- To how many they go hangs on no plan.
+fans_hang_on_no_plan : (plans : List Plan) (id : ℕ) (next other : Option ℕ) (outputs : List Output) →
+    fans id (with_plans plans next outputs) ≡ fans id (with_plans plans other outputs)
+fans_hang_on_no_plan plans id next other [] = refl
+fans_hang_on_no_plan plans id next other (o ∷ outputs) =
+    ap (λ n. fan id o + n) (fans_hang_on_no_plan plans id (plan_behind next o) (plan_behind other o) outputs)
+
 -- As many are lost as failed.
 pub losses_are : (id k : ℕ) (outs : List (Output × Option ℕ)) (failed : List Bool) → length failed ≤ fans id outs →
     length (losses id k outs failed) ≡ failures_in failed
@@ -52,17 +59,18 @@ losses_are id k (o ∷ outs) failed few =
     ∙ sym (failures_append (take f failed) (drop f failed))
     ∙ ap failures_in (take-append-drop f failed)
 
-pub event_losses_are : (stack : List LayerTree) (plans : List Plan) (w : World) (event : ScriptEvent) (failed : List Bool) →
-    length failed ≤ length (event_sends stack plans w event) → length (event_losses stack plans w event failed) ≡ failures_in failed
-event_losses_are stack plans w event failed = go (happens stack plans w event).did where
+pub event_losses_are : (mode : Mode) (stack : List LayerTree) (plans : List Plan) (w : World) (event : ScriptEvent) (failed : List Bool) →
+    length failed ≤ length (event_sends mode stack plans w event) → length (event_losses stack plans w event failed) ≡ failures_in failed
+event_losses_are mode stack plans w event failed = go (happens stack plans w event).did where
   none : (failed : List Bool) → length failed ≤ 0 → 0 ≡ failures_in failed
   none [] few = refl
   none (x ∷ failed) few = absurd (omega (arith, few))
 
-  go : (d : Did) → length failed ≤ length (handed_in layered stack plans (member_of event) d) → length (losses_in plans w event d failed) ≡ failures_in failed
+  go : (d : Did) → length failed ≤ length (handed_in mode stack plans (member_of event) d) → length (losses_in plans w event d failed) ≡ failures_in failed
   go (taken s) few =
-      let n = outputs_fan plans (member_of event) (with_plans plans None s.outputs) in
-      losses_are (member_of event) (first_in w) (with_plans plans None s.outputs) failed (omega (arith, few, n))
+      let n = outputs_fan plans (member_of event) (as_sent mode stack plans s) in
+      let same = fans_hang_on_no_plan plans (member_of event) (short_from mode stack plans s) None s.outputs in
+      losses_are (member_of event) (first_in w) (with_plans plans None s.outputs) failed (omega (arith, few, n, same))
   go (refused r) few = none failed few
   go absent few = none failed few
   go shown few = none failed few

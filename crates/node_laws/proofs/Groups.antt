@@ -1,5 +1,5 @@
 -- Views stay within the group, and what is sent goes to members of it.
-use Rattle.std.proofs.Common.{◌≡◌, ℕ, zero, suc, ◌+◌, ◌-◌, ◌<◌, ◌≤◌, Bool, true, false, List, [], ◌∷◌, ◌++◌, map, Option, Some, None, inl, refl, ap, subst, arith}
+use Rattle.std.proofs.Common.{◌≡◌, ℕ, zero, suc, ◌+◌, ◌-◌, ◌<◌, ◌≤◌, Bool, true, false, List, [], ◌∷◌, ◌++◌, map, Option, Some, None, refl, ap, subst, arith}
 use Rattle.std.specs.Prelude.{◌^◌, ◌==◌, ◌&&◌, not, nat_lt, if◌then◌else◌, option_map, option_to_list, slice_get}
 use Rattle.std.specs.Int.{bit_at}
 use Rattle.std.specs.List.{AllByRecursion, filter, filter_map, flat_map, range_with_len, sum_by}
@@ -22,23 +22,22 @@ use Rattle.layer_mean.specs.declared.run.Event.{Event}
 use Rattle.layer_mean.specs.Tree.{LayerTree}
 use Rattle.layer_mean.specs.State.{State}
 use Rattle.layer_mean.specs.Visit.{fresh}
-use Rattle.packet_mean.specs.Spelling.{full_bytes, IsSpellable}
+use Rattle.packet_mean.specs.Spelling.{IsSpellable}
 use Rattle.packet_mean.specs.declared.here.Here.{Here}
 use Rattle.packet_laws.specs.Lengths.{IsWithinLimits}
-use Rattle.packet_laws.proofs.Lengths.{datagrams_fit}
 use Rattle.chain_laws.proofs.Lists.{Where, each_where, each_or, each_set, each_map, each_append}
 use Rattle.script_mean.specs.Event.{member_of}
 use Rattle.stack_mean.specs.Plan.{Plan}
-use Rattle.job_mean.specs.Job.{layered}
 use Rattle.member_laws.specs.Members.{IsChainedWorld}
 use Rattle.member_laws.proofs.Members.{bits_le, cons_each, each_unit}
-use Rattle.run_mean.specs.Common.{with_plans}
+use Rattle.run_mean.specs.Common.{plan_behind, plan_for, short_from, with_plans}
 use Rattle.run_mean.specs.Journal.{receivers, handed_output, handed_in}
 use Rattle.run_mean.specs.View.{first_view, mask_of, last_ltime}
 use Rattle.run_mean.specs.Member.{inside, out, opened, installed, Output, deliver_cast, deliver_send, block, announce, packet, nowhere, timer, quiet, packet_to, above, below, output_of, announced, packet_in, step_from, member_behind}
 use Rattle.run_mean.specs.World.{World, member_at, Happening, here_of}
 use Rattle.node_laws.specs.Groups.{IsWithin, AreWithin, FirstViewsAreWithin, EventsKeepWithin, IsSendable, SendsAreSendable}
 use Rattle.node_laws.proofs.Happenings.{each_happens}
+use Rattle.node_laws.proofs.Wires.{wires_fit}
 
 -- what passes a test and so is so is so of each that passes
 each_passing : (p : ℕ → Bool) (P : ℕ → Type 0) → ((x : ℕ) → p x ≡ true → P x) → (xs : List ℕ) → AllByRecursion P (filter p xs)
@@ -191,39 +190,40 @@ receivers_below id n view dest.All h = each_filter (λ other. not (other == id))
 receivers_below id n view (dest.Rank rank) h = each_listed (λ id. id < n) (slice_get (ids view) rank) (each_where (λ id. id < n) (ids view) rank h)
 
 module _ (stack : List LayerTree) (plans : List Plan) (id n : ℕ) (limits : IsWithinLimits stack) where
-  sent : (p : Packet) → AreBelow n p → IsSpellable stack p → AllByRecursion (IsSendable n id) (handed_output plans id (packet p, None))
-  sent p within is = each_map (λ to. to < n) (IsSendable n id) _ (λ to less. record {
+  sent : (p : Packet) (plan : Option ℕ) → AreBelow n p → IsSpellable stack p → AllByRecursion (IsSendable n id) (handed_output plans id (packet p, plan))
+  sent p plan within is = each_map (λ to. to < n) (IsSendable n id) _ (λ to less. record {
     own = refl;
     peer = less;
-    short = datagrams_fit stack plans (full_bytes p) p limits (record { spellable = is; spelled = inl refl });
+    short = wires_fit stack plans p plan limits is;
   }) (receivers id p.view p.dest) (receivers_below id n p.view p.dest within)
 
-  all_sent : (outputs : List Output) → AllByRecursion (AreBelow n) (filter_map packet_in outputs) →
+  all_sent : (next : Option ℕ) (outputs : List Output) → AllByRecursion (AreBelow n) (filter_map packet_in outputs) →
       AllByRecursion (IsSpellable stack) (filter_map packet_in outputs) →
-      AllByRecursion (IsSendable n id) (flat_map (handed_output plans id) (with_plans plans None outputs))
-  all_sent [] within are = tt
-  all_sent (packet p ∷ outputs) within are =
-      each_append (IsSendable n id) (handed_output plans id (packet p, None)) _ (sent p within.0 are.0) (all_sent outputs within.1 are.1)
-  all_sent (deliver_cast peer body ∷ outputs) within are = all_sent outputs within are
-  all_sent (deliver_send peer body ∷ outputs) within are = all_sent outputs within are
-  all_sent (block a ∷ outputs) within are = all_sent outputs within are
-  all_sent (announce a ∷ outputs) within are = all_sent outputs within are
-  all_sent (nowhere ∷ outputs) within are = all_sent outputs within are
-  all_sent (timer a ∷ outputs) within are = all_sent outputs within are
-  all_sent (quiet dir event ∷ outputs) within are = all_sent outputs within are
+      AllByRecursion (IsSendable n id) (flat_map (handed_output plans id) (with_plans plans next outputs))
+  all_sent next [] within are = tt
+  all_sent next (packet p ∷ outputs) within are =
+      each_append (IsSendable n id) (handed_output plans id (packet p, plan_for plans next (packet p))) _
+      (sent p (plan_for plans next (packet p)) within.0 are.0) (all_sent (plan_behind next (packet p)) outputs within.1 are.1)
+  all_sent next (deliver_cast peer body ∷ outputs) within are = all_sent next outputs within are
+  all_sent next (deliver_send peer body ∷ outputs) within are = all_sent next outputs within are
+  all_sent next (block a ∷ outputs) within are = all_sent next outputs within are
+  all_sent next (announce a ∷ outputs) within are = all_sent next outputs within are
+  all_sent next (nowhere ∷ outputs) within are = all_sent (plan_behind next nowhere) outputs within are
+  all_sent next (timer a ∷ outputs) within are = all_sent next outputs within are
+  all_sent next (quiet dir event ∷ outputs) within are = all_sent next outputs within are
 
 pub sends_are_sendable : SendsAreSendable
-sends_are_sendable stack plans w event n limits chained h =
+sends_are_sendable mode stack plans w event n limits chained h =
     let id = member_of event in
     each_happens stack plans w event
     (λ (happening : Happening). IsChainedWorld stack happening.world →
-    AllByRecursion (IsSendable n id) (handed_in layered stack plans id happening.did)) record {
+    AllByRecursion (IsSendable n id) (handed_in mode stack plans id happening.did)) record {
       refusing = λ refusal chained. tt;
       missing = λ chained. tt;
       showing = λ chained. tt;
       stepping = λ view states what is chained.
           let step = step_from stack (here_of w view id) id states what in
-          all_sent stack plans id n limits step.outputs
+          all_sent stack plans id n limits (short_from mode stack plans step) step.outputs
           (views_out (here_of w view id) n step.work.outs (member_within w id n view states h is))
           (each_behind (IsSpellable stack) w.packets (filter_map packet_in step.outputs) chained.packets);
     } chained

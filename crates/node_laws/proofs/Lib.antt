@@ -7,3 +7,4 @@ pub mod Losses
 pub mod Parts
 pub mod Sendings
 pub mod Stages
+pub mod Wires

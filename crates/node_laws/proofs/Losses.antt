@@ -269,8 +269,8 @@ pub written_is_of_notes : WrittenIsOfNotes
 written_is_of_notes stack plans w doings failed = written_behind stack plans [] w doings failed tt
 
 pub sends_are_handed : SendsAreHanded
-sends_are_handed stack plans w [] = refl
-sends_are_handed stack plans w (does event ∷ doings) =
-    ap (λ sends. event_sends stack plans w event ++ sends) (sends_are_handed stack plans (behind stack plans w event) doings)
-sends_are_handed stack plans w (asks id heard ∷ doings) = sends_are_handed stack plans w doings
-sends_are_handed stack plans w (bears id ∷ doings) = sends_are_handed stack plans w doings
+sends_are_handed mode stack plans w [] = refl
+sends_are_handed mode stack plans w (does event ∷ doings) =
+    ap (λ sends. event_sends mode stack plans w event ++ sends) (sends_are_handed mode stack plans (behind stack plans w event) doings)
+sends_are_handed mode stack plans w (asks id heard ∷ doings) = sends_are_handed mode stack plans w doings
+sends_are_handed mode stack plans w (bears id ∷ doings) = sends_are_handed mode stack plans w doings

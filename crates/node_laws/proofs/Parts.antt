@@ -7,6 +7,7 @@ use Rattle.layer_mean.specs.Tree.{LayerTree}
 use Rattle.script_mean.specs.Event.{member_of}
 use Rattle.script_mean.specs.declared.event.ScriptEvent.{ScriptEvent}
 use Rattle.stack_mean.specs.Plan.{Plan}
+use Rattle.job_mean.specs.Job.{Mode}
 use Rattle.run_mean.specs.Journal.{event_in, journal}
 use Rattle.run_mean.specs.Common.{with_plans}
 use Rattle.run_mean.specs.Member.{Output}
@@ -60,26 +61,6 @@ module _ (stack : List LayerTree) (plans : List Plan) where
   lost_append w (asks id heard ∷ xs) ys f g is = lost_append w xs ys f g is
   lost_append w (bears id ∷ xs) ys f g is = lost_append w xs ys f g is
 
-  pub sends_append : (w : World) (xs ys : List Doing) →
-      sends_of stack plans w (xs ++ ys) ≡ sends_of stack plans w xs ++ sends_of stack plans (behind stack plans w xs) ys
-  sends_append w [] ys = refl
-  sends_append w (does event ∷ xs) ys =
-      ap (λ ls. event_sends stack plans w event ++ ls) (sends_append (happens stack plans w event).world xs ys)
-      ∙ sym (append_assoc (event_sends stack plans w event) (sends_of stack plans (happens stack plans w event).world xs)
-      (sends_of stack plans (behind stack plans (happens stack plans w event).world xs) ys))
-  sends_append w (asks id heard ∷ xs) ys = sends_append w xs ys
-  sends_append w (bears id ∷ xs) ys = sends_append w xs ys
-
-  pub goes_append : (w : World) (xs ys : List Doing) (f g : List (List Bool)) (n n' n'' : Network) → length f ≡ length (events_of xs) →
-      Goes stack plans w xs f n n' → Goes stack plans (behind stack plans w xs) ys g n' n'' → Goes stack plans w (xs ++ ys) (f ++ g) n n''
-  goes_append w [] ys [] g n n' n'' is a b = subst (λ m. Goes stack plans w ys g m n'') a b
-  goes_append w [] ys (x ∷ f) g n n' n'' is a b = absurd (cc is)
-  goes_append w (does event ∷ xs) ys [] g n n' n'' is a b = absurd (cc is)
-  goes_append w (does event ∷ xs) ys (x ∷ f) g n n' n'' is a b =
-      (a.0, goes_append (happens stack plans w event).world xs ys f g (after_sends (event_sends stack plans w event) n) n' n'' (omega (arith, is)) a.1 b)
-  goes_append w (asks id heard ∷ xs) ys f g n n' n'' is a b = (a.0, goes_append w xs ys f g (after_recv id n) n' n'' is a.1 b)
-  goes_append w (bears id ∷ xs) ys f g n n' n'' is a b = goes_append w xs ys f g n n' n'' is a b
-
   -- Where no sending is told to have failed, none is lost.
   pub losses_none : (id k : ℕ) (outs : List (Output × Option ℕ)) → losses id k outs [] ≡ []
   losses_none id k [] = refl
@@ -105,33 +86,44 @@ module _ (stack : List LayerTree) (plans : List Plan) where
   lost_none w (asks id heard ∷ xs) = lost_none w xs
   lost_none w (bears id ∷ xs) = lost_none w xs
 
+module _ (mode : Mode) (stack : List LayerTree) (plans : List Plan) where
+  pub goes_append : (w : World) (xs ys : List Doing) (f g : List (List Bool)) (n n' n'' : Network) → length f ≡ length (events_of xs) →
+      Goes mode stack plans w xs f n n' → Goes mode stack plans (behind stack plans w xs) ys g n' n'' → Goes mode stack plans w (xs ++ ys) (f ++ g) n n''
+  goes_append w [] ys [] g n n' n'' is a b = subst (λ m. Goes mode stack plans w ys g m n'') a b
+  goes_append w [] ys (x ∷ f) g n n' n'' is a b = absurd (cc is)
+  goes_append w (does event ∷ xs) ys [] g n n' n'' is a b = absurd (cc is)
+  goes_append w (does event ∷ xs) ys (x ∷ f) g n n' n'' is a b =
+      (a.0, goes_append (happens stack plans w event).world xs ys f g (after_sends (event_sends mode stack plans w event) n) n' n'' (omega (arith, is)) a.1 b)
+  goes_append w (asks id heard ∷ xs) ys f g n n' n'' is a b = (a.0, goes_append w xs ys f g (after_recv id n) n' n'' is a.1 b)
+  goes_append w (bears id ∷ xs) ys f g n n' n'' is a b = goes_append w xs ys f g n n' n'' is a b
+
   -- What a network was handed and what was heard of it.
-  pub goes_handed : (w : World) (xs : List Doing) (f : List (List Bool)) (n n' : Network) → Goes stack plans w xs f n n' →
-      n'.handed ≡ n.handed ++ map sent_as (sends_of stack plans w xs)
+  pub goes_handed : (w : World) (xs : List Doing) (f : List (List Bool)) (n n' : Network) → Goes mode stack plans w xs f n n' →
+      n'.handed ≡ n.handed ++ map sent_as (sends_of mode stack plans w xs)
   goes_handed w [] f n n' is = ap (λ m. m.handed) is ∙ sym (append-nil n.handed)
   goes_handed w (does event ∷ xs) f n n' is =
-      goes_handed (happens stack plans w event).world xs (drop 1 f) (after_sends (event_sends stack plans w event) n) n' is.1
-      ∙ ap (λ h. h ++ map sent_as (sends_of stack plans (happens stack plans w event).world xs)) (handed_behind (event_sends stack plans w event) n)
-      ∙ append_assoc n.handed (map sent_as (event_sends stack plans w event)) (map sent_as (sends_of stack plans (happens stack plans w event).world xs))
-      ∙ ap (λ h. n.handed ++ h) (sym (map-append sent_as (event_sends stack plans w event) (sends_of stack plans (happens stack plans w event).world xs)))
+      goes_handed (happens stack plans w event).world xs (drop 1 f) (after_sends (event_sends mode stack plans w event) n) n' is.1
+      ∙ ap (λ h. h ++ map sent_as (sends_of mode stack plans (happens stack plans w event).world xs)) (handed_behind (event_sends mode stack plans w event) n)
+      ∙ append_assoc n.handed (map sent_as (event_sends mode stack plans w event)) (map sent_as (sends_of mode stack plans (happens stack plans w event).world xs))
+      ∙ ap (λ h. n.handed ++ h) (sym (map-append sent_as (event_sends mode stack plans w event) (sends_of mode stack plans (happens stack plans w event).world xs)))
   goes_handed w (asks id heard ∷ xs) f n n' is = goes_handed w xs f (after_recv id n) n' is.1
   goes_handed w (bears id ∷ xs) f n n' is = goes_handed w xs f n n' is
 
   -- Its members went on to listen as they did.
-  pub goes_listened : (w : World) (xs : List Doing) (f : List (List Bool)) (n n' : Network) → Goes stack plans w xs f n n' → n'.listened ≡ n.listened
+  pub goes_listened : (w : World) (xs : List Doing) (f : List (List Bool)) (n n' : Network) → Goes mode stack plans w xs f n n' → n'.listened ≡ n.listened
   goes_listened w [] f n n' is = ap (λ m. m.listened) is
   goes_listened w (does event ∷ xs) f n n' is =
-      goes_listened (happens stack plans w event).world xs (drop 1 f) (after_sends (event_sends stack plans w event) n) n' is.1
-      ∙ listened_behind (event_sends stack plans w event) n
+      goes_listened (happens stack plans w event).world xs (drop 1 f) (after_sends (event_sends mode stack plans w event) n) n' is.1
+      ∙ listened_behind (event_sends mode stack plans w event) n
   goes_listened w (asks id heard ∷ xs) f n n' is = goes_listened w xs f (after_recv id n) n' is.1
   goes_listened w (bears id ∷ xs) f n n' is = goes_listened w xs f n n' is
 
-  pub goes_met : (w : World) (xs : List Doing) (f : List (List Bool)) (n n' : Network) → Goes stack plans w xs f n n' →
+  pub goes_met : (w : World) (xs : List Doing) (f : List (List Bool)) (n n' : Network) → Goes mode stack plans w xs f n n' →
       n'.met ≡ n.met ++ map met_as (heard_in xs)
   goes_met w [] f n n' is = ap (λ m. m.met) is ∙ sym (append-nil n.met)
   goes_met w (does event ∷ xs) f n n' is =
-      goes_met (happens stack plans w event).world xs (drop 1 f) (after_sends (event_sends stack plans w event) n) n' is.1
-      ∙ ap (λ h. h ++ map met_as (heard_in xs)) (met_behind (event_sends stack plans w event) n)
+      goes_met (happens stack plans w event).world xs (drop 1 f) (after_sends (event_sends mode stack plans w event) n) n' is.1
+      ∙ ap (λ h. h ++ map met_as (heard_in xs)) (met_behind (event_sends mode stack plans w event) n)
   goes_met w (asks id heard ∷ xs) f n n' is = goes_met w xs f (after_recv id n) n' is.1
       ∙ ap (λ m. n.met ++ m ∷ [] ++ map met_as (heard_in xs)) is.0
       ∙ append_assoc n.met (met_as heard ∷ []) (map met_as (heard_in xs))

@@ -6,7 +6,8 @@ use Rattle.layer_mean.specs.Tree.{LayerTree}
 use Rattle.script_mean.specs.Event.{member_of}
 use Rattle.script_mean.specs.declared.event.ScriptEvent.{ScriptEvent}
 use Rattle.stack_mean.specs.Plan.{Plan}
-use Rattle.run_mean.specs.Common.{with_plans}
+use Rattle.job_mean.specs.Job.{Mode}
+use Rattle.run_mean.specs.Common.{as_sent}
 use Rattle.run_mean.specs.Journal.{Handed, handed_output}
 use Rattle.run_mean.specs.Lines.{absent_line, refused_line}
 use Rattle.run_mean.specs.Member.{Output}
@@ -55,34 +56,35 @@ outputs_acts stack plans id k (o ∷ outs) failed =
     output_acts stack plans id k o (take (fan id o.0) failed)
     ++ outputs_acts stack plans id (number_behind k o.0) outs (drop (fan id o.0) failed)
 
--- What an event of a member came to.
-abbrev pub did_acts : List LayerTree → List Plan → World → ScriptEvent → Did → List Bool → List Act
-did_acts stack plans w event (taken s) failed =
-    outputs_acts stack plans (member_of event) (first_in w) (with_plans plans None s.outputs) failed
+-- What an event of a member came to, where members run in a mode.
+abbrev pub did_acts : Mode → List LayerTree → List Plan → World → ScriptEvent → Did → List Bool → List Act
+did_acts mode stack plans w event (taken s) failed =
+    outputs_acts stack plans (member_of event) (first_in w) (as_sent mode stack plans s) failed
     ++ map puts (map (installed_line (member_of event)) (option_to_list s.installs))
-did_acts stack plans w event (refused refusal) failed = puts (refused_line (member_of event) refusal) ∷ []
-did_acts stack plans w event absent failed = puts (absent_line (member_of event) (packet_given event)) ∷ []
-did_acts stack plans w event shown failed = map puts (member_lines stack (member_of event) (member_at w (member_of event)))
+did_acts mode stack plans w event (refused refusal) failed = puts (refused_line (member_of event) refusal) ∷ []
+did_acts mode stack plans w event absent failed = puts (absent_line (member_of event) (packet_given event)) ∷ []
+did_acts mode stack plans w event shown failed = map puts (member_lines stack (member_of event) (member_at w (member_of event)))
 
-abbrev pub event_acts : List LayerTree → List Plan → World → ScriptEvent → List Bool → List Act
-event_acts stack plans w event failed =
-    puts (journal_line event) ∷ did_acts stack plans w event (happens stack plans w event).did failed
+abbrev pub event_acts : Mode → List LayerTree → List Plan → World → ScriptEvent → List Bool → List Act
+event_acts mode stack plans w event failed =
+    puts (journal_line event) ∷ did_acts mode stack plans w event (happens stack plans w event).did failed
 
 -- All that a node does from a world on; which sendings failed is told event by event.
-abbrev pub acts_of : List LayerTree → List Plan → World → List Doing → List (List Bool) → List Act
-acts_of stack plans w [] failed = []
-acts_of stack plans w (does event ∷ doings) failed =
-    event_acts stack plans w event (first_of failed) ++ acts_of stack plans (happens stack plans w event).world doings (drop 1 failed)
-acts_of stack plans w (asks id heard ∷ doings) failed = acts_of stack plans w doings failed
-acts_of stack plans w (bears id ∷ doings) failed = puts (deaf_line id) ∷ acts_of stack plans w doings failed
+abbrev pub acts_of : Mode → List LayerTree → List Plan → World → List Doing → List (List Bool) → List Act
+acts_of mode stack plans w [] failed = []
+acts_of mode stack plans w (does event ∷ doings) failed =
+    event_acts mode stack plans w event (first_of failed) ++ acts_of mode stack plans (happens stack plans w event).world doings (drop 1 failed)
+acts_of mode stack plans w (asks id heard ∷ doings) failed = acts_of mode stack plans w doings failed
+acts_of mode stack plans w (bears id ∷ doings) failed = puts (deaf_line id) ∷ acts_of mode stack plans w doings failed
 
--- What is written and handed on in these acts is what is written and handed on of events, and of all that a node does.
+-- What is written and handed on in these acts is what is written and handed on of events, and of all that a node does. What is written hangs on
+-- no mode: a line doesn't show how a packet is sent.
 abbrev pub EventActs : Type 0
-EventActs = (stack : List LayerTree) (plans : List Plan) (w : World) (event : ScriptEvent) (failed : List Bool) →
-    (lines_in (event_acts stack plans w event failed) ≡ event_lines stack plans w event failed)
-    × (sends_in (event_acts stack plans w event failed) ≡ event_sends stack plans w event)
+EventActs = (mode : Mode) (stack : List LayerTree) (plans : List Plan) (w : World) (event : ScriptEvent) (failed : List Bool) →
+    (lines_in (event_acts mode stack plans w event failed) ≡ event_lines stack plans w event failed)
+    × (sends_in (event_acts mode stack plans w event failed) ≡ event_sends mode stack plans w event)
 
 abbrev pub ActsAreOfDoings : Type 0
-ActsAreOfDoings = (stack : List LayerTree) (plans : List Plan) (w : World) (doings : List Doing) (failed : List (List Bool)) →
-    (lines_in (acts_of stack plans w doings failed) ≡ written_of stack plans w doings failed)
-    × (sends_in (acts_of stack plans w doings failed) ≡ sends_of stack plans w doings)
+ActsAreOfDoings = (mode : Mode) (stack : List LayerTree) (plans : List Plan) (w : World) (doings : List Doing) (failed : List (List Bool)) →
+    (lines_in (acts_of mode stack plans w doings failed) ≡ written_of stack plans w doings failed)
+    × (sends_in (acts_of mode stack plans w doings failed) ≡ sends_of mode stack plans w doings)

@@ -8,6 +8,7 @@ use Rattle.member_laws.specs.Members.{IsChainedWorld}
 use Rattle.script_mean.specs.Event.{member_of}
 use Rattle.script_mean.specs.declared.event.ScriptEvent.{ScriptEvent}
 use Rattle.stack_mean.specs.Plan.{Plan}
+use Rattle.job_mean.specs.Job.{Mode}
 use Rattle.run_mean.specs.Journal.{Handed}
 use Rattle.run_mean.specs.Member.{Member, inside, out}
 use Rattle.run_mean.specs.World.{World, first_world, happens}
@@ -29,7 +30,7 @@ abbrev pub EventsKeepWithin : Type 0
 EventsKeepWithin = (stack : List LayerTree) (plans : List Plan) (w : World) (event : ScriptEvent) (n : ℕ) →
     AreWithin n w → AreWithin n (happens stack plans w event).world
 
--- The most bytes of a packet that is spelled in full, where the stack is within its limits.
+-- The most bytes of a packet as it is sent, short or in full, where the stack is within its limits.
 abbrev pub longest_packet : ℕ
 longest_packet = 8619
 
@@ -40,6 +41,6 @@ pub record IsSendable (n from : ℕ) (h : Handed) : Type 0 where
   pub short : length h.bytes ≤ longest_packet
 
 abbrev pub SendsAreSendable : Type 0
-SendsAreSendable = (stack : List LayerTree) (plans : List Plan) (w : World) (event : ScriptEvent) (n : ℕ) → IsWithinLimits stack →
+SendsAreSendable = (mode : Mode) (stack : List LayerTree) (plans : List Plan) (w : World) (event : ScriptEvent) (n : ℕ) → IsWithinLimits stack →
     IsChainedWorld stack (happens stack plans w event).world → AreWithin n w →
-    AllByRecursion (IsSendable n (member_of event)) (event_sends stack plans w event)
+    AllByRecursion (IsSendable n (member_of event)) (event_sends mode stack plans w event)

@@ -7,7 +7,7 @@ use Rattle.script_mean.specs.Event.{member_of}
 use Rattle.script_mean.specs.EventText.{event_text}
 use Rattle.script_mean.specs.declared.event.ScriptEvent.{ScriptEvent}
 use Rattle.stack_mean.specs.Plan.{Plan}
-use Rattle.job_mean.specs.Job.{layered}
+use Rattle.job_mean.specs.Job.{Mode}
 use Rattle.run_mean.specs.Common.{with_plans}
 use Rattle.run_mean.specs.Journal.{Handed, receivers, handed, handed_in, journal, note_lines}
 use Rattle.run_mean.specs.Lines.{line}
@@ -69,8 +69,9 @@ losses_in plans w event _ failed = []
 abbrev pub event_losses : List LayerTree → List Plan → World → ScriptEvent → List Bool → List ℕ
 event_losses stack plans w event failed = losses_in plans w event (happens stack plans w event).did failed
 
-abbrev pub event_sends : List LayerTree → List Plan → World → ScriptEvent → List Handed
-event_sends stack plans w event = handed_in layered stack plans (member_of event) (happens stack plans w event).did
+-- What is handed on of it in a mode.
+abbrev pub event_sends : Mode → List LayerTree → List Plan → World → ScriptEvent → List Handed
+event_sends mode stack plans w event = handed_in mode stack plans (member_of event) (happens stack plans w event).did
 
 -- The first of some, or none.
 abbrev pub first_of : List (List Bool) → List Bool
@@ -84,7 +85,7 @@ behind stack plans w (does event ∷ doings) = behind stack plans (happens stack
 behind stack plans w (asks id heard ∷ doings) = behind stack plans w doings
 behind stack plans w (bears id ∷ doings) = behind stack plans w doings
 
--- What is written, lost and handed on of what a node does from a world on; which sendings failed is told event by event.
+-- What is written, lost and, in a mode, handed on of what a node does from a world on; which sendings failed is told event by event.
 abbrev pub written_of : List LayerTree → List Plan → World → List Doing → List (List Bool) → List (List ℕ)
 written_of stack plans w [] failed = []
 written_of stack plans w (does event ∷ doings) failed =
@@ -100,12 +101,12 @@ lost_of stack plans w (does event ∷ doings) failed =
 lost_of stack plans w (asks id heard ∷ doings) failed = lost_of stack plans w doings failed
 lost_of stack plans w (bears id ∷ doings) failed = lost_of stack plans w doings failed
 
-abbrev pub sends_of : List LayerTree → List Plan → World → List Doing → List Handed
-sends_of stack plans w [] = []
-sends_of stack plans w (does event ∷ doings) =
-    event_sends stack plans w event ++ sends_of stack plans (happens stack plans w event).world doings
-sends_of stack plans w (asks id heard ∷ doings) = sends_of stack plans w doings
-sends_of stack plans w (bears id ∷ doings) = sends_of stack plans w doings
+abbrev pub sends_of : Mode → List LayerTree → List Plan → World → List Doing → List Handed
+sends_of mode stack plans w [] = []
+sends_of mode stack plans w (does event ∷ doings) =
+    event_sends mode stack plans w event ++ sends_of mode stack plans (happens stack plans w event).world doings
+sends_of mode stack plans w (asks id heard ∷ doings) = sends_of mode stack plans w doings
+sends_of mode stack plans w (bears id ∷ doings) = sends_of mode stack plans w doings
 
 -- The moments of what a node does.
 abbrev pub moments_of : List LayerTree → List Plan → World → List Doing → List Moment
@@ -118,7 +119,7 @@ WrittenIsOfNotes = (stack : List LayerTree) (plans : List Plan) (w : World) (doi
     (filter_map note_in doings) (moments_of stack plans w doings)
     ≡ written_of stack plans w doings failed
 
--- It hands on the packets of its journal.
+-- In whatever mode, it hands on the packets of its journal.
 abbrev pub SendsAreHanded : Type 0
-SendsAreHanded = (stack : List LayerTree) (plans : List Plan) (w : World) (doings : List Doing) →
-    handed layered stack plans (moments_of stack plans w doings) ≡ sends_of stack plans w doings
+SendsAreHanded = (mode : Mode) (stack : List LayerTree) (plans : List Plan) (w : World) (doings : List Doing) →
+    handed mode stack plans (moments_of stack plans w doings) ≡ sends_of mode stack plans w doings

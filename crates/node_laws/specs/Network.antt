@@ -4,6 +4,7 @@ use Rattle.outside.specs.Links.{Network, Sent, Met, Came, Quiet, Broke, next_fat
 use Rattle.outside.specs.declared.links.Fate.{Fate}
 use Rattle.layer_mean.specs.Tree.{LayerTree}
 use Rattle.stack_mean.specs.Plan.{Plan}
+use Rattle.job_mean.specs.Job.{Mode}
 use Rattle.run_mean.specs.Journal.{Handed, Heard, datagram, silence, failure}
 use Rattle.run_mean.specs.World.{World, happens}
 use Rattle.node_laws.specs.Doings.{Doing, does, asks, bears}
@@ -28,16 +29,16 @@ abbrev pub after_sends : List Handed → Network → Network
 after_sends [] n = n
 after_sends (h ∷ handed) n = after_sends handed (after_send (sent_as h) n)
 
--- A network goes on as a node does this from a world on: each member hears what the network has for it then, each packet is handed on in
+-- A network goes on as a node does this in a mode from a world on: each member hears what the network has for it then, each packet is handed on in
 -- its place, and those sendings fail that are to fail.
-abbrev pub Goes : List LayerTree → List Plan → World → List Doing → List (List Bool) → Network → Network → Type 0
-Goes stack plans w [] failed n n' = n' ≡ n
-Goes stack plans w (does event ∷ doings) failed n n' =
-    (first_of failed ≡ fates_of (length (event_sends stack plans w event)) n.fates)
-    × Goes stack plans (happens stack plans w event).world doings (drop 1 failed) (after_sends (event_sends stack plans w event) n) n'
-Goes stack plans w (asks id heard ∷ doings) failed n n' =
-    (next_met id n ≡ met_as heard) × Goes stack plans w doings failed (after_recv id n) n'
-Goes stack plans w (bears id ∷ doings) failed n n' = Goes stack plans w doings failed n n'
+abbrev pub Goes : Mode → List LayerTree → List Plan → World → List Doing → List (List Bool) → Network → Network → Type 0
+Goes mode stack plans w [] failed n n' = n' ≡ n
+Goes mode stack plans w (does event ∷ doings) failed n n' =
+    (first_of failed ≡ fates_of (length (event_sends mode stack plans w event)) n.fates)
+    × Goes mode stack plans (happens stack plans w event).world doings (drop 1 failed) (after_sends (event_sends mode stack plans w event) n) n'
+Goes mode stack plans w (asks id heard ∷ doings) failed n n' =
+    (next_met id n ≡ met_as heard) × Goes mode stack plans w doings failed (after_recv id n) n'
+Goes mode stack plans w (bears id ∷ doings) failed n n' = Goes mode stack plans w doings failed n n'
 
 -- Where a network tells, before and behind, something holds of what it tells.
 abbrev pub Tells : (Network → Network → Type 0) → Option Network → Option Network → Type 0
