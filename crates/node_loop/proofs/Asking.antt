@@ -82,7 +82,7 @@ same_around a a' output faults sends told = λ k. record { output = output k; fa
 
 module _ (stack : List LayerTree) (plans : List Plan) where
   pub same_rests : (g : Peopled) (d d' : Desk) → IsDesk d d' → RestsAgain stack plans g d g d'
-  same_rests g d d' same n w rests = (
+  same_rests g d d' same mode n w rests = (
     w,
     record {
       somewhere = rests.somewhere;
@@ -249,7 +249,7 @@ module _ (stack : List LayerTree) (plans : List Plan) where
         sum = sum;
         so = subst (λ k. SoFar stack plans c b moments k (from_asking c t before me) borne (now g d a clock)) (omega arith) so;
       };
-      rests = λ n w rests. (w, rests);
+      rests = λ mode n w rests. (w, rests);
       counted = omega arith;
       listening = λ m. refl;
     }

@@ -9,7 +9,7 @@ use Rattle.outside.specs.Links.{Network}
 use Rattle.outside.specs.declared.links.Peer.{Peer}
 use Rattle.outside.specs.declared.sink.SinkError.{SinkError}
 use Rattle.outside.specs.declared.sink.SinkError.TheVariants as sink
-use Rattle.job_mean.specs.Job.{layered}
+use Rattle.job_mean.specs.Job.{Mode}
 use Rattle.layer_mean.specs.Tree.{LayerTree}
 use Rattle.packet_mean.specs.ChainedState.{IsNumber}
 use Rattle.chain_laws.specs.Runs.{TypedStack}
@@ -22,6 +22,7 @@ use Rattle.stack_mean.specs.Plans.{plans_of}
 use Rattle.run_mean.specs.Member.{opened}
 use Rattle.run_mean.specs.Report.{end_line}
 use Rattle.run_mean.specs.View.{first_view}
+use Rattle.program_mean.specs.Headline.{node_words}
 use Rattle.outside.specs.Lines.{Wrote}
 use Rattle.outside.specs.Tells as output
 use Rattle.outside.proofs.Gaining.{gains_none}
@@ -36,7 +37,7 @@ use Rattle.node_loop.specs.Bearing.{cut_short}
 use Rattle.node_loop.specs.Course.{Begun, Made, MadeAll, Now, SoFar, now}
 use Rattle.node_loop.specs.Feeding.{IsUp, Rests}
 use Rattle.node_loop.specs.Listening.{Listened, ListenedSome, ListensAll}
-use Rattle.node_loop.specs.Serve.{Serves, Task, after_listens, Whereabouts, first_of_plan, layered_words, whereabouts}
+use Rattle.node_loop.specs.Serve.{Serves, Task, after_listens, Whereabouts, first_of_plan, whereabouts}
 use Rattle.node_loop.specs.declared.desk.Desk.{Desk}
 use Rattle.node_loop.specs.declared.error.NodeError.{NodeError}
 use Rattle.node_loop.specs.declared.error.NodeError.TheVariants.{Link, Write, Memory}
@@ -55,17 +56,17 @@ pub reached : (out : output.Tells) (peers : List Peer) (me : List ℕ) (faults a
 reached out peers me faults after sends sends_after told told_after listened sent =
     record { output = refl; faults = listened.0; sends = sent; told = listened.1 }
 
-module _ (stack : List LayerTree) (plan : NodePlan) (me : List ℕ) (turns patience : ℕ) where
+module _ (stack : List LayerTree) (plan : NodePlan) (me : List ℕ) (turns patience : ℕ) (mode : Mode) where
   abbrev course : Course
   course = record { plan = plan; me = me; turns = turns }
 
   abbrev task : Task
-  task = record { stack = stack; plan = plan; words = layered_words turns me patience }
+  task = record { stack = stack; plan = plan; words = node_words turns me patience mode }
 
   -- A group rests at its first world, with a desk at which nothing was done.
   pub rests_first : (plans : List Plan) (c : Peopled) (d : Desk) → TypedStack stack → IsNumber plan.group → IsNumber plan.stamp → length plan.peers ≤ 32 →
-      c.mode ≡ layered → c.stack ≡ stack → c.plans ≡ plans → Stands c (first_of_plan stack plan) → d.outputs.places ≡ largest_weight stack →
-      Rests stack plans (length plan.peers) c d (first_of_plan stack plan)
+      c.mode ≡ mode → c.stack ≡ stack → c.plans ≡ plans → Stands c (first_of_plan stack plan) → d.outputs.places ≡ largest_weight stack →
+      Rests mode stack plans (length plan.peers) c d (first_of_plan stack plan)
   rests_first plans c d typed group stamp few mode_is stack_is plans_are stands places = record {
     somewhere = record {
       mode_is = mode_is;
@@ -81,20 +82,21 @@ module _ (stack : List LayerTree) (plan : NodePlan) (me : List ℕ) (turns patie
   }
 
   pub up_first : (plans : List Plan) (c : Peopled) (d : Desk) (listening : ℕ → Option ℕ) → TypedStack stack → AreNumbered plans →
-      Rests stack plans (length plan.peers) c d (first_of_plan stack plan) →
+      Rests mode stack plans (length plan.peers) c d (first_of_plan stack plan) →
       AllByRecursion (λ id. id < length plan.peers) me → AllByRecursion (λ id. listening id ≡ Some (length plan.peers)) me → IsUp stack plans c d listening me
   up_first plans c d listening typed numbered rests few listen = record {
     typed = typed;
     numbered = numbered;
+    mode = mode;
     members = length plan.peers;
     world = first_of_plan stack plan;
     rests = rests;
     listen = all_listen listening (length plan.peers) me few listen;
   }
 
-  so_first : (plans : List Plan) (c : Peopled) (d : Desk) → Rests stack plans (length plan.peers) c d (first_of_plan stack plan) → d.events ≡ 0 →
+  so_first : (plans : List Plan) (c : Peopled) (d : Desk) → Rests mode stack plans (length plan.peers) c d (first_of_plan stack plan) → d.events ≡ 0 →
       (from : Around) (clock : Option (List ℕ)) →
-      SoFar stack plans course (begun stack plan me turns patience from clock) 0 0 (from_turn course 0 patience) 0 (now c d from clock)
+      SoFar stack plans course (begun stack plan me turns patience mode from clock) 0 0 (from_turn course 0 patience) 0 (now c d from clock)
   so_first plans c d rests none from clock = record {
     clock = [];
     heard = [];
@@ -113,25 +115,25 @@ module _ (stack : List LayerTree) (plan : NodePlan) (me : List ℕ) (turns patie
     gained = gains_none from.output;
     faults = refl;
     sends = refl;
-    told = tells_same (Goes stack plans (first_of_plan stack plan) [] []) from.told (λ n. refl);
+    told = tells_same (Goes mode stack plans (first_of_plan stack plan) [] []) from.told (λ n. refl);
     clock_told = no_moments clock;
   }
 
   -- What the turns of a node come to that begins.
-  pub made_first : (plans : List Plan) (c : Peopled) (d : Desk) → Rests stack plans (length plan.peers) c d (first_of_plan stack plan) → d.events ≡ 0 →
+  pub made_first : (plans : List Plan) (c : Peopled) (d : Desk) → Rests mode stack plans (length plan.peers) c d (first_of_plan stack plan) → d.events ≡ 0 →
       plans ≡ plans_of stack → (from : Around) (clock : Option (List ℕ)) (at : Now) (r : Result (Unit {0}) NodeError) →
       ((b : Begun) → b.patience ≡ patience → SoFar stack plans course b 0 0 (from_turn course 0 patience) 0 (now c d from clock) →
-      Made stack plans course b at r) → Made stack (plans_of stack) course (begun stack plan me turns patience from clock) at r
+      Made stack plans course b at r) → Made stack (plans_of stack) course (begun stack plan me turns patience mode from clock) at r
   made_first plans c d rests none is from clock at r told =
-      subst (λ plans. Made stack plans course (begun stack plan me turns patience from clock) at r) is
-      (told (begun stack plan me turns patience from clock) refl (so_first plans c d rests none from clock))
+      subst (λ plans. Made stack plans course (begun stack plan me turns patience mode from clock) at r) is
+      (told (begun stack plan me turns patience mode from clock) refl (so_first plans c d rests none from clock))
 
   module _ (goes_on : StoppedGoesOn) where
     -- Memory ran out before the members listened.
     pub not_begun : (a : Whereabouts) → Serves task a a (Err Memory)
     not_begun a =
-        let nothing = nothing_done stack plan me turns patience a.around a.clock in
-        broken stack plan me turns patience goes_on a a.around sink.Memory a.around a.clock nothing.0
+        let nothing = nothing_done stack plan me turns patience mode a.around a.clock in
+        broken stack plan me turns patience mode goes_on a a.around sink.Memory a.around a.clock nothing.0
         (subst (λ clock. Reaches (IsUntouched plan.peers me clock) a.around a.around) (sym nothing.1) (untouched plan.peers me a.around))
 
     -- They didn't all listen.
@@ -139,13 +141,13 @@ module _ (stack : List LayerTree) (plan : NodePlan) (me : List ℕ) (turns patie
         (e : NodeError) → ListensAll plan.peers me faults after told told_after (Err e) → sends_after ≡ sends →
         Serves task (whereabouts (surrounding out faults sends told) clock) (whereabouts (surrounding out after sends_after told_after) clock) (Err e)
     not_all_listen out clock faults after sends sends_after told told_after Link listened sent =
-        inl (not_listened stack plan me turns patience (whereabouts (surrounding out faults sends told) clock)
+        inl (not_listened stack plan me turns patience mode (whereabouts (surrounding out faults sends told) clock)
         (whereabouts (surrounding out after sends_after told_after) clock) refl listened.0 sent refl listened.1)
     not_all_listen out clock faults after sends sends_after told told_after Write listened sent = absurd listened
     not_all_listen out clock faults after sends sends_after told told_after Memory listened sent =
         let b = surrounding out after sends_after told_after in
-        let nothing = nothing_done stack plan me turns patience b clock in
-        broken stack plan me turns patience goes_on (whereabouts (surrounding out faults sends told) clock) b sink.Memory b clock nothing.0
+        let nothing = nothing_done stack plan me turns patience mode b clock in
+        broken stack plan me turns patience mode goes_on (whereabouts (surrounding out faults sends told) clock) b sink.Memory b clock nothing.0
         (listens_untouched plan.peers me nothing.0.clock (ListenedSome plan.peers me) (surrounding out faults sends told) b
         record { output = refl; faults = listened.0; sends = sent; told = listened.1 } (λ n n' l. (l.some, inr nothing.1, l.is)))
 
@@ -155,22 +157,22 @@ module _ (stack : List LayerTree) (plan : NodePlan) (me : List ℕ) (turns patie
           (λ n n' l. (length me, inl refl, l.is ∙ ap (λ ids. after_listens plan.peers ids n) (sym (take-length me))))
 
       -- Not all turns were made.
-      pub not_all_made : (at : Now) (e : NodeError) → Made stack (plans_of stack) course (begun stack plan me turns patience from a.clock) at (Err e) →
+      pub not_all_made : (at : Now) (e : NodeError) → Made stack (plans_of stack) course (begun stack plan me turns patience mode from a.clock) at (Err e) →
           Serves task a (whereabouts at.around at.clock) (Err e)
-      not_all_made at Link made = inr (went_deaf stack plan me turns patience a from listened at made)
-      not_all_made at Write made = broken stack plan me turns patience goes_on a from sink.Failed at.around at.clock made (still made.clock)
-      not_all_made at Memory made = broken stack plan me turns patience goes_on a from sink.Memory at.around at.clock made (still made.clock)
+      not_all_made at Link made = inr (went_deaf stack plan me turns patience mode a from listened at made)
+      not_all_made at Write made = broken stack plan me turns patience mode goes_on a from sink.Failed at.around at.clock made (still made.clock)
+      not_all_made at Memory made = broken stack plan me turns patience mode goes_on a from sink.Memory at.around at.clock made (still made.clock)
 
       -- All were, and the last line was put, or that was cut short.
-      pub all_served : (at : Now) → MadeAll stack (plans_of stack) course (begun stack plan me turns patience from a.clock) at →
+      pub all_served : (at : Now) → MadeAll stack (plans_of stack) course (begun stack plan me turns patience mode from a.clock) at →
           (out : output.Tells) (r : Result (Unit {0}) SinkError) → Wrote (end_line at.desk.events ∷ []) at.around.output out r →
           Serves task a (whereabouts (surrounding out at.around.faults at.around.sends at.around.told) at.clock) (cut_short r)
-      all_served at made out (Ok done) wrote = made_all stack plan me turns patience a from listened at made out wrote
+      all_served at made out (Ok done) wrote = made_all stack plan me turns patience mode a from listened at made out wrote
       all_served at made out (Err sink.Failed) wrote =
-          let cut = last_cut stack plan me turns patience from a.clock at out sink.Failed made wrote in
-          broken stack plan me turns patience goes_on a from sink.Failed
+          let cut = last_cut stack plan me turns patience mode from a.clock at out sink.Failed made wrote in
+          broken stack plan me turns patience mode goes_on a from sink.Failed
           (surrounding out at.around.faults at.around.sends at.around.told) at.clock cut (still cut.clock)
       all_served at made out (Err sink.Memory) wrote =
-          let cut = last_cut stack plan me turns patience from a.clock at out sink.Memory made wrote in
-          broken stack plan me turns patience goes_on a from sink.Memory
+          let cut = last_cut stack plan me turns patience mode from a.clock at out sink.Memory made wrote in
+          broken stack plan me turns patience mode goes_on a from sink.Memory
           (surrounding out at.around.faults at.around.sends at.around.told) at.clock cut (still cut.clock)

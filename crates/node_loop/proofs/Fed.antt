@@ -5,7 +5,7 @@ use Rattle.std.specs.List.{AllByRecursion, flat_map}
 use Rattle.std.specs.Prelude.{IsSomeAnd, Result, Ok, Err, option_to_list}
 use Rattle.outside.specs.declared.sink.SinkError.{SinkError}
 use Rattle.outside.specs.declared.sink.SinkError.TheVariants as sink
-use Rattle.job_mean.specs.Job.{layered}
+use Rattle.job_mean.specs.Job.{Mode}
 use Rattle.layer_mean.specs.Tree.{LayerTree}
 use Rattle.chain_laws.specs.Runs.{TypedStack}
 use Rattle.member_laws.specs.Members.{IsChainedWorld, IsGivenEvent}
@@ -45,17 +45,17 @@ use Rattle.node_loop.specs.Sending.{sends_of_outputs, stepped_acts}
 use Rattle.node_loop.specs.declared.desk.Desk.{Desk}
 use Rattle.node_loop.proofs.Passing.{breaks_first, breaks_then, memory_stops, passes_lines, passes_then}
 
--- An event happened: the world behind it, and what is told of it.
-pub record Happened (stack : List LayerTree) (plans : List Plan) (w : World) (event : ScriptEvent) (c : Peopled) (outs : List (Output × Option ℕ))
-    (before after : ℕ) (d : Did) : Type 0 where
+-- An event happened in a mode: the world behind it, and what is told of it.
+pub record Happened (mode : Mode) (stack : List LayerTree) (plans : List Plan) (w : World) (event : ScriptEvent) (c : Peopled)
+    (outs : List (Output × Option ℕ)) (before after : ℕ) (d : Did) : Type 0 where
   pub world : Stands c (happens stack plans w event).world
-  pub told : DidIs layered stack plans (happens stack plans w event).did outs before after d
+  pub told : DidIs mode stack plans (happens stack plans w event).did outs before after d
 
-pub happened : (stack : List LayerTree) (plans : List Plan) (w : World) (event : ScriptEvent) (c c' : Peopled) (outs : List (Output × Option ℕ))
-    (before after : ℕ) (d d' : Did) → c.mode ≡ layered → c.stack ≡ stack → c.plans ≡ plans → d ≡ d' →
-    IsFed c (happens c.stack c.plans w event) c' outs before after d → Happened stack plans w event c' outs before after d'
-happened stack plans w event c c' outs before after d d' mode_is stack_is plans_are d_is f = subst (Happened stack plans w event c' outs before after) d_is
-    (subst {A = List LayerTree × List Plan} (λ x. Happened x.0 x.1 w event c' outs before after d) (λ k. (stack_is k, plans_are k))
+pub happened : (mode : Mode) (stack : List LayerTree) (plans : List Plan) (w : World) (event : ScriptEvent) (c c' : Peopled) (outs : List (Output × Option ℕ))
+    (before after : ℕ) (d d' : Did) → c.mode ≡ mode → c.stack ≡ stack → c.plans ≡ plans → d ≡ d' →
+    IsFed c (happens c.stack c.plans w event) c' outs before after d → Happened mode stack plans w event c' outs before after d'
+happened mode stack plans w event c c' outs before after d d' mode_is stack_is plans_are d_is f = subst (Happened mode stack plans w event c' outs before after) d_is
+    (subst {A = List LayerTree × List Plan} (λ x. Happened mode x.0 x.1 w event c' outs before after d) (λ k. (stack_is k, plans_are k))
     (record {
       world = f.world;
       told = subst (λ mode. DidIs mode c.stack c.plans (happens c.stack c.plans w event).did outs before after d) mode_is f.told;
@@ -68,7 +68,7 @@ IsStep (world.refused r) = Unit {0}
 IsStep world.absent = ⊥
 IsStep world.shown = ⊥
 
-module _ (stack : List LayerTree) (plans : List Plan) (w : World) where
+module _ (mode : Mode) (stack : List LayerTree) (plans : List Plan) (w : World) where
   steps_are : (id : ℕ) (input : Input) (m : Member) → IsStep (stepped_of stack plans w id input m).did
   steps_are id input out = tt
   steps_are id input (inside view states) = go (entered stack plans (here_of w view id) input) where
@@ -86,30 +86,30 @@ module _ (stack : List LayerTree) (plans : List Plan) (w : World) where
   own_is_step (script.Give k id) own = absurd own
   own_is_step (script.Show id) own = absurd own
 
-  never_absent : (d : world.Did) (outs : List (Output × Option ℕ)) (before after : ℕ) → IsStep d → DidIs layered stack plans d outs before after did.Absent → ⊥
+  never_absent : (d : world.Did) (outs : List (Output × Option ℕ)) (before after : ℕ) → IsStep d → DidIs mode stack plans d outs before after did.Absent → ⊥
   never_absent (world.taken s) outs before after step is = is
   never_absent (world.refused r) outs before after step is = is
   never_absent world.absent outs before after step is = step
   never_absent world.shown outs before after step is = step
 
-  never_shown : (d : world.Did) (outs : List (Output × Option ℕ)) (before after : ℕ) → IsStep d → DidIs layered stack plans d outs before after did.Shown → ⊥
+  never_shown : (d : world.Did) (outs : List (Output × Option ℕ)) (before after : ℕ) → IsStep d → DidIs mode stack plans d outs before after did.Shown → ⊥
   never_shown (world.taken s) outs before after step is = is
   never_shown (world.refused r) outs before after step is = is
   never_shown world.absent outs before after step is = step
   never_shown world.shown outs before after step is = step
 
   pub own_never_absent : (event : ScriptEvent) (c : Peopled) (outs : List (Output × Option ℕ)) (before after : ℕ) → IsOwn event →
-      Happened stack plans w event c outs before after did.Absent → ⊥
+      Happened mode stack plans w event c outs before after did.Absent → ⊥
   own_never_absent event c outs before after own h = never_absent (happens stack plans w event).did outs before after (own_is_step event own) h.told
 
   pub own_never_shown : (event : ScriptEvent) (c : Peopled) (outs : List (Output × Option ℕ)) (before after : ℕ) → IsOwn event →
-      Happened stack plans w event c outs before after did.Shown → ⊥
+      Happened mode stack plans w event c outs before after did.Shown → ⊥
   own_never_shown event c outs before after own h = never_shown (happens stack plans w event).did outs before after (own_is_step event own) h.told
 
   -- The acts of a step as it is told are those of what happened.
   did_acts_are : (event : ScriptEvent) (d : world.Did) (outs : List (Output × Option ℕ)) (before after : ℕ) (stepped : Stepped) (failed : List Bool) →
-      DidIs layered stack plans d outs before after (did.Stepped stepped) →
-      did_acts stack plans w event d failed ≡ stepped_acts stack plans (member_of event) (first_in w) outs stepped failed
+      DidIs mode stack plans d outs before after (did.Stepped stepped) →
+      did_acts mode stack plans w event d failed ≡ stepped_acts stack plans (member_of event) (first_in w) outs stepped failed
   did_acts_are event (world.taken s) outs before after (Taken common change) failed is =
       let id = member_of event in
       ap (λ o. outputs_acts stack plans id (first_in w) o failed ++ map puts (map (installed_line id) (option_to_list s.installs))) (sym is.outs_are)
@@ -125,8 +125,8 @@ module _ (stack : List LayerTree) (plans : List Plan) (w : World) where
   did_acts_are event world.shown outs before after (Refused told) failed is = absurd is
 
   pub event_acts_are : (event : ScriptEvent) (c : Peopled) (outs : List (Output × Option ℕ)) (before after : ℕ) (stepped : Stepped) (id first : ℕ)
-      (failed : List Bool) → Happened stack plans w event c outs before after (did.Stepped stepped) → id ≡ member_of event → first ≡ first_in w →
-      event_acts stack plans w event failed ≡ puts (journal_line event) ∷ stepped_acts stack plans id first outs stepped failed
+      (failed : List Bool) → Happened mode stack plans w event c outs before after (did.Stepped stepped) → id ≡ member_of event → first ≡ first_in w →
+      event_acts mode stack plans w event failed ≡ puts (journal_line event) ∷ stepped_acts stack plans id first outs stepped failed
   event_acts_are event c outs before after stepped id first failed h id_is first_is =
       ap (λ acts. puts (journal_line event) ∷ acts)
       (did_acts_are event (happens stack plans w event).did outs before after stepped failed h.told
@@ -135,7 +135,7 @@ module _ (stack : List LayerTree) (plans : List Plan) (w : World) where
 
   -- What a step hands on may be handed on.
   did_sendable : (id n : ℕ) (d : world.Did) (outs : List (Output × Option ℕ)) (before after : ℕ) (stepped : Stepped) →
-      DidIs layered stack plans d outs before after (did.Stepped stepped) → AllByRecursion (IsSendable n id) (handed_in layered stack plans id d) →
+      DidIs mode stack plans d outs before after (did.Stepped stepped) → AllByRecursion (IsSendable n id) (handed_in mode stack plans id d) →
       AllByRecursion (IsSendable n id) (sends_of_outputs plans id outs)
   did_sendable id n (world.taken s) outs before after (Taken common change) is all =
       subst (λ o. AllByRecursion (IsSendable n id) (flat_map (handed_output plans id) o)) (sym is.outs_are) all
@@ -150,19 +150,19 @@ module _ (stack : List LayerTree) (plans : List Plan) (w : World) where
 
   pub own_sendable : (event : ScriptEvent) (n : ℕ) (c : Peopled) (outs : List (Output × Option ℕ)) (before after : ℕ) (stepped : Stepped) (id : ℕ)
       (listening : ℕ → Option ℕ) → IsWithinLimits stack → TypedStack stack → AreNumbered plans → IsGivenEvent event → IsChainedWorld stack w →
-      AreWithin n w → Happened stack plans w event c outs before after (did.Stepped stepped) → id ≡ member_of event →
+      AreWithin n w → Happened mode stack plans w event c outs before after (did.Stepped stepped) → id ≡ member_of event →
       listening (member_of event) ≡ Some n →
       IsSomeAnd (listening id) (λ peers. AllByRecursion (IsSendable peers id) (sends_of_outputs plans id outs))
   own_sendable event n c outs before after stepped id listening limits typed numbered given chained within h id_is listens =
       subst (λ i. IsSomeAnd (listening i) (λ peers. AllByRecursion (IsSendable peers i) (sends_of_outputs plans i outs))) (sym id_is)
       (subst (λ o. IsSomeAnd o (λ peers. AllByRecursion (IsSendable peers (member_of event)) (sends_of_outputs plans (member_of event) outs))) (sym listens)
       (did_sendable (member_of event) n (happens stack plans w event).did outs before after stepped h.told
-      (sends_are_sendable stack plans w event n limits (events_keep_chains stack plans w event typed numbered given chained) within)))
+      (sends_are_sendable mode stack plans w event n limits (events_keep_chains stack plans w event typed numbered given chained) within)))
 
   -- Where a group stands behind an event.
   pub rests_again : (event : ScriptEvent) (n : ℕ) (c c' : Peopled) (d d' : Desk) (outs : List (Output × Option ℕ)) (before after : ℕ) (told : Did) →
-      TypedStack stack → AreNumbered plans → IsGivenEvent event → Rests stack plans n c d w → Stays c c' →
-      Happened stack plans w event c' outs before after told → d'.outputs.places ≡ d.outputs.places → Rests stack plans n c' d' (happens stack plans w event).world
+      TypedStack stack → AreNumbered plans → IsGivenEvent event → Rests mode stack plans n c d w → Stays c c' →
+      Happened mode stack plans w event c' outs before after told → d'.outputs.places ≡ d.outputs.places → Rests mode stack plans n c' d' (happens stack plans w event).world
   rests_again event n c c' d d' outs before after told typed numbered given r stays h places = record {
     somewhere = record {
       mode_is = stays.mode ∙ r.somewhere.mode_is;
@@ -177,27 +177,27 @@ module _ (stack : List LayerTree) (plans : List Plan) (w : World) where
   }
 
   -- The number of the next packet, where a group stands.
-  pub first_is : (c : Peopled) (n number : ℕ) → Somewhere stack plans n c w → number ≡ length c.spelled + 1 → number ≡ first_in w
+  pub first_is : (c : Peopled) (n number : ℕ) → Somewhere mode stack plans n c w → number ≡ length c.spelled + 1 → number ≡ first_in w
   first_is c n number at is = is ∙ ap (λ k. k + 1) (sym (ap length at.stands.spelled) ∙ length-map w.packets full_bytes)
 
   -- The line of an event, and then what it came to.
   pub journal_then : (event : ScriptEvent) (c : Peopled) (outs : List (Output × Option ℕ)) (before after : ℕ) (stepped : Stepped) (id first : ℕ)
-      (a m b : Around) → Happened stack plans w event c outs before after (did.Stepped stepped) → id ≡ member_of event → first ≡ first_in w →
+      (a m b : Around) → Happened mode stack plans w event c outs before after (did.Stepped stepped) → id ≡ member_of event → first ≡ first_in w →
       Gains a.output m.output (journal_line event ∷ []) → m.faults ≡ a.faults → m.sends ≡ a.sends → m.told ≡ a.told →
-      PassesAll (stepped_acts stack plans id first outs stepped) m b → PassesAll (event_acts stack plans w event) a b
+      PassesAll (stepped_acts stack plans id first outs stepped) m b → PassesAll (event_acts mode stack plans w event) a b
   journal_then event c outs before after stepped id first a m b h id_is first_is gained faults sends told p = record {
     failed = p.failed;
     passed = passes_then a m b (puts (journal_line event) ∷ []) (stepped_acts stack plans id first outs stepped p.failed)
-        (event_acts stack plans w event p.failed) [] p.failed (passes_lines a m (journal_line event ∷ []) gained faults sends told) p.passed
+        (event_acts mode stack plans w event p.failed) [] p.failed (passes_lines a m (journal_line event ∷ []) gained faults sends told) p.passed
         (event_acts_are event c outs before after stepped id first p.failed h id_is first_is);
   }
 
   pub journal_cut : (event : ScriptEvent) (c : Peopled) (outs : List (Output × Option ℕ)) (before after : ℕ) (stepped : Stepped) (id first : ℕ)
-      (a m b : Around) (e : SinkError) → Happened stack plans w event c outs before after (did.Stepped stepped) → id ≡ member_of event → first ≡ first_in w →
+      (a m b : Around) (e : SinkError) → Happened mode stack plans w event c outs before after (did.Stepped stepped) → id ≡ member_of event → first ≡ first_in w →
       Gains a.output m.output (journal_line event ∷ []) → m.faults ≡ a.faults → m.sends ≡ a.sends → m.told ≡ a.told →
-      Breaks (stepped_acts stack plans id first outs stepped) e m b → Breaks (event_acts stack plans w event) e a b
+      Breaks (stepped_acts stack plans id first outs stepped) e m b → Breaks (event_acts mode stack plans w event) e a b
   journal_cut event c outs before after stepped id first a m b e h id_is first_is gained faults sends told q =
-      breaks_then a m b (puts (journal_line event) ∷ []) (stepped_acts stack plans id first outs stepped) (event_acts stack plans w event) [] e
+      breaks_then a m b (puts (journal_line event) ∷ []) (stepped_acts stack plans id first outs stepped) (event_acts mode stack plans w event) [] e
       (passes_lines a m (journal_line event ∷ []) gained faults sends told) q
       (record {
         more = λ g. [];
@@ -207,11 +207,11 @@ module _ (stack : List LayerTree) (plans : List Plan) (w : World) where
 
   -- The line of an event, and then want of memory.
   pub journal_none : (event : ScriptEvent) (a m : Around) → Gains a.output m.output (journal_line event ∷ []) → m.faults ≡ a.faults →
-      m.sends ≡ a.sends → m.told ≡ a.told → Breaks (event_acts stack plans w event) sink.Memory a m
+      m.sends ≡ a.sends → m.told ≡ a.told → Breaks (event_acts mode stack plans w event) sink.Memory a m
   journal_none event a m gained faults sends told =
-      breaks_then a m m (puts (journal_line event) ∷ []) rest (event_acts stack plans w event) [] sink.Memory
+      breaks_then a m m (puts (journal_line event) ∷ []) rest (event_acts mode stack plans w event) [] sink.Memory
       (passes_lines a m (journal_line event ∷ []) gained faults sends told)
       (breaks_first m m rest sink.Memory (memory_stops m.output (rest [])) refl refl refl)
       (record { more = λ g. []; are = λ g few. ap (λ acts. puts (journal_line event) ∷ acts) (sym (append-nil (rest g))) }) where
         rest : List Bool → List Act
-        rest failed = did_acts stack plans w event (happens stack plans w event).did failed
+        rest failed = did_acts mode stack plans w event (happens stack plans w event).did failed

@@ -87,7 +87,7 @@ module _ (stack : List LayerTree) (plans : List Plan) where
         PlannedSome me turns t start start g g d d a a heard heard
     planned_none g d a heard within passed due = record {
       told = λ c b moments answers left borne clock within so. so;
-      rests = λ n w rests. (w, rests);
+      rests = λ mode n w rests. (w, rests);
       counted = omega arith;
       listening = λ m. refl;
       within = within;

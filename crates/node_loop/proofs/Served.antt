@@ -13,10 +13,11 @@ use Rattle.script_mean.specs.declared.event.ScriptEvent.{ScriptEvent}
 use Rattle.script_mean.specs.declared.plan.NodePlan.{NodePlan}
 use Rattle.stack_mean.specs.Plan.{Plan}
 use Rattle.stack_mean.specs.Plans.{plans_of}
-use Rattle.job_mean.specs.Job.{layered}
+use Rattle.job_mean.specs.Job.{Mode}
 use Rattle.run_mean.specs.Journal.{failure, handed, node_lines, node_run, note_lines}
 use Rattle.run_mean.specs.Report.{end_line, moments}
 use Rattle.run_mean.specs.World.{World, happens}
+use Rattle.program_mean.specs.Headline.{node_words}
 use Rattle.program_mean.specs.Output.{NodeWords, Surroundings, failures, handed_by, noted, played}
 use Rattle.outside.specs.Lines.{Gains, Wrote}
 use Rattle.outside.specs.Tells as output
@@ -35,7 +36,7 @@ use Rattle.node_loop.specs.Around.{Around, RoseBy, Told, count_on, surrounding}
 use Rattle.node_loop.specs.Course.{Begun, CutOff, MadeAll, MadeSome, Now, SoFar, nothing_left}
 use Rattle.node_loop.specs.Listening.{Listened, ListenedNot}
 use Rattle.node_loop.specs.Passing.{Stops, WentOn}
-use Rattle.node_loop.specs.Serve.{BrokenOff, CouldNotListen, IsTold, LeftOff, MadeAllTurns, RanOver, Task, WentDeaf, Whereabouts, after_listens, doings_in, first_of_plan, layered_words, listens_of, told_on, whereabouts}
+use Rattle.node_loop.specs.Serve.{BrokenOff, CouldNotListen, IsTold, LeftOff, MadeAllTurns, RanOver, Task, WentDeaf, Whereabouts, after_listens, doings_in, first_of_plan, listens_of, told_on, whereabouts}
 use Rattle.node_loop.proofs.Steps.{failures_append}
 use Rattle.node_loop.proofs.Passing.{asked_nothing, line_stops, memory_stops, stops_then, stops_wrote}
 
@@ -111,9 +112,9 @@ pub no_moments : (clock : Option (List ℕ)) → Told clock clock []
 no_moments None = record { moments = tt; kept = refl }
 no_moments (Some moments) = record { moments = refl; kept = refl }
 
-module _ (stack : List LayerTree) (plan : NodePlan) (me : List ℕ) (turns patience : ℕ) where
+module _ (stack : List LayerTree) (plan : NodePlan) (me : List ℕ) (turns patience : ℕ) (mode : Mode) where
   abbrev words : NodeWords
-  words = layered_words turns me patience
+  words = node_words turns me patience mode
 
   abbrev task : Task
   task = record { stack = stack; plan = plan; words = words }
@@ -128,7 +129,7 @@ module _ (stack : List LayerTree) (plan : NodePlan) (me : List ℕ) (turns patie
   first = first_of_plan stack plan
 
   abbrev pub begun : Around → Option (List ℕ) → Begun
-  begun at clock = record { first = first; members = length plan.peers; patience = patience; around = at; clock = clock }
+  begun at clock = record { mode = mode; first = first; members = length plan.peers; patience = patience; around = at; clock = clock }
 
   -- A journal is of what was done.
 
@@ -155,9 +156,9 @@ module _ (stack : List LayerTree) (plan : NodePlan) (me : List ℕ) (turns patie
       ap (λ lines. lines ++ end_line (length (played stack plan words s)) ∷ []) (lines_are s doings flags lost is lost_is)
       ∙ ap (λ n. written_of stack plans first doings flags ++ end_line n ∷ []) (events_are s doings is)
 
-  handed_are : (s : Surroundings) (doings : List Doing) → doings_in task s ≡ doings → handed_by stack plan words s ≡ sends_of stack plans first doings
+  handed_are : (s : Surroundings) (doings : List Doing) → doings_in task s ≡ doings → handed_by stack plan words s ≡ sends_of mode stack plans first doings
   handed_are s doings is =
-      ap (λ notes. handed layered stack plans (node_run stack plans plan notes)) (notes_are s doings is) ∙ sends_are_handed stack plans first doings
+      ap (λ notes. handed mode stack plans (node_run stack plans plan notes)) (notes_are s doings is) ∙ sends_are_handed mode stack plans first doings
 
   told_so : (OverNetwork : Network → Network → Type 0) (Over : Network → Network → Type 0) (a b : Whereabouts) (at : Around) (s : Surroundings) →
       Reaches Over a.around at → b.around.faults ≡ count_on at.faults (failures s.heard) → b.around.sends ≡ count_on at.sends (length s.lost) →
@@ -187,8 +188,8 @@ module _ (stack : List LayerTree) (plan : NodePlan) (me : List ℕ) (turns patie
       listens = l.flags;
       flags = so.failed;
       lost = ap (λ doings. lost_of stack plans first doings so.failed) (sym did);
-      goes = subst (λ doings. Goes stack plans first doings so.failed (after_listens plan.peers me n) n'') (sym did)
-          (subst (λ n. Goes stack plans first so.done so.failed n n'') l.is goes);
+      goes = subst (λ doings. Goes mode stack plans first doings so.failed (after_listens plan.peers me n) n'') (sym did)
+          (subst (λ n. Goes mode stack plans first so.done so.failed n n'') l.is goes);
     })
 
     run_told : (out : output.Tells) →
@@ -242,9 +243,9 @@ module _ (stack : List LayerTree) (plan : NodePlan) (me : List ℕ) (turns patie
       CutOff stack plans course (begun from clock) e (surrounding out at.around.faults at.around.sends at.around.told) at.clock
   last_cut from clock at out e all wrote =
       let so = all.so in
-      let front = acts_of stack plans first so.done so.failed in
-      let put = subst (Gains from.output at.around.output) (sym (acts_lines_are stack plans first so.done so.failed)) so.gained in
-      let handed : sends_in (front ++ []) ≡ sends_of stack plans first so.done = ap sends_in (append-nil front) ∙ acts_sends_are stack plans first so.done so.failed in
+      let front = acts_of mode stack plans first so.done so.failed in
+      let put = subst (Gains from.output at.around.output) (sym (acts_lines_are mode stack plans first so.done so.failed)) so.gained in
+      let handed : sends_in (front ++ []) ≡ sends_of mode stack plans first so.done = ap sends_in (append-nil front) ∙ acts_sends_are mode stack plans first so.done so.failed in
       record {
         clock = so.clock;
         heard = so.heard;
@@ -262,10 +263,10 @@ module _ (stack : List LayerTree) (plan : NodePlan) (me : List ℕ) (turns patie
         faults = so.faults ∙ ap (count_on from.faults) (sym so.borne_are);
         sends = so.sends;
         told = tells_as from.told at.around.told so.told (λ n n' goes. record {
-          listened = goes_listened stack plans first so.done so.failed n n' goes ∙ sym (append-nil n.listened);
+          listened = goes_listened mode stack plans first so.done so.failed n n' goes ∙ sym (append-nil n.listened);
           some = record {
-            handed = goes_handed stack plans first so.done so.failed n n' goes ∙ ap (λ hs. n.handed ++ map sent_as hs) (sym handed);
-            met = goes_met stack plans first so.done so.failed n n' goes ∙ ap (λ hs. n.met ++ map met_as hs) so.asked;
+            handed = goes_handed mode stack plans first so.done so.failed n n' goes ∙ ap (λ hs. n.handed ++ map sent_as hs) (sym handed);
+            met = goes_met mode stack plans first so.done so.failed n n' goes ∙ ap (λ hs. n.met ++ map met_as hs) so.asked;
           };
         });
         clock_told = so.clock_told;
@@ -276,7 +277,7 @@ module _ (stack : List LayerTree) (plan : NodePlan) (me : List ℕ) (turns patie
       (cut : CutOff stack plans course (begun from clock) sink.Memory from clock) × (cut.clock ≡ [])
   nothing_done from clock =
       let doings = doings_of plan me turns patience ([] ++ clock_on course []) ([] ++ heard_on course []) in
-      let rest = acts_of stack plans first doings [] ++ puts (end_line (length (events_of doings))) ∷ [] in (
+      let rest = acts_of mode stack plans first doings [] ++ puts (end_line (length (events_of doings))) ∷ [] in (
         record {
           clock = [];
           heard = [];
@@ -317,12 +318,12 @@ module _ (stack : List LayerTree) (plan : NodePlan) (me : List ℕ) (turns patie
         moments = whole.moments;
         answers = whole.answers;
         borne = whole.borne;
-        handed_on = sym (sends_append cut.done cut.rest) ∙ ap sends_in (sym cut.are) ∙ sends_append (acts_of stack plans first cut.doings cut.failed) end
-            ∙ append-nil (sends_in (acts_of stack plans first cut.doings cut.failed))
-            ∙ acts_sends_are stack plans first cut.doings cut.failed ∙ sym (handed_are on cut.doings is);
+        handed_on = sym (sends_append cut.done cut.rest) ∙ ap sends_in (sym cut.are) ∙ sends_append (acts_of mode stack plans first cut.doings cut.failed) end
+            ∙ append-nil (sends_in (acts_of mode stack plans first cut.doings cut.failed))
+            ∙ acts_sends_are mode stack plans first cut.doings cut.failed ∙ sym (handed_are on cut.doings is);
         written = subst (λ lines. Wrote lines a.around.output at.output (Err e))
-            (ap lines_in (sym cut.are) ∙ lines_append (acts_of stack plans first cut.doings cut.failed) end
-            ∙ ap (λ lines. lines ++ end_line (length (events_of cut.doings)) ∷ []) (acts_lines_are stack plans first cut.doings cut.failed)
+            (ap lines_in (sym cut.are) ∙ lines_append (acts_of mode stack plans first cut.doings cut.failed) end
+            ∙ ap (λ lines. lines ++ end_line (length (events_of cut.doings)) ∷ []) (acts_lines_are mode stack plans first cut.doings cut.failed)
             ∙ sym (all_lines_are on cut.doings cut.failed s.lost is refl))
             (stops_wrote a.around.output at.output cut.done cut.rest e stopped);
         performed = record {
@@ -330,7 +331,7 @@ module _ (stack : List LayerTree) (plan : NodePlan) (me : List ℕ) (turns patie
           lost = ap (λ doings. lost_of stack plans first doings cut.failed) (sym is);
           done = cut.done;
           rest = cut.rest;
-          are = ap (λ doings. acts_of stack plans first doings cut.failed ++ puts (end_line (length (events_of doings))) ∷ []) is ∙ cut.are;
+          are = ap (λ doings. acts_of mode stack plans first doings cut.failed ++ puts (end_line (length (events_of doings))) ∷ []) is ∙ cut.are;
           stopped = stopped;
           sent_are = refl;
         };

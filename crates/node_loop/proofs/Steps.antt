@@ -67,7 +67,7 @@ module _ (stack : List LayerTree) (plans : List Plan) (c : Course) (b : Begun) w
   -- an event was fed
   pub fed_so : (m k borne : ℕ) (rest : List ℕ → List Heard → List Doing) (event : ScriptEvent) (g g' : Peopled) (d d' : Desk) (a a' : Around)
       (clk : Option (List ℕ)) → (so : So m k (λ later more. does event ∷ rest later more) borne (now g d a clk)) →
-      IsFed stack plans b.members so.world event g' d d' a a' → So m k rest borne (now g' d' a' clk)
+      IsFed b.mode stack plans b.members so.world event g' d d' a a' → So m k rest borne (now g' d' a' clk)
   fed_so m k borne rest event g g' d d' a a' clk so fed =
       let w = b.first in
       let f = fed.passed.failed in
@@ -92,33 +92,33 @@ module _ (stack : List LayerTree) (plans : List Plan) (c : Course) (b : Begun) w
             ∙ sym (ap length (events_append so.done one));
         gained = gains_then b.around.output a.output a'.output (written_of stack plans w so.done so.failed) (event_lines stack plans so.world event f)
             (written_of stack plans w (so.done ++ one) (so.failed ++ f ∷ [])) so.gained
-            (subst (Gains a.output a'.output) (event_lines_are stack plans so.world event f) p.gained)
+            (subst (Gains a.output a'.output) (event_lines_are b.mode stack plans so.world event f) p.gained)
             (written_append stack plans w so.done one so.failed (f ∷ []) so.each
             ∙ ap (λ ls. written_of stack plans w so.done so.failed ++ ls) (append-nil (event_lines stack plans (behind stack plans w so.done) event f))
             ∙ ap (λ v. written_of stack plans w so.done so.failed ++ event_lines stack plans v event f) (sym at));
         faults = p.faults ∙ so.faults;
         sends =
-            let few : length f ≤ length (event_sends stack plans so.world event) =
-            (let e = p.each ∙ ap length (event_sends_are stack plans so.world event f) in omega (arith, e)) in
+            let few : length f ≤ length (event_sends b.mode stack plans so.world event) =
+            (let e = p.each ∙ ap length (event_sends_are b.mode stack plans so.world event f) in omega (arith, e)) in
             let lost : length (lost_of stack plans w (so.done ++ one) (so.failed ++ f ∷ []))
             ≡ length (lost_of stack plans w so.done so.failed) + failures_in f =
             ap length (lost_append stack plans w so.done one so.failed (f ∷ []) so.each
             ∙ ap (λ ls. lost_of stack plans w so.done so.failed ++ ls) (append-nil (event_losses stack plans (behind stack plans w so.done) event f))
             ∙ ap (λ v. lost_of stack plans w so.done so.failed ++ event_losses stack plans v event f) (sym at))
             ∙ length-append (lost_of stack plans w so.done so.failed) (event_losses stack plans so.world event f)
-            ∙ ap (λ n. length (lost_of stack plans w so.done so.failed) + n) (event_losses_are stack plans so.world event f few) in
+            ∙ ap (λ n. length (lost_of stack plans w so.done so.failed) + n) (event_losses_are b.mode stack plans so.world event f few) in
             p.sendings ∙ ap (λ n. count_on n (failures_in f)) so.sends
             ∙ sym (count_on_add b.around.sends (length (lost_of stack plans w so.done so.failed)) (failures_in f))
             ∙ ap (count_on b.around.sends) (sym lost);
         told = tells_then b.around.told a.told a'.told so.told p.told (λ n n' n'' goes takes.
-            goes_append stack plans w so.done one so.failed (f ∷ []) n n' n'' so.each goes
-            (subst (λ v. Goes stack plans v one (f ∷ []) n' n'') at (went n' n'' takes)));
+            goes_append b.mode stack plans w so.done one so.failed (f ∷ []) n n' n'' so.each goes
+            (subst (λ v. Goes b.mode stack plans v one (f ∷ []) n' n'') at (went n' n'' takes)));
         clock_told = so.clock_told;
       } where
-        went : (n n' : Network) → Takes (sends_in (event_acts stack plans so.world event fed.passed.failed)) fed.passed.failed n n' →
-            Goes stack plans so.world (does event ∷ []) (fed.passed.failed ∷ []) n n'
+        went : (n n' : Network) → Takes (sends_in (event_acts b.mode stack plans so.world event fed.passed.failed)) fed.passed.failed n n' →
+            Goes b.mode stack plans so.world (does event ∷ []) (fed.passed.failed ∷ []) n n'
         went n n' takes = subst (λ h. (fed.passed.failed ≡ fates_of (length h) n.fates) × (n' ≡ after_sends h n))
-            (event_sends_are stack plans so.world event fed.passed.failed) (takes.failed_are, takes.is)
+            (event_sends_are b.mode stack plans so.world event fed.passed.failed) (takes.failed_are, takes.is)
 
   -- a member asked and heard
   pub asked_so : (m k borne borne' : ℕ) (rest other : List ℕ → List Heard → List Doing) (id : ℕ) (x : Heard) (g : Peopled) (d d' : Desk) (a a' : Around)
@@ -150,8 +150,8 @@ module _ (stack : List LayerTree) (plans : List Plan) (c : Course) (b : Begun) w
             ∙ ap (count_on b.around.faults) (sym more);
         sends = sends ∙ so.sends ∙ ap (λ ls. count_on b.around.sends (length ls)) (sym (same_lost one so refl));
         told = tells_then b.around.told a.told a'.told so.told told (λ n n' n'' goes heard.
-            subst (λ f. Goes stack plans w (so.done ++ one) f n n'') (append-nil so.failed)
-            (goes_append stack plans w so.done one so.failed [] n n' n'' so.each goes (heard.0, heard.1)));
+            subst (λ f. Goes b.mode stack plans w (so.done ++ one) f n n'') (append-nil so.failed)
+            (goes_append b.mode stack plans w so.done one so.failed [] n n' n'' so.each goes (heard.0, heard.1)));
         clock_told = so.clock_told;
       } where
         same_written : (one : List Doing) (so : So m k rest borne (now g d a clk)) → one ≡ asks id x ∷ [] →
@@ -207,9 +207,9 @@ module _ (stack : List LayerTree) (plans : List Plan) (c : Course) (b : Begun) w
         gained = gains_then b.around.output a.output a'.output _ _ _ so.gained gained written;
         faults = faults ∙ so.faults;
         sends = sends ∙ so.sends ∙ ap (λ ls. count_on b.around.sends (length ls)) (sym lost);
-        told = subst (Tells (Goes stack plans w (so.done ++ one) so.failed) b.around.told) (sym told)
-            (tells_as b.around.told a.told so.told (λ n n' goes. subst (λ f. Goes stack plans w (so.done ++ one) f n n') (append-nil so.failed)
-            (goes_append stack plans w so.done one so.failed [] n n' n' so.each goes refl)));
+        told = subst (Tells (Goes b.mode stack plans w (so.done ++ one) so.failed) b.around.told) (sym told)
+            (tells_as b.around.told a.told so.told (λ n n' goes. subst (λ f. Goes b.mode stack plans w (so.done ++ one) f n n') (append-nil so.failed)
+            (goes_append b.mode stack plans w so.done one so.failed [] n n' n' so.each goes refl)));
         clock_told = so.clock_told;
       }
 
@@ -225,27 +225,27 @@ module _ (stack : List LayerTree) (plans : List Plan) (c : Course) (b : Begun) w
     last = puts (end_line (length (events_of all))) ∷ []
 
     abbrev front : List Act
-    front = acts_of stack plans b.first so.done so.failed
+    front = acts_of b.mode stack plans b.first so.done so.failed
 
     -- The acts of what is left begin so, where it is told which of their sendings failed, in a number of events.
     pub cut : (flags : List (List Bool)) (done behind_them : List Act) (a' : Around) (e : SinkError) →
-        acts_of stack plans so.world left flags ≡ done ++ behind_them → Stops e done behind_them at.around.output a'.output →
+        acts_of b.mode stack plans so.world left flags ≡ done ++ behind_them → Stops e done behind_them at.around.output a'.output →
         a'.faults ≡ at.around.faults → a'.sends ≡ count_on at.around.sends (length (lost_of stack plans so.world left flags)) →
         Tells (WentOn [] (sends_in done) []) at.around.told a'.told → CutOff stack plans c b e a' at.clock
     cut flags done behind_them a' e are stopped faults sendings told =
         let w = b.first in
         let f = so.failed ++ flags in
-        let acts : acts_of stack plans w all f ≡ front ++ (done ++ behind_them) =
-        acts_append stack plans w so.done left so.failed flags so.each
-        ∙ ap (λ v. front ++ acts_of stack plans v left flags) (sym so.world_is) ∙ ap (λ acts. front ++ acts) are in
+        let acts : acts_of b.mode stack plans w all f ≡ front ++ (done ++ behind_them) =
+        acts_append b.mode stack plans w so.done left so.failed flags so.each
+        ∙ ap (λ v. front ++ acts_of b.mode stack plans v left flags) (sym so.world_is) ∙ ap (λ acts. front ++ acts) are in
         let lost : length (lost_of stack plans w all f)
         ≡ length (lost_of stack plans w so.done so.failed) + length (lost_of stack plans so.world left flags) =
         ap length (lost_append stack plans w so.done left so.failed flags so.each
         ∙ ap (λ v. lost_of stack plans w so.done so.failed ++ lost_of stack plans v left flags) (sym so.world_is))
         ∙ length-append (lost_of stack plans w so.done so.failed) (lost_of stack plans so.world left flags) in
-        let gained = subst (Gains b.around.output at.around.output) (sym (acts_lines_are stack plans w so.done so.failed)) so.gained in
-        let handed : sends_in (front ++ done) ≡ sends_of stack plans w so.done ++ sends_in done =
-        sends_append front done ∙ ap (λ hs. hs ++ sends_in done) (acts_sends_are stack plans w so.done so.failed) in record {
+        let gained = subst (Gains b.around.output at.around.output) (sym (acts_lines_are b.mode stack plans w so.done so.failed)) so.gained in
+        let handed : sends_in (front ++ done) ≡ sends_of b.mode stack plans w so.done ++ sends_in done =
+        sends_append front done ∙ ap (λ hs. hs ++ sends_in done) (acts_sends_are b.mode stack plans w so.done so.failed) in record {
           clock = so.clock;
           heard = so.heard;
           failed = f;
@@ -265,12 +265,12 @@ module _ (stack : List LayerTree) (plans : List Plan) (c : Course) (b : Begun) w
               ∙ sym (count_on_add b.around.sends (length (lost_of stack plans w so.done so.failed)) (length (lost_of stack plans so.world left flags)))
               ∙ ap (count_on b.around.sends) (sym lost);
           told = tells_then b.around.told at.around.told a'.told so.told told (λ n n' n'' goes some. record {
-            listened = some.listened ∙ append-nil n'.listened ∙ goes_listened stack plans w so.done so.failed n n' goes ∙ sym (append-nil n.listened);
+            listened = some.listened ∙ append-nil n'.listened ∙ goes_listened b.mode stack plans w so.done so.failed n n' goes ∙ sym (append-nil n.listened);
             some = record {
-              handed = some.some.handed ∙ ap (λ h. h ++ map sent_as (sends_in done)) (goes_handed stack plans w so.done so.failed n n' goes)
-                  ∙ append_assoc n.handed (map sent_as (sends_of stack plans w so.done)) (map sent_as (sends_in done))
-                  ∙ ap (λ h. n.handed ++ h) (sym (map-append sent_as (sends_of stack plans w so.done) (sends_in done)) ∙ ap (map sent_as) (sym handed));
-              met = some.some.met ∙ append-nil n'.met ∙ goes_met stack plans w so.done so.failed n n' goes ∙ ap (λ hs. n.met ++ map met_as hs) so.asked;
+              handed = some.some.handed ∙ ap (λ h. h ++ map sent_as (sends_in done)) (goes_handed b.mode stack plans w so.done so.failed n n' goes)
+                  ∙ append_assoc n.handed (map sent_as (sends_of b.mode stack plans w so.done)) (map sent_as (sends_in done))
+                  ∙ ap (λ h. n.handed ++ h) (sym (map-append sent_as (sends_of b.mode stack plans w so.done) (sends_in done)) ∙ ap (map sent_as) (sym handed));
+              met = some.some.met ∙ append-nil n'.met ∙ goes_met b.mode stack plans w so.done so.failed n n' goes ∙ ap (λ hs. n.met ++ map met_as hs) so.asked;
             };
           });
           clock_told = so.clock_told;
@@ -279,21 +279,21 @@ module _ (stack : List LayerTree) (plans : List Plan) (c : Course) (b : Begun) w
     -- The same where memory ran out between two things.
     pub cut_none : (a' : Around) → a' ≡ at.around → CutOff stack plans c b sink.Memory a' at.clock
     cut_none a' same = subst (λ a. CutOff stack plans c b sink.Memory a at.clock) (sym same)
-        (cut [] [] (acts_of stack plans so.world left []) at.around sink.Memory refl
-        (memory_stops at.around.output (acts_of stack plans so.world left [])) refl
+        (cut [] [] (acts_of b.mode stack plans so.world left []) at.around sink.Memory refl
+        (memory_stops at.around.output (acts_of b.mode stack plans so.world left [])) refl
         (ap (λ ls. count_on at.around.sends (length ls)) (sym (lost_none stack plans so.world left)))
         (tells_same (WentOn [] [] []) at.around.told asked_nothing))
 
   -- Where an event was broken off.
   pub cut_so : (m k borne : ℕ) (rest : List ℕ → List Heard → List Doing) (g : Peopled) (d : Desk) (a a' : Around) (clk : Option (List ℕ)) (e : SinkError)
       (event : ScriptEvent) → Within c b m k borne → (so : So m k (λ later more. does event ∷ rest later more) borne (now g d a clk)) →
-      Breaks (event_acts stack plans so.world event) e a a' → CutOff stack plans c b e a' clk
+      Breaks (event_acts b.mode stack plans so.world event) e a a' → CutOff stack plans c b e a' clk
   cut_so m k borne rest g d a a' clk e event within so q =
       let behind_it = rest (clock_on c so.clock) (heard_on c so.heard) in
       let on = (happens stack plans so.world event).world in
-      let later = acts_of stack plans on behind_it [] in
-      let few : length q.failed ≤ length (event_sends stack plans so.world event) =
-      (let n = ap (λ acts. length (sends_in acts)) q.are in let i = ap length (event_sends_are stack plans so.world event q.failed) in
+      let later = acts_of b.mode stack plans on behind_it [] in
+      let few : length q.failed ≤ length (event_sends b.mode stack plans so.world event) =
+      (let n = ap (λ acts. length (sends_in acts)) q.are in let i = ap length (event_sends_are b.mode stack plans so.world event q.failed) in
       let s = ap length (sends_append q.done q.rest) in let l = length-append (sends_in q.done) (sends_in q.rest) in
       let x = q.few in omega (arith, n, i, s, l, x)) in
       cut m k borne (λ later more. does event ∷ rest later more) (now g d a clk) within so (q.failed ∷ []) q.done (q.rest ++ later) a' e
@@ -301,7 +301,7 @@ module _ (stack : List LayerTree) (plans : List Plan) (c : Course) (b : Begun) w
       (stops_longer a.output a'.output q.done q.rest later e q.stopped) q.faults
       (q.sendings ∙ ap (count_on a.sends) (sym (ap length (ap (λ ls. event_losses stack plans so.world event q.failed ++ ls)
       (lost_none stack plans on behind_it) ∙ append-nil (event_losses stack plans so.world event q.failed))
-      ∙ event_losses_are stack plans so.world event q.failed few)))
+      ∙ event_losses_are b.mode stack plans so.world event q.failed few)))
       q.told
 
   -- Where the line of a failure that is borne was cut short.
@@ -310,7 +310,7 @@ module _ (stack : List LayerTree) (plans : List Plan) (c : Course) (b : Begun) w
       Wrote (deaf_line id ∷ []) a.output a'.output (Err e) → a'.faults ≡ a.faults → a'.sends ≡ a.sends → a'.told ≡ a.told → CutOff stack plans c b e a' clk
   cut_line m k borne rest id g d a a' clk e within so wrote faults sendings told =
       let behind_it = rest (clock_on c so.clock) (heard_on c so.heard) in
-      let later = acts_of stack plans so.world behind_it [] in
+      let later = acts_of b.mode stack plans so.world behind_it [] in
       cut m k borne (λ later more. bears id ∷ rest later more) (now g d a clk) within so [] [] (puts (deaf_line id) ∷ later) a' e refl
       (line_stops a.output a'.output (deaf_line id) later e wrote) faults
       (sendings ∙ ap (λ ls. count_on a.sends (length ls)) (sym (lost_none stack plans so.world behind_it)))
@@ -320,6 +320,6 @@ module _ (stack : List LayerTree) (plans : List Plan) (c : Course) (b : Begun) w
   pub feeds_so : (m k borne : ℕ) (rest : List ℕ → List Heard → List Doing) (event : ScriptEvent) (g g' : Peopled) (d d' : Desk) (a a' : Around)
       (clk : Option (List ℕ)) (r : Result (Unit {0}) SinkError) → Within c b m k borne →
       (so : So m k (λ later more. does event ∷ rest later more) borne (now g d a clk)) →
-      Feeds stack plans b.members so.world event g' d d' a a' r → Advances stack plans c b m k rest borne (now g' d' a' clk) r
+      Feeds b.mode stack plans b.members so.world event g' d d' a a' r → Advances stack plans c b m k rest borne (now g' d' a' clk) r
   feeds_so m k borne rest event g g' d d' a a' clk (Ok done) within so fed = fed_so m k borne rest event g g' d d' a a' clk so fed
   feeds_so m k borne rest event g g' d d' a a' clk (Err e) within so q = cut_so m k borne rest g d a a' clk e event within so q

@@ -48,7 +48,7 @@ each_any P (y ∷ ys) x any h = go (x == y) refl (λ later. each_any P ys x late
 module _ (stack : List LayerTree) (plans : List Plan) where
   pub again_then : (g g' g'' : Peopled) (d d' d'' : Desk) → RestsAgain stack plans g d g' d' → RestsAgain stack plans g' d' g'' d'' →
       RestsAgain stack plans g d g'' d''
-  again_then g g' g'' d d' d'' first second n w rests = let on = first n w rests in second n on.0 on.1
+  again_then g g' g'' d d' d'' first second mode n w rests = let on = first mode n w rests in second mode n on.0 on.1
 
   each_listens : (n : ℕ) (heard heard' : ℕ → Option ℕ) (ids : List ℕ) → ((m : ℕ) → heard' m ≡ heard m) →
       AllByRecursion (λ id. (id < n) × (heard id ≡ Some n)) ids → AllByRecursion (λ id. (id < n) × (heard' id ≡ Some n)) ids
@@ -59,9 +59,10 @@ module _ (stack : List LayerTree) (plans : List Plan) where
   pub up_on : (g g' : Peopled) (d d' : Desk) (heard heard' : ℕ → Option ℕ) (ids : List ℕ) → IsUp stack plans g d heard ids →
       RestsAgain stack plans g d g' d' → ((m : ℕ) → heard' m ≡ heard m) → IsUp stack plans g' d' heard' ids
   up_on g g' d d' heard heard' ids up again same =
-      let on = again up.members up.world up.rests in record {
+      let on = again up.mode up.members up.world up.rests in record {
         typed = up.typed;
         numbered = up.numbered;
+        mode = up.mode;
         members = up.members;
         world = on.0;
         rests = on.1;
@@ -74,6 +75,7 @@ module _ (stack : List LayerTree) (plans : List Plan) where
   up_at g d heard ids i lt up = record {
     typed = up.typed;
     numbered = up.numbered;
+    mode = up.mode;
     members = up.members;
     world = up.world;
     rests = up.rests;
@@ -85,6 +87,7 @@ module _ (stack : List LayerTree) (plans : List Plan) where
   up_any g d heard ids x any up = record {
     typed = up.typed;
     numbered = up.numbered;
+    mode = up.mode;
     members = up.members;
     world = up.world;
     rests = up.rests;
@@ -108,7 +111,7 @@ module _ (stack : List LayerTree) (plans : List Plan) where
     pub ticked_none : (g : Peopled) (d : Desk) (a : Around) (heard : ℕ → Option ℕ) → Ticked moment me 0 g g d d a a heard heard
     ticked_none g d a heard = record {
       told = λ c b moments answers t left borne clock within so. so;
-      rests = λ n w rests. (w, rests);
+      rests = λ mode n w rests. (w, rests);
       counted = omega arith;
       listening = λ m. refl;
     }

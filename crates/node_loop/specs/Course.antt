@@ -6,6 +6,7 @@ use Rattle.layer_mean.specs.Tree.{LayerTree}
 use Rattle.event_graph.specs.Answer.{stack_tree}
 use Rattle.stack_shapes.specs.Trees.{plans_tree}
 use Rattle.stack_mean.specs.Plan.{Plan}
+use Rattle.job_mean.specs.Job.{Mode}
 use Rattle.script_mean.specs.declared.event.ScriptEvent.{ScriptEvent}
 use Rattle.run_mean.specs.Journal.{Heard, failure}
 use Rattle.run_mean.specs.Report.{end_line}
@@ -26,9 +27,10 @@ use Rattle.node_loop.specs.declared.desk.Desk.{Desk}
 use Rattle.node_loop.specs.declared.error.NodeError.{NodeError}
 use Rattle.node_loop.specs.declared.error.NodeError.TheVariants.{Link, Write, Memory}
 
--- What a node began with: the world of its group, of so many members, how many failures it bears, and what surrounded it when all its members
--- listened.
+-- What a node began with: the mode of its group and its world, of so many members, how many failures it bears, and what surrounded it when all its
+-- members listened.
 pub record Begun : Type 0 where
+  pub mode : Mode
   pub first : World
   pub members : ℕ
   pub patience : ℕ
@@ -61,13 +63,13 @@ pub record SoFar (stack : List LayerTree) (plans : List Plan) (c : Course) (b : 
   pub asked : heard_in done ≡ heard
   pub borne_are : failures heard ≡ borne
   pub world_is : world ≡ behind stack plans b.first done
-  pub rests : Rests stack plans b.members at.group at.desk world
+  pub rests : Rests b.mode stack plans b.members at.group at.desk world
   pub each : length failed ≡ length (events_of done)
   pub counted : at.desk.events ≡ length (events_of done)
   pub gained : Gains b.around.output at.around.output (written_of stack plans b.first done failed)
   pub faults : at.around.faults ≡ count_on b.around.faults borne
   pub sends : at.around.sends ≡ count_on b.around.sends (length (lost_of stack plans b.first done failed))
-  pub told : Tells (Goes stack plans b.first done failed) b.around.told at.around.told
+  pub told : Tells (Goes b.mode stack plans b.first done failed) b.around.told at.around.told
   pub clock_told : Told b.clock at.clock clock
 
 -- So many moments and answers, of which so many are failures, are those of no more than all turns, and all failures are borne.
@@ -90,7 +92,7 @@ pub record CutOff (stack : List LayerTree) (plans : List Plan) (c : Course) (b :
   pub borne : failures heard ≤ b.patience
   pub doings : List Doing
   pub doings_are : doings ≡ doings_of c.plan c.me c.turns b.patience (clock ++ clock_on c clock) (heard ++ heard_on c heard)
-  pub are : acts_of stack plans b.first doings failed ++ puts (end_line (length (events_of doings))) ∷ [] ≡ done ++ rest
+  pub are : acts_of b.mode stack plans b.first doings failed ++ puts (end_line (length (events_of doings))) ∷ [] ≡ done ++ rest
   pub stopped : Stops e done rest b.around.output at.output
   pub faults : at.faults ≡ count_on b.around.faults (failures heard)
   pub sends : at.sends ≡ count_on b.around.sends (length (lost_of stack plans b.first doings failed))

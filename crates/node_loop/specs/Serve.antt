@@ -8,7 +8,6 @@ use Rattle.outside.specs.declared.sink.SinkError.TheVariants as sink
 use Rattle.layer_mean.specs.Tree.{LayerTree}
 use Rattle.script_mean.specs.declared.plan.NodePlan.{NodePlan}
 use Rattle.stack_mean.specs.Plans.{plans_of}
-use Rattle.job_mean.specs.Job.{layered}
 use Rattle.run_mean.specs.Journal.{Heard, failure, Handed, note_lines, node_lines}
 use Rattle.run_mean.specs.World.{World, first_world}
 use Rattle.program_mean.specs.Output.{Surroundings, NodeWords, failed, failures, noted, played, handed_by}
@@ -29,10 +28,6 @@ pub record Task : Type 0 where
   pub stack : List LayerTree
   pub plan : NodePlan
   pub words : NodeWords
-
--- The words of a node that runs layer by layer.
-abbrev pub layered_words : (turns : ℕ) (me : List ℕ) (patience : ℕ) → NodeWords
-layered_words turns me patience = record { turns = turns; me = me; patience = patience; mode = layered }
 
 -- The world in which a node's group begins.
 abbrev pub first_of_plan : List LayerTree → NodePlan → World
@@ -69,7 +64,7 @@ pub record RanOver (task : Task) (s : Surroundings) (n n' : Network) : Type 0 wh
   pub listens : flags_of (length task.words.me) n.listens ≡ replicate (length task.words.me) false
   pub flags : List (List Bool)
   pub lost : s.lost ≡ lost_of task.stack (plans_of task.stack) (first_of_plan task.stack task.plan) (doings_in task s) flags
-  pub goes : Goes task.stack (plans_of task.stack) (first_of_plan task.stack task.plan) (doings_in task s) flags
+  pub goes : Goes task.words.mode task.stack (plans_of task.stack) (first_of_plan task.stack task.plan) (doings_in task s) flags
       (after_listens task.plan.peers task.words.me n) n'
 
 -- What was told of a node's run: its counts of failures, its clock and its network.
@@ -128,7 +123,7 @@ pub record Performed (task : Task) (e : SinkError) (s on : Surroundings) (sent :
   pub lost : s.lost ≡ lost_of task.stack (plans_of task.stack) (first_of_plan task.stack task.plan) (doings_in task on) flags
   pub done : List Act
   pub rest : List Act
-  pub are : acts_of task.stack (plans_of task.stack) (first_of_plan task.stack task.plan) (doings_in task on) flags
+  pub are : acts_of task.words.mode task.stack (plans_of task.stack) (first_of_plan task.stack task.plan) (doings_in task on) flags
       ++ puts (end_line (length (events_of (doings_in task on)))) ∷ [] ≡ done ++ rest
   pub stopped : Stops e done rest a b
   pub sent_are : sent ≡ sends_in done

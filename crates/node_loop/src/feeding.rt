@@ -5,6 +5,7 @@ ghost use Rattle.packet_mean.specs.ChainedState.{IsNumber};
 ghost use Rattle.packet_mean.specs.Spelling.{AreBytes};
 ghost use Rattle.member_laws.specs.Members.{IsGivenEvent};
 ghost use Rattle.script_mean.specs.Event.{member_of};
+ghost use Rattle.job_mean.specs.Job.{Mode};
 ghost use Rattle.run_mean.specs.World.{World};
 ghost use Rattle.outside.specs.Lines.{Wrote};
 ghost use Rattle.outside.specs.Tells.{tells_of};
@@ -78,8 +79,8 @@ pub(crate) fn feed_event<F: Feed, O: Sink, N: Links>(
     requires up { IsUp (stack_in course) (plans_in course) (F.group feed.old) desk.old (N.listening links.old) (member_of event.now ∷ []) }
     requires own { IsOwn event.now }
     requires few { desk.old.events + 1 < 2 ^ 64 }
-    ensures fed { (n : ℕ) (w : World) → Rests (stack_in course.entry) (plans_in course.entry) n (F.group feed.old) desk.old w →
-        Feeds (stack_in course.entry) (plans_in course.entry) n w event.now (F.group feed.new) desk.old desk.new
+    ensures fed { (mode : Mode) (n : ℕ) (w : World) → Rests mode (stack_in course.entry) (plans_in course.entry) n (F.group feed.old) desk.old w →
+        Feeds mode (stack_in course.entry) (plans_in course.entry) n w event.now (F.group feed.new) desk.old desk.new
         (around O.Sink N.Links out.old links.old) (around O.Sink N.Links out.new links.new) result }
     ensures counted { OnOk result (desk.new.events ≡ desk.old.events + 1) }
     ensures listening { (m : ℕ) → N.listening links.new m ≡ N.listening links.old m }

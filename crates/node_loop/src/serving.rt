@@ -2,7 +2,7 @@
 
 ghost use Rattle.std.specs.Prelude.{◌≡◌, ◌<◌, ◌≤◌, ℕ, Some, IfOk, OnOk, length};
 ghost use Rattle.std.specs.List.{AllByRecursion};
-ghost use Rattle.job_mean.specs.Job.{layered};
+ghost use Rattle.program_mean.specs.Headline.{node_words};
 ghost use Rattle.stack_mean.specs.Acceptance.{largest_weight};
 ghost use Rattle.stack_mean.specs.Plans.{plans_of};
 ghost use Rattle.chain_laws.specs.Runs.{TypedStack};
@@ -12,7 +12,7 @@ ghost use Rattle.node_loop.specs.Around.{around};
 ghost use Rattle.node_loop.specs.Course.{Begun, Made, SoFar, course_of, now, plans_in, stack_in};
 ghost use Rattle.node_loop.specs.Feeding.{IsOwn, IsUp};
 ghost use Rattle.node_loop.specs.Listening.{ListensAll};
-ghost use Rattle.node_loop.specs.Serve.{Serves, first_of_plan, layered_words, whereabouts};
+ghost use Rattle.node_loop.specs.Serve.{Serves, first_of_plan, whereabouts};
 ghost use Rattle.group_feed.specs.Standing.{Stands};
 ghost use Rattle.msg_core.specs.View.{most_members};
 
@@ -110,9 +110,9 @@ fn make_turns<F: Feed, O: Sink, N: Links, C: Clock>(
     Ok(())
 }
 
-/// Runs the members `me` of a plan's group, one in layered mode, over links, through so many turns, and puts what they do and what it comes to
-/// line by line: behind `> ` each event, and then the lines of its report. Each packet is handed on just behind its line, in full; a sending that fails is
-/// told by `lost` and the packet's number, and not made again. A receive that fails is told by `deaf` and the member; of these so many
+/// Runs the members `me` of a plan's group, in its mode, over links, through so many turns, and puts what they do and what it comes to line by
+/// line: behind `> ` each event, and then the lines of its report. Each packet is handed on just behind its line, as it is sent; a sending that
+/// fails is told by `lost` and the packet's number, and not made again. A receive that fails is told by `deaf` and the member; of these so many
 /// are borne as `patience` says.
 ///
 /// Each turn is a tick of the clock's moment at each own member, one receive of each, whose datagram is an event of that member, and then the
@@ -128,7 +128,6 @@ pub fn serve<F: Feed, O: Sink, N: Links, C: Clock>(
 ) -> Result<(), NodeError>
     requires typed { TypedStack (stack_in course) }
     requires plans { plans_in course ≡ plans_of (stack_in course) }
-    requires mode { (F.group feed.old).mode ≡ layered }
     requires stack { (F.group feed.old).stack ≡ stack_in course }
     requires group_plans { (F.group feed.old).plans ≡ plans_in course }
     requires group { Stands (F.group feed.old) (first_of_plan (stack_in course) course.plan.now) }
@@ -140,7 +139,7 @@ pub fn serve<F: Feed, O: Sink, N: Links, C: Clock>(
     ensures { Serves (record {
       stack = stack_in course.entry;
       plan = course.entry.plan.now;
-      words = layered_words course.entry.turns course.entry.me.now patience;
+      words = node_words course.entry.turns course.entry.me.now patience (F.group feed.old).mode;
     })
         (whereabouts (around O.Sink N.Links out.old links.old) (C.told clock.old))
         (whereabouts (around O.Sink N.Links out.new links.new) (C.told clock.new)) result }
