@@ -14,7 +14,7 @@ use Rattle.bypass_laws.proofs.Making.{simplest_are_of_stack}
 use Rattle.job_ends.specs.Comes.{Around, Comes, Writes}
 use Rattle.job_ends.proofs.Comes.{written}
 use Rattle.file_jobs.specs.Stack.{IsStack}
-use Rattle.bypass_jobs.proofs.Sound.{means_sound}
+use Rattle.file_jobs.proofs.Sound.{means_sound}
 
 -- The text of simplest bypasses over a stack's own plans is what is printed of it.
 pub printed_is : (stack : List LayerTree) (plans : List Plan) (b : Bypasses) → plans ≡ plans_of stack → b ≡ bypasses_of simplest stack →

@@ -1,4 +1,4 @@
 pub mod Texts
 pub mod Stops
 pub mod SecondStops
-pub mod Typed
+pub mod Sound

@@ -58,7 +58,7 @@ pub record Nothing (a : Around) : Type 0 where
   pub untouched : a.output_after ≡ a.output
   pub unread : a.reads_after ≡ a.reads
 
--- How words end that are no job, or one that isn't built: they are refused, or memory ran out.
+-- How words end that are no job: they are refused, or memory ran out.
 abbrev pub NoJob : Around → Ended → Type 0
 NoJob a words_refused = Nothing a
 NoJob a no_memory = Nothing a

@@ -9,7 +9,7 @@ pub enum Ending {
     Done,
     /// The whole output was written, and it is a breach of a law.
     Breached,
-    /// The words are no job, or one that isn't built.
+    /// The words are no job.
     Words,
     /// The stack file is refused.
     File(FileError),

@@ -9,10 +9,10 @@ use Rattle.file_mean.specs.Stack.{stack_of}
 use Rattle.stack_mean.specs.Acceptance.{Refusal, accepted}
 use Rattle.event_graph.proofs.Judged.{accepted_is}
 use Rattle.file_laws.specs.Named.{NamedStack}
-use Rattle.file_laws.proofs.Texts.{texts_are_named}
+use Rattle.file_laws.proofs.Texts.{texts_are_named, texts_are_typed}
 use Rattle.bypass_laws.specs.Making.{IsSound}
 use Rattle.program_mean.specs.Judged.{Means, judged_by, said_accepted}
-use Rattle.file_jobs.proofs.Typed.{means_typed}
+use Rattle.chain_laws.specs.Runs.{TypedStack}
 
 -- a stack that is said was accepted
 said_is : (r : Result (List LayerTree) Refusal) (t : List LayerTree) → said_accepted r ≡ Ok t → r ≡ Ok t
@@ -31,7 +31,7 @@ means_sound text stack m =
     let own = accepted_is (stack_of m.file) (ap is_ok judged.1) in
     let both : ◌≡◌ {A = Result (List LayerTree) Refusal} (Ok (stack_of m.file)) (Ok stack) = sym own ∙ judged.1 in
     let same : stack_of m.file ≡ stack = cc both in record {
-      typed = means_typed text stack m;
+      typed = subst TypedStack same (texts_are_typed text m.file m.is_file judged.0);
       named = subst NamedStack same (texts_are_named text m.file m.is_file judged.0);
       accepts = subst (λ s. accepted s ≡ Ok s) same own;
     }
