@@ -41,14 +41,23 @@ counted_event mode stack plans w event old new did before after h is = record {
 }
 
 module _ (mode : Mode) (stack : List LayerTree) (plans : List Plan) (s : Script) where
-  pub counted_more : (k : ℕ) (event : ScriptEvent) (r next : Run) (before after : Counts) → Counted mode stack plans s k r before →
+  more : (k : ℕ) (event : ScriptEvent) (r next : Run) (before after : Counts) → Counted mode stack plans s k r before →
       Keeps mode stack plans r next →
       IsCounted mode stack plans (stands_at stack plans s k) event next before after → k < length s.events → event ≡ get_or s.events k event →
       Counted mode stack plans s (k + 1) next after
-  counted_more k event r next before after held kept c lt is = record {
+  more k event r next before after held kept c lt is = record {
     stands = stands_next mode stack plans s k event r next held.stands kept c.world lt is;
     counts_are = c.counts (front stack plans s k) held.counts_are ∙ ap (counts_of mode stack plans) (sym (front_more stack plans s k event lt is));
   }
+
+  pub counted_more : (k : ℕ) (event : ScriptEvent) (r next : Run) (before after : Counts) → Counted mode stack plans s k r before →
+      Keeps r.world.mode stack plans r next →
+      IsCounted r.world.mode stack plans (stands_at stack plans s k) event next before after → k < length s.events → event ≡ get_or s.events k event →
+      Counted mode stack plans s (k + 1) next after
+  counted_more k event r next before after held kept c =
+      let is = held.stands.ready.mode_is in
+      more k event r next before after held (subst (λ x. Keeps x stack plans r next) is kept)
+      (subst (λ x. IsCounted x stack plans (stands_at stack plans s k) event next before after) is c)
 
   -- as many events are counted as were played
   pub events_counted : (k : ℕ) (r : Run) (counts : Counts) → Counted mode stack plans s k r counts → k ≤ length s.events → counts.events ≡ k
@@ -94,8 +103,8 @@ module _ (mode : Mode) (stack : List LayerTree) (plans : List Plan) (w : Workloa
       one_of_them = let of_member : member_of event < w.members = rw held.course at next.of_member in
           subst (λ n. member_of event < n) (sym held.counted.stands.count) of_member
 
-      pub next_counted : (r' : Run) (after : Counts) → Keeps mode stack plans r r' →
-          IsCounted mode stack plans (stands_at stack plans (script_for w) k) event r' counts after → CountedSoFar mode stack plans w (k + 1) r' after behind
+      pub next_counted : (r' : Run) (after : Counts) → Keeps r.world.mode stack plans r r' →
+          IsCounted r.world.mode stack plans (stands_at stack plans (script_for w) k) event r' counts after → CountedSoFar mode stack plans w (k + 1) r' after behind
       next_counted r' after kept c = record {
         counted = counted_more mode stack plans (script_for w) k event r r' counts after held.counted kept c
             (slice_get_within (script_for w).events k event next_is) (sym (get_or_from_slice_get (script_for w).events k event event next_is));

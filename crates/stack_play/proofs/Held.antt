@@ -42,6 +42,16 @@ pub record Held (mode : Mode) (stack : List LayerTree) (plans : List Plan) (wire
   pub visits : r.visits ≡ sum_by (visits_at mode stack plans) (front stack plans s k)
   pub gained : Gains a b (flat_map (lines_at mode stack plans wire) (front stack plans s k))
 
+-- A run that is ready, or where its group begins, in a mode is so in its own.
+pub ready_as_it_is : (mode : Mode) (stack : List LayerTree) (plans : List Plan) (r : Run) → IsReady mode stack plans r →
+    IsReady r.world.mode stack plans r
+ready_as_it_is mode stack plans r ready = subst (λ x. IsReady x stack plans r) (sym ready.mode_is) ready
+
+pub first_as_it_is : (mode : Mode) (stack : List LayerTree) (plans : List Plan) (group stamp members : ℕ) (r : Run) →
+    IsAtFirst mode stack plans group stamp members r → IsAtFirst r.world.mode stack plans group stamp members r
+first_as_it_is mode stack plans group stamp members r first =
+    subst (λ x. IsAtFirst x stack plans group stamp members r) (sym first.ready.mode_is) first
+
 module _ (mode : Mode) (stack : List LayerTree) (plans : List Plan) (s : Script) where
   pub stands_first : (r : Run) → IsAtFirst mode stack plans s.group s.stamp s.members r → StandsAt mode stack plans s 0 r
   stands_first r first = let none = first.visits in record {
@@ -80,20 +90,33 @@ module _ (mode : Mode) (stack : List LayerTree) (plans : List Plan) (s : Script)
       visits_more = ap (sum_by (visits_at mode stack plans)) (front_more stack plans s k event lt is)
           ∙ fold-append (λ n x. n + visits_at mode stack plans x) 0 (front stack plans s k) (m ∷ [])
 
-      pub held_more : (r next : Run) (a b c : Tells) → Held mode stack plans wire s k r a b → Keeps mode stack plans r next →
+      more : (r next : Run) (a b c : Tells) → Held mode stack plans wire s k r a b → Keeps mode stack plans r next →
           IsTold mode stack plans wire (stands_at stack plans s k) event r next b c → Held mode stack plans wire s (k + 1) next a c
-      held_more r next a b c held kept told = record {
+      more r next a b c held kept told = record {
         stands = stands_next k event r next held.stands kept told.world lt is;
         visits = told.visits ∙ ap (λ n. n + visits_at mode stack plans m) held.visits ∙ sym visits_more;
         gained = gains_then a b c _ _ _ held.gained told.gained lines_more;
       }
 
-      pub held_cut : (r : Run) (a b c : Tells) (e : SinkError) → Held mode stack plans wire s k r a b → Wrote (lines_at mode stack plans wire m) b c (Err e) →
+      pub held_more : (r next : Run) (a b c : Tells) → Held mode stack plans wire s k r a b → Keeps r.world.mode stack plans r next →
+          IsTold r.world.mode stack plans wire (stands_at stack plans s k) event r next b c → Held mode stack plans wire s (k + 1) next a c
+      held_more r next a b c held kept told =
+          let is = held.stands.ready.mode_is in
+          more r next a b c held (subst (λ x. Keeps x stack plans r next) is kept)
+          (subst (λ x. IsTold x stack plans wire (stands_at stack plans s k) event r next b c) is told)
+
+      cut_at : (r : Run) (a b c : Tells) (e : SinkError) → Held mode stack plans wire s k r a b → Wrote (lines_at mode stack plans wire m) b c (Err e) →
           Wrote (flat_map (lines_at mode stack plans wire) (run_of stack plans s)) a c (Err e)
-      held_cut r a b c e held cut = cut_short a b c _ _ _ (flat_map (lines_at mode stack plans wire) (rest stack plans s k event lt is)) e held.gained cut
+      cut_at r a b c e held cut = cut_short a b c _ _ _ (flat_map (lines_at mode stack plans wire) (rest stack plans s k event lt is)) e held.gained cut
           (ap (flat_map (lines_at mode stack plans wire)) (whole stack plans s k event lt is)
           ∙ flat_map-append (lines_at mode stack plans wire) (front stack plans s (k + 1)) (rest stack plans s k event lt is)
           ∙ ap (λ ls. ls ++ flat_map (lines_at mode stack plans wire) (rest stack plans s k event lt is)) lines_more)
+
+      pub held_cut : (r : Run) (a b c : Tells) (e : SinkError) → Held mode stack plans wire s k r a b →
+          Wrote (lines_at r.world.mode stack plans wire m) b c (Err e) →
+          Wrote (flat_map (lines_at mode stack plans wire) (run_of stack plans s)) a c (Err e)
+      held_cut r a b c e held cut =
+          cut_at r a b c e held (subst (λ x. Wrote (lines_at x stack plans wire m) b c (Err e)) held.stands.ready.mode_is cut)
 
     pub held_last : (k : ℕ) (r : Run) (a b : Tells) → Held mode stack plans wire s k r a b → length s.events ≤ k →
         Gains a b (flat_map (lines_at mode stack plans wire) (run_of stack plans s)) × (r.visits ≡ sum_by (visits_at mode stack plans) (run_of stack plans s))

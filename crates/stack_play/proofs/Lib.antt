@@ -3,3 +3,4 @@ pub mod Events
 pub mod Held
 pub mod Counted
 pub mod Outputs
+pub mod Running

@@ -1,7 +1,12 @@
 -- What opening a run comes to.
-use Rattle.std.specs.Prelude.{◌≡◌, ℕ, ◌<◌, List, Result, Ok, Err}
+use Rattle.std.specs.Prelude.{◌≡◌, ℕ, ◌<◌, List, Option, option_map, Result, Ok, Err}
 use Rattle.std.specs.Rc.{rc_value}
-use Rattle.job_mean.specs.Job.{layered}
+use Rattle.bypass_codes.specs.Codes.{CodesTree}
+use Rattle.bypass_laws.specs.Making.{IsSound}
+use Rattle.bypass_member.specs.Modes.{mode_with}
+use Rattle.bypass_member.specs.Serving.{AreCodes}
+use Rattle.chain_laws.specs.Runs.{TypedStack}
+use Rattle.job_mean.specs.Job.{Mode, layered, bypass}
 use Rattle.layer_mean.specs.Tree.{LayerTree}
 use Rattle.stack_mean.specs.Acceptance.{rows_of, largest_weight, most_rows}
 use Rattle.stack_mean.specs.Plans.{plans_of}
@@ -17,26 +22,37 @@ use Rattle.stack_play.specs.declared.error.PlayError.TheVariants.{TooManyRows, F
 use Rattle.stack_play.specs.declared.run.Opened.{Opened}
 use Rattle.stack_play.specs.declared.run.Parts.{Parts}
 
--- What a run over a stack is made of: its plans, what is predicted of its entries, the numbers of their first plans, room for its outputs, and
--- a maker that made no layer yet.
-pub record IsPrepared (stack : List LayerTree) (p : Parts) : Type 0 where
+-- A stack can be run in a mode: it is typed, and where its bypasses are to be made it is sound.
+abbrev pub CanRun : Mode → List LayerTree → Type 0
+CanRun layered stack = TypedStack stack
+CanRun bypass stack = IsSound stack
+
+-- The code by which members run a stack in a mode: that of its bypasses, or none.
+pub record CodesFor (mode : Mode) (stack : List LayerTree) (codes : Option CodesTree) : Type 0 where
+  pub mode_is : mode_with codes ≡ mode
+  pub codes_are : AreCodes stack codes
+
+-- What a run over a stack in a mode is made of: its plans, what is predicted of its entries, the numbers of their first plans, the code by which
+-- its members run, room for its outputs, and a maker that made no layer yet.
+pub record IsPrepared (mode : Mode) (stack : List LayerTree) (p : Parts) : Type 0 where
   pub maker : making p.maker ≡ record { stack = stack; made = 0 }
   pub stack_is : stack_tree p.stack ≡ stack
   pub plans_are : plans_tree (rc_value p.plans) ≡ plans_of stack
   pub entries_are : rc_value p.entries ≡ short_shapes stack (plans_of stack)
   pub starts_are : starts_tree p.starts ≡ starts_of stack
+  pub codes_are : CodesFor mode stack (option_map rc_value p.codes)
   pub places : p.outputs.places ≡ largest_weight stack
 
--- A run where a group begins in layered mode, whose members have room.
-pub record IsOpen (stack : List LayerTree) (group stamp members : ℕ) (o : Opened) : Type 0 where
+-- A run where a group begins in a mode, whose members have room.
+pub record IsOpen (mode : Mode) (stack : List LayerTree) (group stamp members : ℕ) (o : Opened) : Type 0 where
   pub stack_is : stack_tree o.stack ≡ stack
   pub plans_are : plans_tree (rc_value o.plans) ≡ plans_of stack
-  pub first : IsAtFirst layered stack (plans_of stack) group stamp members o.run
+  pub first : IsAtFirst mode stack (plans_of stack) group stamp members o.run
   pub room : HasRoom stack members
 
 -- It is open, or its members would keep too many rows, or memory ran out.
-abbrev pub Opens : List LayerTree → (group stamp members : ℕ) → Result Opened PlayError → Type 0
-Opens stack group stamp members (Ok o) = IsOpen stack group stamp members o
-Opens stack group stamp members (Err TooManyRows) = most_rows < rows_of stack members
-Opens stack group stamp members (Err Memory) = Unit {0}
-Opens stack group stamp members (Err Failed) = ⊥
+abbrev pub Opens : Mode → List LayerTree → (group stamp members : ℕ) → Result Opened PlayError → Type 0
+Opens mode stack group stamp members (Ok o) = IsOpen mode stack group stamp members o
+Opens mode stack group stamp members (Err TooManyRows) = most_rows < rows_of stack members
+Opens mode stack group stamp members (Err Memory) = Unit {0}
+Opens mode stack group stamp members (Err Failed) = ⊥

@@ -2,12 +2,11 @@
 
 ghost use Rattle.std.specs.Prelude.{◌≡◌, ◌^◌, ◌<◌, ◌≤◌, OnOk, length};
 ghost use Rattle.msg_core.specs.View.{most_members};
-ghost use Rattle.chain_laws.specs.Runs.{TypedStack};
 ghost use Rattle.script_mean.specs.Event.{member_of};
 ghost use Rattle.stack_mean.specs.Plans.{plans_of};
 ghost use Rattle.event_graph.specs.Answer.{stack_tree};
 ghost use Rattle.stack_shapes.specs.Trees.{plans_tree};
-ghost use Rattle.job_mean.specs.Job.{layered};
+ghost use Rattle.job_text.specs.Shown.{shown_mode};
 ghost use Rattle.script_text.specs.Course.{script_for};
 ghost use Rattle.run_mean.specs.Report.{run_of};
 ghost use Rattle.run_mean.specs.Tally.{tally};
@@ -16,6 +15,7 @@ ghost use Rattle.outside.specs.Lines.{Wrote};
 ghost use Rattle.outside.specs.Tells.{tells_of};
 ghost use Rattle.report_text.specs.Counts.{counts_of, no_counts};
 ghost use Rattle.group_feed.specs.Standing.{Stands};
+ghost use Rattle.stack_play.specs.Opening.{CanRun};
 ghost use Rattle.stack_play.specs.Play.{Plays, most_events};
 ghost use Rattle.stack_play.specs.Turns.{CountsEvent, IsAtFirst, IsReady, Keeps};
 
@@ -24,6 +24,7 @@ use crate::opening::open;
 use crate::run::{Opened, Run};
 use event_graph::Stack;
 use group_feed::Feed;
+use job_text::Mode;
 use msg_core::Memory;
 use outside::{Sink, SinkError};
 use report_text::{Tally, write_tally};
@@ -39,21 +40,22 @@ const GROUP: u32 = 1;
 /// The stamp of its group.
 const STAMP: u32 = 1;
 
-/// Plays the script of a workload of 1 to 32 members in the world in which it begins, layer by layer, and writes how many lines of each kind
-/// its report has. Each event is made as it is played.
+/// Plays the script of a workload of 1 to 32 members in the world in which it begins, in a mode, and writes how many lines of each kind its report
+/// has. Each event is made as it is played.
 pub fn play_load<O: Sink>(
     alloc: Global,
+    mode: Mode,
     stack: Stack,
     workload: Workload,
     out: &mut O,
 ) -> Result<(), PlayError>
-    requires typed { TypedStack (stack_tree stack) }
+    requires runs { CanRun (shown_mode mode) (stack_tree stack) }
     requires members { (1 ≤ workload.members) × (workload.members ≤ most_members) }
     requires few { workload.events ≤ most_events }
-    ensures { Plays (stack_tree stack) workload.members (tally (stack_tree stack) (plans_of (stack_tree stack)) layered (script_for workload))
+    ensures { Plays (stack_tree stack) workload.members (tally (stack_tree stack) (plans_of (stack_tree stack)) (shown_mode mode) (script_for workload))
         (tells_of O.Sink out.old) (tells_of O.Sink out.new) result }
 {
-    match open(alloc, stack, GROUP, STAMP, workload.members) {
+    match open(alloc, mode, stack, GROUP, STAMP, workload.members) {
         Ok(opened) => {
             let Opened {
                 stack,
@@ -77,10 +79,10 @@ fn write_counts<O: Sink>(
     workload: Workload,
     out: &mut O,
 ) -> Result<(), SinkError>
-    requires first { IsAtFirst layered (stack_tree stack.now) (plans_tree plans.now) GROUP STAMP workload.members run.old }
+    requires first { IsAtFirst run.old.world.mode (stack_tree stack.now) (plans_tree plans.now) GROUP STAMP workload.members run.old }
     requires members { (1 ≤ workload.members) × (workload.members ≤ most_members) }
     requires few { workload.events ≤ most_events }
-    ensures { Wrote (tally (stack_tree stack.now) (plans_tree plans.now) layered (script_for workload))
+    ensures { Wrote (tally (stack_tree stack.now) (plans_tree plans.now) run.old.world.mode (script_for workload))
         (tells_of O.Sink out.old) (tells_of O.Sink out.new) result }
 {
     let mut counts = Tally::new();
@@ -99,12 +101,12 @@ fn count_events(
     workload: Workload,
     counts: &mut Tally,
 ) -> Result<(), Memory>
-    requires first { IsAtFirst layered (stack_tree stack.now) (plans_tree plans.now) GROUP STAMP workload.members run.old }
+    requires first { IsAtFirst run.old.world.mode (stack_tree stack.now) (plans_tree plans.now) GROUP STAMP workload.members run.old }
     requires members { (1 ≤ workload.members) × (workload.members ≤ most_members) }
     requires few { workload.events ≤ most_events }
     requires nothing { counts.old ≡ no_counts }
     ensures { OnOk result (counts.new
-        ≡ counts_of layered (stack_tree stack.now) (plans_tree plans.now) (run_of (stack_tree stack.now) (plans_tree plans.now) (script_for workload))) }
+        ≡ counts_of run.old.world.mode (stack_tree stack.now) (plans_tree plans.now) (run_of (stack_tree stack.now) (plans_tree plans.now) (script_for workload))) }
 {
     let mut script = Generation::begin(alloc, workload)?;
     for _ in 0..workload.events {
@@ -123,13 +125,13 @@ fn count_event(
     event: &ScriptEvent,
     counts: &mut Tally,
 ) -> Result<(), Memory>
-    requires ready { IsReady layered (stack_tree stack.now) (plans_tree _plans.now) run.old }
+    requires ready { IsReady run.old.world.mode (stack_tree stack.now) (plans_tree _plans.now) run.old }
     requires member { member_of event.now < length run.old.world.members }
     requires visits { run.old.visits ≤ 2 ^ 63 }
     requires events { counts.old.events < 2 ^ 32 }
-    ensures kept { Keeps layered (stack_tree stack.now) (plans_tree _plans.now) run.old run.new }
+    ensures kept { Keeps run.old.world.mode (stack_tree stack.now) (plans_tree _plans.now) run.old run.new }
     ensures counted { (w : mean.World) → Stands run.old.world w →
-        CountsEvent layered (stack_tree stack.now) (plans_tree _plans.now) w event.now run.new counts.old counts.new result }
+        CountsEvent run.old.world.mode (stack_tree stack.now) (plans_tree _plans.now) w event.now run.new counts.old counts.new result }
 {
     let did = run.world.feed(event, &mut run.outputs, &mut run.visits)?;
     an_accepted_stack_is_light(stack);

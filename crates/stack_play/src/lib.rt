@@ -1,6 +1,7 @@
-//! A script played over a stack, layer by layer: its report on a sink, or in place of it how many lines of each kind it has.
+//! A script played over a stack, layer by layer or by bypasses: its report on a sink, or in place of it how many lines of each kind it has.
 #![tactic(auto)]
 
+mod codes;
 mod counting;
 mod error;
 mod opening;

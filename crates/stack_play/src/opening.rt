@@ -1,16 +1,18 @@
 //! Runs, and what they begin with.
 
 ghost use Rattle.std.specs.Prelude.{◌≤◌, IfOk};
-ghost use Rattle.chain_laws.specs.Runs.{TypedStack};
 ghost use Rattle.event_graph.specs.Answer.{stack_tree};
-ghost use Rattle.stack_play.specs.Opening.{IsPrepared, Opens};
+ghost use Rattle.job_text.specs.Shown.{shown_mode};
+ghost use Rattle.stack_play.specs.Opening.{CanRun, IsPrepared, Opens};
 ghost use Rattle.msg_core.specs.View.{most_members};
 
+use crate::codes::codes_for;
 use crate::error::PlayError;
 use crate::run::{Opened, Parts, Run};
 use bypass_member::{OpenError, Opening};
 use event_graph::Stack;
 use file_layer::Maker;
+use job_text::Mode;
 use msg_core::Memory;
 use report_lines::NamedStack;
 use report_text::Pen;
@@ -20,17 +22,20 @@ use std::rc::Rc;
 use step_outputs::Outputs;
 use world_core::World;
 
-/// What a run over a stack is made of.
-fn prepare(alloc: Global, stack: Stack) -> Result<Parts, Memory>
-    ensures { IfOk result (IsPrepared (stack_tree stack)) }
+/// What a run over a stack in a mode is made of.
+fn prepare(alloc: Global, mode: Mode, stack: Stack) -> Result<Parts, Memory>
+    requires { CanRun (shown_mode mode) (stack_tree stack) }
+    ensures { IfOk result (IsPrepared (shown_mode mode) (stack_tree stack)) }
 {
     let (maker, stack) = Maker::of(alloc, stack)?;
     let stack = NamedStack::of(alloc, stack)?;
+    let shapes = StackShapes::of(alloc, stack.stack())?;
+    let codes = codes_for(alloc, mode, stack.stack(), &shapes)?;
     let StackShapes {
         plans,
         starts,
         entries,
-    } = StackShapes::of(alloc, stack.stack())?;
+    } = shapes;
     let outputs = Outputs::fresh(alloc, stack.stack())?;
     Ok(Parts {
         maker,
@@ -38,21 +43,23 @@ fn prepare(alloc: Global, stack: Stack) -> Result<Parts, Memory>
         plans: Rc::new(alloc, plans)?,
         entries: Rc::new(alloc, entries)?,
         starts,
+        codes,
         outputs,
     })
 }
 
-/// Opens a group of so many members over a stack, which run it layer by layer.
+/// Opens a group of so many members over a stack, which run it in a mode.
 pub fn open(
     alloc: Global,
+    mode: Mode,
     stack: Stack,
     group: u32,
     stamp: u32,
     members: u8,
 ) -> Result<Opened, PlayError>
-    requires typed { TypedStack (stack_tree stack) }
+    requires runs { CanRun (shown_mode mode) (stack_tree stack) }
     requires members { (1 ≤ members) × (members ≤ most_members) }
-    ensures { Opens (stack_tree stack) group stamp members result }
+    ensures { Opens (shown_mode mode) (stack_tree stack) group stamp members result }
 {
     let Parts {
         mut maker,
@@ -60,8 +67,9 @@ pub fn open(
         plans,
         entries,
         starts,
+        codes,
         outputs,
-    } = match prepare(alloc, stack) {
+    } = match prepare(alloc, mode, stack) {
         Ok(parts) => parts,
         Err(Memory) => return Err(PlayError::Memory),
     };
@@ -70,7 +78,7 @@ pub fn open(
         plans: &plans,
         entries: &entries,
         starts,
-        codes: None,
+        codes: codes.as_ref(),
         group,
         stamp,
     };

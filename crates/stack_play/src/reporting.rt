@@ -2,18 +2,18 @@
 
 ghost use Rattle.std.specs.Prelude.{◌≡◌, ◌^◌, ◌<◌, ◌≤◌, ◌∷◌, OnOk, length};
 ghost use Rattle.std.specs.List.{flat_map, sum_by};
-ghost use Rattle.chain_laws.specs.Runs.{TypedStack};
 ghost use Rattle.script_mean.specs.Event.{member_of};
 ghost use Rattle.script_mean.specs.Script.{IsRunnable};
 ghost use Rattle.stack_mean.specs.Plans.{plans_of};
 ghost use Rattle.event_graph.specs.Answer.{stack_tree};
 ghost use Rattle.stack_shapes.specs.Trees.{plans_tree};
-ghost use Rattle.job_mean.specs.Job.{layered};
+ghost use Rattle.job_text.specs.Shown.{shown_mode};
 ghost use Rattle.run_mean.specs.Report.{end_line, mode_if, moment_lines, output_in, run_of, visits_of};
 ghost use Rattle.run_mean.specs.World as mean;
 ghost use Rattle.outside.specs.Lines.{Wrote};
 ghost use Rattle.outside.specs.Tells.{tells_of};
 ghost use Rattle.group_feed.specs.Standing.{Stands};
+ghost use Rattle.stack_play.specs.Opening.{CanRun};
 ghost use Rattle.stack_play.specs.Play.{Plays, most_events};
 ghost use Rattle.stack_play.specs.Turns.{IsAtFirst, IsReady, Keeps, SomeWorld, TellsEvent, visits_if};
 
@@ -22,6 +22,7 @@ use crate::opening::open;
 use crate::run::{Opened, Run};
 use event_graph::Stack;
 use group_feed::Feed;
+use job_text::Mode;
 use msg_core::Memory;
 use outside::{Sink, SinkError};
 use report_text::{Manner, Outcome, Pen, write_end, write_event, write_visits};
@@ -29,23 +30,31 @@ use script_mean::{Script, ScriptEvent, member_of};
 use std::alloc::Global;
 use step_outputs::an_accepted_stack_is_light;
 
-/// Plays a script in the world in which it begins, layer by layer, and writes its report: with the packets' bytes and the number of visits
-/// where these are wanted.
+/// Plays a script in the world in which it begins, in a mode, and writes its report: with the packets' bytes and the number of visits where these
+/// are wanted.
 pub fn play<O: Sink>(
     alloc: Global,
+    mode: Mode,
     stack: Stack,
     script: &Script,
     wire: bool,
     count: bool,
     out: &mut O,
 ) -> Result<(), PlayError>
-    requires typed { TypedStack (stack_tree stack) }
+    requires runs_stack { CanRun (shown_mode mode) (stack_tree stack) }
     requires runs { IsRunnable script.now }
     requires few { length script.now.events ≤ most_events }
-    ensures { Plays (stack_tree stack) script.now.members (output_in (stack_tree stack) (plans_of (stack_tree stack)) script.now layered wire count)
+    ensures { Plays (stack_tree stack) script.now.members (output_in (stack_tree stack) (plans_of (stack_tree stack)) script.now (shown_mode mode) wire count)
         (tells_of O.Sink out.old) (tells_of O.Sink out.new) result }
 {
-    match open(alloc, stack, script.group, script.stamp, script.members) {
+    match open(
+        alloc,
+        mode,
+        stack,
+        script.group,
+        script.stamp,
+        script.members,
+    ) {
         Ok(opened) => {
             let Opened {
                 stack,
@@ -73,11 +82,11 @@ fn write_report<O: Sink>(
     count: bool,
     out: &mut O,
 ) -> Result<(), SinkError>
-    requires first { IsAtFirst layered (stack_tree manner.stack.now) (plans_tree manner.plans.now) script.now.group script.now.stamp
+    requires first { IsAtFirst run.old.world.mode (stack_tree manner.stack.now) (plans_tree manner.plans.now) script.now.group script.now.stamp
         script.now.members run.old }
     requires runs { IsRunnable script.now }
     requires few { length script.now.events ≤ most_events }
-    ensures { Wrote (output_in (stack_tree manner.entry.stack.now) (plans_tree manner.entry.plans.now) script.now layered manner.entry.wire count)
+    ensures { Wrote (output_in (stack_tree manner.entry.stack.now) (plans_tree manner.entry.plans.now) script.now run.old.world.mode manner.entry.wire count)
         (tells_of O.Sink out.old) (tells_of O.Sink out.new) result }
 {
     write_events(manner, run, script, out)?;
@@ -112,16 +121,16 @@ fn write_events<O: Sink>(
     script: &Script,
     out: &mut O,
 ) -> Result<(), SinkError>
-    requires first { IsAtFirst layered (stack_tree manner.stack.now) (plans_tree manner.plans.now) script.now.group script.now.stamp
+    requires first { IsAtFirst run.old.world.mode (stack_tree manner.stack.now) (plans_tree manner.plans.now) script.now.group script.now.stamp
         script.now.members run.old }
     requires runs { IsRunnable script.now }
     requires few { length script.now.events ≤ most_events }
     ensures lines { Wrote
-        (flat_map (moment_lines (stack_tree manner.entry.stack.now) (plans_tree manner.entry.plans.now) (mode_if manner.entry.wire layered))
+        (flat_map (moment_lines (stack_tree manner.entry.stack.now) (plans_tree manner.entry.plans.now) (mode_if manner.entry.wire run.old.world.mode))
         (run_of (stack_tree manner.entry.stack.now) (plans_tree manner.entry.plans.now) script.now))
         (tells_of O.Sink out.old) (tells_of O.Sink out.new) result }
     ensures visits { OnOk result (run.new.visits
-        ≡ sum_by (visits_of layered (stack_tree manner.entry.stack.now) (plans_tree manner.entry.plans.now))
+        ≡ sum_by (visits_of run.old.world.mode (stack_tree manner.entry.stack.now) (plans_tree manner.entry.plans.now))
         (run_of (stack_tree manner.entry.stack.now) (plans_tree manner.entry.plans.now) script.now)) }
 {
     for event in script.events.slice() {
@@ -137,13 +146,13 @@ fn play_event<O: Sink>(
     event: &ScriptEvent,
     out: &mut O,
 ) -> Result<(), SinkError>
-    requires ready { IsReady layered (stack_tree manner.stack.now) (plans_tree manner.plans.now) run.old }
+    requires ready { IsReady run.old.world.mode (stack_tree manner.stack.now) (plans_tree manner.plans.now) run.old }
     requires world { SomeWorld run.old }
     requires member { member_of event.now < length run.old.world.members }
     requires visits { run.old.visits ≤ 2 ^ 63 }
-    ensures kept { Keeps layered (stack_tree manner.entry.stack.now) (plans_tree manner.entry.plans.now) run.old run.new }
+    ensures kept { Keeps run.old.world.mode (stack_tree manner.entry.stack.now) (plans_tree manner.entry.plans.now) run.old run.new }
     ensures told { (w : mean.World) → Stands run.old.world w →
-        TellsEvent layered (stack_tree manner.entry.stack.now) (plans_tree manner.entry.plans.now) manner.entry.wire w event.now run.old run.new
+        TellsEvent run.old.world.mode (stack_tree manner.entry.stack.now) (plans_tree manner.entry.plans.now) manner.entry.wire w event.now run.old run.new
         (tells_of O.Sink out.old) (tells_of O.Sink out.new) result }
 {
     let first = run.world.next_number();

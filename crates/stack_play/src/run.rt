@@ -1,5 +1,6 @@
 //! A group at work, with what its steps and lines are made in.
 
+use bypass_codes::Codes;
 use file_layer::Maker;
 use report_lines::NamedStack;
 use report_text::Pen;
@@ -16,6 +17,8 @@ pub(crate) struct Parts {
     pub plans: Rc<Plans>,
     pub entries: Rc<EntryShapes>,
     pub starts: PlanStarts,
+    /// The code of its bypasses, if members run by it.
+    pub codes: Option<Rc<Codes>>,
     pub outputs: Outputs,
 }
 

@@ -1,33 +1,36 @@
 use Rattle.std.proofs.Common.{arith}
-use Rattle.job_mean.specs.Job.{layered}
 use Rattle.event_graph.specs.Answer.{stack_tree}
 use Rattle.stack_shapes.specs.Trees.{plans_tree}
+use Rattle.stack_play.proofs.Held.{ready_as_it_is}
 use Rattle.stack_play.proofs.Counted.{first_counted, next_counted, few_counted, all_counted, one_of_them}
 use Rattle.stack_play.proofs.counting.count_events.Goals as goal
 
 pub loop-init : goal.loop-init
-loop-init c = first_counted layered (stack_tree c.args.stack.now) (plans_tree c.args.plans.now) c.args.workload c.args.run.now c.args.counts.now c.in_ok-script.script
+loop-init c = first_counted c.args.run.now.world.mode (stack_tree c.args.stack.now) (plans_tree c.args.plans.now) c.args.workload c.args.run.now c.args.counts.now c.in_ok-script.script
     c.requires.first c.requires.nothing c.in_ok-script.ensures
 
 pub next-requires : goal.next-requires
 next-requires c = record { more = rw c.loop.invariant.course c.loop-test.true }
 
+pub count_event-requires-clause-ready : goal.count_event-requires-clause-ready
+count_event-requires-clause-ready c = ready_as_it_is _ _ _ c.loop.run c.loop.invariant.counted.stands.ready
+
 pub count_event-requires-clause-member : goal.count_event-requires-clause-member
-count_event-requires-clause-member c = one_of_them layered (stack_tree c.args.stack.now) (plans_tree c.args.plans.now) c.args.workload c.loop.counter c.loop.run
+count_event-requires-clause-member c = one_of_them c.args.run.now.world.mode (stack_tree c.args.stack.now) (plans_tree c.args.plans.now) c.args.workload c.loop.counter c.loop.run
     c.loop.counts c.loop.script c.loop.invariant c.next.new.self c.in_ok-event.event c.in_ok-event.ensures
 
 pub count_event-requires-clause-events : goal.count_event-requires-clause-events
 count_event-requires-clause-events c =
-    let counted = few_counted layered (stack_tree c.args.stack.now) (plans_tree c.args.plans.now) c.args.workload c.loop.counter c.loop.run
+    let counted = few_counted c.args.run.now.world.mode (stack_tree c.args.stack.now) (plans_tree c.args.plans.now) c.args.workload c.loop.counter c.loop.run
     c.loop.counts c.loop.script c.loop.invariant c.loop-test.true in
     let few = c.requires.few in
     omega (arith, counted, few, c.loop-test.true)
 
 pub loop-preserved : goal.loop-preserved
-loop-preserved c = rw c.take_back.ensures (next_counted layered (stack_tree c.args.stack.now) (plans_tree c.args.plans.now) c.args.workload c.loop.counter
+loop-preserved c = rw c.take_back.ensures (next_counted c.args.run.now.world.mode (stack_tree c.args.stack.now) (plans_tree c.args.plans.now) c.args.workload c.loop.counter
     c.loop.run c.loop.counts c.loop.script c.loop.invariant c.next.new.self c.in_ok-event.event c.in_ok-event.ensures _ _
     c.in_ok-count_event.ensures.kept (c.in_ok-count_event.ensures.counted _ c.loop.invariant.counted.stands.world))
 
 pub returns : goal.returns
-returns c = all_counted layered (stack_tree c.args.stack.now) (plans_tree c.args.plans.now) c.args.workload c.loop.counter c.loop.run c.loop.counts c.loop.script
+returns c = all_counted c.args.run.now.world.mode (stack_tree c.args.stack.now) (plans_tree c.args.plans.now) c.args.workload c.loop.counter c.loop.run c.loop.counts c.loop.script
     c.loop.invariant c.loop-test.false

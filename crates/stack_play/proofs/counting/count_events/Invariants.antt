@@ -1,8 +1,7 @@
-use Rattle.job_mean.specs.Job.{layered}
 use Rattle.event_graph.specs.Answer.{stack_tree}
 use Rattle.stack_shapes.specs.Trees.{plans_tree}
 use Rattle.stack_play.proofs.Counted.{CountedSoFar}
 use Rattle.stack_play.proofs.counting.count_events.Given as goal
 
 abbrev pub invariant-loop : goal.invariant-loop
-invariant-loop l = CountedSoFar layered (stack_tree l.stack) (plans_tree l.plans) l.fn.workload l.counter l.run l.counts l.script
+invariant-loop l = CountedSoFar l.initial.run.world.mode (stack_tree l.stack) (plans_tree l.plans) l.fn.workload l.counter l.run l.counts l.script

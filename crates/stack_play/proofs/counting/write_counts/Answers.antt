@@ -1,5 +1,4 @@
 use Rattle.std.proofs.Common.{ap, ◌∙◌}
-use Rattle.job_mean.specs.Job.{layered}
 use Rattle.event_graph.specs.Answer.{stack_tree}
 use Rattle.stack_shapes.specs.Trees.{plans_tree}
 use Rattle.report_text.proofs.Gained.{counted_tally}
@@ -10,4 +9,4 @@ use Rattle.stack_play.proofs.counting.write_counts.Goals as goal
 
 pub returns-in-Ok : goal.returns-in-Ok
 returns-in-Ok g c = wrote_as _ _ _ _ c.write_tally.result
-    (ap tally_lines c.in-Ok.ensures ∙ counted_tally layered (stack_tree c.args.stack.now) (plans_tree c.args.plans.now) (script_for c.args.workload)) c.write_tally.ensures
+    (ap tally_lines c.in-Ok.ensures ∙ counted_tally c.args.run.now.world.mode (stack_tree c.args.stack.now) (plans_tree c.args.plans.now) (script_for c.args.workload)) c.write_tally.ensures

@@ -1,6 +1,5 @@
 use Rattle.std.proofs.Common.{ℕ, ◌∷◌, length, ap, sym, subst}
 use Rattle.std.proofs.lemmas.Result.{err_from_is_err_and}
-use Rattle.job_mean.specs.Job.{layered}
 use Rattle.event_graph.specs.Answer.{stack_tree}
 use Rattle.stack_shapes.specs.Trees.{plans_tree}
 use Rattle.run_mean.specs.Report.{end_line}
@@ -15,7 +14,7 @@ pub returns-in_err-write_events : goal.returns-in_err-write_events
 returns-in_err-write_events g c =
     let p = err_from_is_err_and c.from_residual.result c.from_residual.ensures.1 in
     rw (p.1, p.2) (part_of _ _ _ _ _ _
-    (output_is layered (stack_tree c.args.manner.stack.now) (plans_tree c.args.manner.plans.now) c.args.script.now c.args.manner.wire c.args.count)
+    (output_is c.args.run.now.world.mode (stack_tree c.args.manner.stack.now) (plans_tree c.args.manner.plans.now) c.args.script.now c.args.manner.wire c.args.count)
     c.in_err-write_events.ensures.lines)
 
 pub returns : goal.returns
@@ -25,7 +24,7 @@ returns g c =
     let events = ap length c.slice.ensures in
     let visits = c.in_ok-write_events.ensures.visits in
     wrote_as _ _ _ _ c.write_last.result
-    (sym (output_is layered (stack_tree c.args.manner.stack.now) (plans_tree c.args.manner.plans.now) c.args.script.now c.args.manner.wire c.args.count))
+    (sym (output_is c.args.run.now.world.mode (stack_tree c.args.manner.stack.now) (plans_tree c.args.manner.plans.now) c.args.script.now c.args.manner.wire c.args.count))
     (wrote_both _ _ _ _ _ c.write_last.result c.in_ok-write_events.ensures.lines
     (subst {A = ℕ × ℕ} (λ x. Wrote (end_line x.0 ∷ visits_if c.args.count x.1) before after c.write_last.result) (λ k. (events k, visits k))
     c.write_last.ensures))
