@@ -11,7 +11,7 @@ use Rattle.script_mean.specs.Script.{IsRunnable, script_of}
 use Rattle.script_mean.specs.declared.script.Script.{Script}
 use Rattle.stack_mean.specs.Acceptance.{rows_of, most_rows}
 use Rattle.stack_mean.specs.Plans.{plans_of}
-use Rattle.job_mean.specs.Job.{layered, replay, load}
+use Rattle.job_mean.specs.Job.{Mode, replay, load}
 use Rattle.job_mean.specs.Status.{done, write_failed, no_memory, too_many_rows}
 use Rattle.run_mean.specs.Report.{output_in}
 use Rattle.run_mean.specs.Tally.{tally}
@@ -33,12 +33,12 @@ too_many stack members more = go (nat_le (rows_of stack members) most_rows) refl
   go true is = let few = leb-true (rows_of stack members) most_rows is in absurd (omega (arith, few, more))
   go false is = refl
 
-module _ (name script : Text) (wire count : Bool) (a : Around) (between : ℕ) (stack : List LayerTree) (s : Script)
+module _ (name script : Text) (mode : Mode) (wire count : Bool) (a : Around) (between : ℕ) (stack : List LayerTree) (s : Script)
     (f : IsStack name a.told a.reads between stack) (t : IsSpelled script_of IsRunnable script (option_map after_read a.told) between a.reads_after s) where
   abbrev lines : List (List ℕ)
-  lines = output_in stack (plans_of stack) s layered wire count
+  lines = output_in stack (plans_of stack) s mode wire count
 
-  abbrev good : HasRoom stack s.members → Good (replay name script layered wire count) a.told
+  abbrev good : HasRoom stack s.members → Good (replay name script mode wire count) a.told
   good room = record {
     file = f.file;
     second = t.text;
@@ -49,7 +49,7 @@ module _ (name script : Text) (wire count : Bool) (a : Around) (between : ℕ) (
   }
 
   pub replay_comes : (run : Result (Unit {0}) PlayError) → Plays stack s.members lines a.output a.output_after run →
-      Comes (replay name script layered wire count) a (end_of run)
+      Comes (replay name script mode wire count) a (end_of run)
   unfolding output_in
   replay_comes (Ok run) p = written _ a (good p.0) done (t.sound ∙ f.sound) (refl, p.1)
   replay_comes (Err TooManyRows) p = record {
@@ -69,12 +69,12 @@ module _ (name script : Text) (wire count : Bool) (a : Around) (between : ℕ) (
   replay_comes (Err Memory) (inl same) = inl same
   replay_comes (Err Memory) (inr p) = written _ a (good p.0) no_memory (t.sound ∙ f.sound) p.1
 
-module _ (name : Text) (seed events members : ℕ) (raw : Bool) (a : Around) (stack : List LayerTree)
+module _ (name : Text) (seed events members : ℕ) (raw : Bool) (mode : Mode) (a : Around) (stack : List LayerTree)
     (f : IsStack name a.told a.reads a.reads_after stack) where
   abbrev load_lines : List (List ℕ)
-  load_lines = tally stack (plans_of stack) layered (generate seed events members raw)
+  load_lines = tally stack (plans_of stack) mode (generate seed events members raw)
 
-  abbrev load_good : HasRoom stack members → Good (load name seed events members raw layered) a.told
+  abbrev load_good : HasRoom stack members → Good (load name seed events members raw mode) a.told
   load_good room = record {
     file = f.file;
     second = [];
@@ -85,7 +85,7 @@ module _ (name : Text) (seed events members : ℕ) (raw : Bool) (a : Around) (st
   }
 
   pub load_comes : (run : Result (Unit {0}) PlayError) → Plays stack members load_lines a.output a.output_after run →
-      Comes (load name seed events members raw layered) a (end_of run)
+      Comes (load name seed events members raw mode) a (end_of run)
   load_comes (Ok run) p = written _ a (load_good p.0) done f.sound (refl, p.1)
   load_comes (Err TooManyRows) p = record {
     cause = record {

@@ -1,10 +1,10 @@
-//! The job `load`, layer by layer.
+//! The job `load`.
 
 ghost use Rattle.std.specs.Prelude.{◌≡◌};
 ghost use Rattle.job_mean.specs.Job as job;
-ghost use Rattle.job_mean.specs.Job.{layered};
 ghost use Rattle.job_ends.specs.Comes.{Comes, around};
 ghost use Rattle.job_ends.specs.Shown.{shown};
+ghost use Rattle.job_text.specs.Shown.{shown_mode};
 
 use crate::played::ending;
 use file_jobs::fetch_stack;
@@ -27,18 +27,18 @@ fn workload_of(load: &Load<'_>) -> Workload
     }
 }
 
-/// Replays a script that is made from a seed, layer by layer, and writes how many lines of each kind its report has.
+/// Replays a script that is made from a seed, and writes how many lines of each kind its report has.
 pub fn load_stack<S: Shelf, O: Sink>(
     alloc: Global,
     load: &Load<'_>,
     shelf: &mut S,
     out: &mut O,
 ) -> Ending
-    ensures { Comes (job.load load.now.file.now load.now.seed load.now.events load.now.members load.now.raw layered)
+    ensures { Comes (job.load load.now.file.now load.now.seed load.now.events load.now.members load.now.raw (shown_mode load.now.mode))
         (around S.Shelf O.Sink shelf.old shelf.new out.old out.new) (shown result) }
 {
     match fetch_stack(alloc, load.file, shelf) {
-        Ok(stack) => ending(play_load(alloc, stack, workload_of(load), out)),
+        Ok(stack) => ending(play_load(alloc, load.mode, stack, workload_of(load), out)),
         Err(ending) => ending,
     }
 }

@@ -1,13 +1,15 @@
 use Rattle.std.proofs.Common.{arith, sym, subst}
 use Rattle.event_graph.specs.Answer.{stack_tree}
-use Rattle.job_mean.specs.Job.{layered, load}
+use Rattle.job_mean.specs.Job.{load}
 use Rattle.job_ends.specs.Comes.{around, Comes}
 use Rattle.play_jobs.proofs.Plays.{load_comes}
-use Rattle.file_jobs.proofs.Typed.{means_typed}
+use Rattle.file_jobs.proofs.Sound.{means_sound}
+use Rattle.job_text.specs.Shown.{shown_mode}
+use Rattle.stack_play.proofs.Running.{can_run}
 use Rattle.play_jobs.proofs.load.load_stack.Goals as goal
 
-pub play_load-requires-clause-typed : goal.play_load-requires-clause-typed
-play_load-requires-clause-typed g c = means_typed _ _ c.in-Ok.ensures.read.means
+pub play_load-requires-clause-runs : goal.play_load-requires-clause-runs
+play_load-requires-clause-runs g c = can_run (shown_mode c.args.load.now.mode) _ (means_sound _ _ c.in-Ok.ensures.read.means)
 
 pub play_load-requires-clause-members : goal.play_load-requires-clause-members
 play_load-requires-clause-members g c = rw c.workload_of.ensures c.args.load.now.within
@@ -19,6 +21,6 @@ pub returns-in-Ok : goal.returns-in-Ok
 returns-in-Ok g c =
     let job = c.args.load.now in
     let a = around g.S.Shelf g.O.Sink c.args.shelf.now c.fetch_stack.new.shelf c.args.out.now c.play_load.new.out in
-    subst (Comes (load job.file.now job.seed job.events job.members job.raw layered) a) (sym c.ending.ensures)
-    (load_comes job.file.now job.seed job.events job.members job.raw a (stack_tree c.in-Ok.stack) c.in-Ok.ensures.read c.play_load.result
+    subst (Comes (load job.file.now job.seed job.events job.members job.raw (shown_mode job.mode)) a) (sym c.ending.ensures)
+    (load_comes job.file.now job.seed job.events job.members job.raw (shown_mode job.mode) a (stack_tree c.in-Ok.stack) c.in-Ok.ensures.read c.play_load.result
     (rw c.workload_of.ensures at c.play_load.ensures))
