@@ -103,7 +103,7 @@ module _ (w : Node) (told : Option Shelved) (good : Good w told) (a b : Whereabo
       let stack = good.node.stack in
       let failed : failures_in (flags_of (length d.s.heard) n.recvs) ≡ failures d.s.heard =
       subst (λ heard. failures_in (flags_of (length heard) n.recvs) ≡ failures heard) all
-      (receives_failed stack (plans_of stack) (first_of_plan stack good.node.plan) (doings_of good.node.plan w.me w.turns w.patience d.s.clock d.s.heard)
+      (receives_failed w.mode stack (plans_of stack) (first_of_plan stack good.node.plan) (doings_of good.node.plan w.me w.turns w.patience d.s.clock d.s.heard)
       r.flags (after_listens good.node.plan.peers w.me n) n' r.goes) in
       let fewer = fewer_fail (length d.s.heard) (w.turns * length w.me) n.recvs (within_all (length d.s.clock) w.turns (length w.me) (length d.s.heard) d.turns d.within) in
       let many = too_many_failed in

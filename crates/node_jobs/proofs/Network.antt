@@ -8,10 +8,11 @@ use Rattle.layer_mean.specs.Tree.{LayerTree}
 use Rattle.script_mean.specs.declared.plan.NodePlan.{NodePlan}
 use Rattle.stack_mean.specs.Plan.{Plan}
 use Rattle.stack_mean.specs.Plans.{plans_of}
-use Rattle.job_mean.specs.Job.{layered}
+use Rattle.job_mean.specs.Job.{Mode}
 use Rattle.run_mean.specs.Journal.{Heard, datagram, silence, failure, Handed, handed, journal}
 use Rattle.run_mean.specs.Report.{moments}
 use Rattle.run_mean.specs.World.{World, happens}
+use Rattle.program_mean.specs.Headline.{node_words}
 use Rattle.program_mean.specs.Output.{Surroundings, failures, is_failure, handed_by}
 use Rattle.node_laws.specs.Doings.{Doing, does, asks, bears, doings_of, heard_in}
 use Rattle.node_laws.specs.Losses.{event_sends, failures_in, sends_of}
@@ -21,37 +22,37 @@ use Rattle.node_laws.proofs.Losses.{sends_are_handed}
 use Rattle.node_laws.proofs.Parts.{goes_handed, goes_met}
 use Rattle.node_laws.proofs.Sendings.{tells_as}
 use Rattle.node_loop.specs.Passing.{HandedSome}
-use Rattle.node_loop.specs.Serve.{Task, RanOver, after_listens, first_of_plan, flags_of, layered_words}
+use Rattle.node_loop.specs.Serve.{Task, RanOver, after_listens, first_of_plan, flags_of}
 use Rattle.node_laws.specs.Network.{sent_as}
 
 -- what was handed on is what the journal hands on
-sends_are : (stack : List LayerTree) (plan : NodePlan) (turns : ℕ) (me : List ℕ) (patience : ℕ) (s : Surroundings) →
-    sends_of stack (plans_of stack) (first_of_plan stack plan) (doings_of plan me turns patience s.clock s.heard)
-    ≡ handed_by stack plan (layered_words turns me patience) s
-sends_are stack plan turns me patience s =
-    sym (sends_are_handed stack (plans_of stack) (first_of_plan stack plan) (doings_of plan me turns patience s.clock s.heard))
-    ∙ ap (λ notes. handed layered stack (plans_of stack) (moments stack (plans_of stack) (first_of_plan stack plan) (journal notes)))
+sends_are : (stack : List LayerTree) (plan : NodePlan) (turns : ℕ) (me : List ℕ) (patience : ℕ) (mode : Mode) (s : Surroundings) →
+    sends_of mode stack (plans_of stack) (first_of_plan stack plan) (doings_of plan me turns patience s.clock s.heard)
+    ≡ handed_by stack plan (node_words turns me patience mode) s
+sends_are stack plan turns me patience mode s =
+    sym (sends_are_handed mode stack (plans_of stack) (first_of_plan stack plan) (doings_of plan me turns patience s.clock s.heard))
+    ∙ ap (λ notes. handed mode stack (plans_of stack) (moments stack (plans_of stack) (first_of_plan stack plan) (journal notes)))
     (notes_are_of_doings plan me 0 turns patience s.clock s.heard)
 
-module _ (stack : List LayerTree) (plan : NodePlan) (turns : ℕ) (me : List ℕ) (patience : ℕ) (s : Surroundings)
+module _ (stack : List LayerTree) (plan : NodePlan) (turns : ℕ) (me : List ℕ) (patience : ℕ) (mode : Mode) (s : Surroundings)
     (all : heard_in (doings_of plan me turns patience s.clock s.heard) ≡ s.heard) where
   abbrev task : Task
-  task = record { stack = stack; plan = plan; words = layered_words turns me patience }
+  task = record { stack = stack; plan = plan; words = node_words turns me patience mode }
 
   abbrev doings : List Doing
   doings = doings_of plan me turns patience s.clock s.heard
 
   -- a network that tells was handed this, and told this
-  ran_over : (n n' : Network) → RanOver task s n n' → HandedSome (handed_by stack plan (layered_words turns me patience) s) s.heard n n'
+  ran_over : (n n' : Network) → RanOver task s n n' → HandedSome (handed_by stack plan (node_words turns me patience mode) s) s.heard n n'
   ran_over n n' r = record {
-    handed = goes_handed stack (plans_of stack) (first_of_plan stack plan) doings r.flags (after_listens plan.peers me n) n' r.goes
-        ∙ ap (λ h. n.handed ++ map sent_as h) (sends_are stack plan turns me patience s);
-    met = goes_met stack (plans_of stack) (first_of_plan stack plan) doings r.flags (after_listens plan.peers me n) n' r.goes
+    handed = goes_handed mode stack (plans_of stack) (first_of_plan stack plan) doings r.flags (after_listens plan.peers me n) n' r.goes
+        ∙ ap (λ h. n.handed ++ map sent_as h) (sends_are stack plan turns me patience mode s);
+    met = goes_met mode stack (plans_of stack) (first_of_plan stack plan) doings r.flags (after_listens plan.peers me n) n' r.goes
         ∙ ap (λ h. n.met ++ map met_as h) all;
   }
 
   pub handed_on : (told told_after : Option Network) → Tells (RanOver task s) told told_after →
-      Tells (HandedSome (handed_by stack plan (layered_words turns me patience) s) s.heard) told told_after
+      Tells (HandedSome (handed_by stack plan (node_words turns me patience mode) s) s.heard) told told_after
   handed_on told told_after t = tells_as told told_after t ran_over
 
 -- a network behind listens or behind nothing
@@ -83,18 +84,18 @@ receives_behind : (sends : List Handed) (n : Network) → (after_sends sends n).
 receives_behind [] n = refl
 receives_behind (h ∷ sends) n = receives_behind sends _
 
-pub receives_failed : (stack : List LayerTree) (plans : List Plan) (w : World) (doings : List Doing) (flags : List (List Bool)) (n n' : Network) →
-    Goes stack plans w doings flags n n' → failures_in (flags_of (length (heard_in doings)) n.recvs) ≡ failures (heard_in doings)
-receives_failed stack plans w [] flags n n' g = refl
-receives_failed stack plans w (does event ∷ doings) flags n n' g =
-    ap (λ recvs. failures_in (flags_of (length (heard_in doings)) recvs)) (sym (receives_behind (event_sends stack plans w event) n))
-    ∙ receives_failed stack plans (happens stack plans w event).world doings (drop 1 flags) (after_sends (event_sends stack plans w event) n) n' g.1
-receives_failed stack plans w (asks id heard ∷ doings) flags n n' g =
+pub receives_failed : (mode : Mode) (stack : List LayerTree) (plans : List Plan) (w : World) (doings : List Doing) (flags : List (List Bool)) (n n' : Network) →
+    Goes mode stack plans w doings flags n n' → failures_in (flags_of (length (heard_in doings)) n.recvs) ≡ failures (heard_in doings)
+receives_failed mode stack plans w [] flags n n' g = refl
+receives_failed mode stack plans w (does event ∷ doings) flags n n' g =
+    ap (λ recvs. failures_in (flags_of (length (heard_in doings)) recvs)) (sym (receives_behind (event_sends mode stack plans w event) n))
+    ∙ receives_failed mode stack plans (happens stack plans w event).world doings (drop 1 flags) (after_sends (event_sends mode stack plans w event) n) n' g.1
+receives_failed mode stack plans w (asks id heard ∷ doings) flags n n' g =
     flags_more (length (heard_in doings)) n.recvs
     ∙ ap (λ b. cond b 1 0 + failures_in (flags_of (length (heard_in doings)) (drop 1 n.recvs))) (flag_is id n heard g.0)
-    ∙ ap (λ k. cond (is_failure heard) 1 0 + k) (receives_failed stack plans w doings flags (after_recv id n) n' g.1)
+    ∙ ap (λ k. cond (is_failure heard) 1 0 + k) (receives_failed mode stack plans w doings flags (after_recv id n) n' g.1)
     ∙ sym (sum_by-cons (λ x. cond (is_failure x) 1 0) heard (heard_in doings))
-receives_failed stack plans w (bears id ∷ doings) flags n n' g = receives_failed stack plans w doings flags n n' g
+receives_failed mode stack plans w (bears id ∷ doings) flags n n' g = receives_failed mode stack plans w doings flags n n' g
 
 -- fewer calls fail no more
 pub fewer_fail : (few more : ℕ) (flags : List Bool) → few ≤ more → failures_in (flags_of few flags) ≤ failures_in (flags_of more flags)

@@ -8,13 +8,15 @@ use Rattle.outside.specs.Shelf.{after_read}
 use Rattle.layer_mean.specs.Tree.{LayerTree}
 use Rattle.script_mean.specs.NodePlan.{node_plan}
 use Rattle.script_mean.specs.declared.plan.NodePlan.{NodePlan}
+use Rattle.job_mean.specs.Job.{Mode}
 use Rattle.job_mean.specs.Status.{Ended, done, second_refused, write_failed, link_failed, no_memory}
+use Rattle.program_mean.specs.Headline.{node_words}
 use Rattle.program_mean.specs.Output.{HasRoom}
 use Rattle.program_mean.specs.Second.{after_plan}
 use Rattle.job_ends.specs.Comes.{Around}
 use Rattle.file_jobs.specs.Stack.{IsStack}
 use Rattle.file_jobs.specs.Second.{IsSpelled}
-use Rattle.node_loop.specs.Serve.{Whereabouts, Serves, layered_words}
+use Rattle.node_loop.specs.Serve.{Whereabouts, Serves}
 use Rattle.node_loop.specs.declared.error.NodeError.{NodeError}
 use Rattle.node_loop.specs.declared.error.NodeError.TheVariants.{Link, Write, Memory}
 use Rattle.node_jobs.specs.Comes.{Node, Beyond, Good, Untouched, NodeComes, before, behind}
@@ -32,12 +34,12 @@ ready stack plan w count all ids ids_are b is own room = record {
 
 -- a run of its group
 pub run : (stack : List LayerTree) (plan : NodePlan) (w : Node) → IsReady stack plan w.me → (other : List LayerTree) → other ≡ stack →
-    (me : List ℕ) → me ≡ w.me → (a b : Whereabouts) (r : Result (Unit {0}) NodeError) (end : Ended) → end ≡ end_of r →
-    Serves (record { stack = other; plan = plan; words = layered_words w.turns me w.patience }) a b r → RunsPlan stack plan w a b end
-run stack plan w is_ready other stack_is me me_is a b r end end_is s = subst (RunsPlan stack plan w a b) (sym end_is) (ended r
-    (subst {A = List LayerTree × List ℕ} (λ x. Serves (record { stack = x.0; plan = plan; words = layered_words w.turns x.1 w.patience }) a b r)
-    (λ k. (stack_is k, me_is k)) s)) where
-      ended : (r : Result (Unit {0}) NodeError) → Serves (record { stack = stack; plan = plan; words = layered_words w.turns w.me w.patience }) a b r →
+    (me : List ℕ) → me ≡ w.me → (mode : Mode) → mode ≡ w.mode → (a b : Whereabouts) (r : Result (Unit {0}) NodeError) (end : Ended) → end ≡ end_of r →
+    Serves (record { stack = other; plan = plan; words = node_words w.turns me w.patience mode }) a b r → RunsPlan stack plan w a b end
+run stack plan w is_ready other stack_is me me_is mode mode_is a b r end end_is s = subst (RunsPlan stack plan w a b) (sym end_is) (ended r
+    (subst {A = List LayerTree × List ℕ × Mode} (λ x. Serves (record { stack = x.0; plan = plan; words = node_words w.turns x.1 w.patience x.2 }) a b r)
+    (λ k. (stack_is k, me_is k, mode_is k)) s)) where
+      ended : (r : Result (Unit {0}) NodeError) → Serves (record { stack = stack; plan = plan; words = node_words w.turns w.me w.patience w.mode }) a b r →
           RunsPlan stack plan w a b (end_of r)
       ended (Ok served) s = record { ready = is_ready; served = s }
       ended (Err Link) s = record { ready = is_ready; served = s }

@@ -8,7 +8,7 @@ use Rattle.outside.specs.Count.{last_count}
 use Rattle.outside.specs.declared.sink.SinkError.{SinkError}
 use Rattle.outside.specs.declared.sink.SinkError.TheVariants as sink
 use Rattle.stack_mean.specs.Plans.{plans_of}
-use Rattle.job_mean.specs.Job.{Job, job_of_words, layered}
+use Rattle.job_mean.specs.Job.{Job, job_of_words}
 use Rattle.job_mean.specs.Status.{FileFault, SecondFault, Ended, done, file_refused, second_refused, read_failed, write_failed, link_failed, no_memory}
 use Rattle.run_mean.specs.Journal.{Handed, note_lines, node_lines}
 use Rattle.bypass_laws.specs.Printed.{synth_text}
@@ -79,7 +79,7 @@ module _ (words : List Text) (w : Node) (a : Around) (n : Beyond) (is : job_of_w
 
   module _ (r : Ran w a n MadeAllTurns) where
     abbrev words_are : NodeWords
-    words_are = node_words w.turns w.me w.patience layered
+    words_are = node_words w.turns w.me w.patience w.mode
 
     abbrev lines : List (List ℕ)
     lines = node_lines r.good.node.stack (plans_of r.good.node.stack) (failed r.served.s) (noted r.good.node.plan words_are r.served.s)
@@ -97,7 +97,7 @@ module _ (words : List Text) (w : Node) (a : Around) (n : Beyond) (is : job_of_w
       surroundings = r.served.s;
       sent = sent;
       clock = r.served.told.clock;
-      network = handed_on r.good.node.stack r.good.node.plan w.turns w.me w.patience r.served.s
+      network = handed_on r.good.node.stack r.good.node.plan w.turns w.me w.patience w.mode r.served.s
           (hears_all r.good.node.plan w.me 0 w.turns w.patience r.served.s.clock r.served.s.heard r.served.moments r.served.answers r.served.borne)
           n.told n.told_after r.served.told.network;
       lost = r.served.told.sends;
@@ -146,7 +146,7 @@ module _ (words : List Text) (w : Node) (a : Around) (n : Beyond) (is : job_of_w
   -- more receives failed than are borne
   module _ (r : Ran w a n WentDeaf) where
     abbrev deaf_words : NodeWords
-    deaf_words = node_words w.turns w.me w.patience layered
+    deaf_words = node_words w.turns w.me w.patience w.mode
 
     abbrev deaf_lines : List (List ℕ)
     deaf_lines = note_lines r.good.node.stack (plans_of r.good.node.stack) (failed r.served.s) (noted r.good.node.plan deaf_words r.served.s)
@@ -169,7 +169,7 @@ module _ (words : List Text) (w : Node) (a : Around) (n : Beyond) (is : job_of_w
       surroundings = r.served.s;
       sent = deaf_sent;
       clock = r.served.told.clock;
-      network = handed_on r.good.node.stack r.good.node.plan w.turns w.me w.patience r.served.s deaf_hears n.told n.told_after r.served.told.network;
+      network = handed_on r.good.node.stack r.good.node.plan w.turns w.me w.patience w.mode r.served.s deaf_hears n.told n.told_after r.served.told.network;
       lost = r.served.told.sends;
       written = concat deaf_lines;
       put = r.served.written.gained;
@@ -200,7 +200,7 @@ module _ (words : List Text) (w : Node) (a : Around) (n : Beyond) (is : job_of_w
     on = told_on r.s r.clock_on r.heard_on
 
     abbrev broken_words : NodeWords
-    broken_words = node_words w.turns w.me w.patience layered
+    broken_words = node_words w.turns w.me w.patience w.mode
 
     abbrev broken_lines : List (List ℕ)
     broken_lines = node_lines good.node.stack (plans_of good.node.stack) (failed r.s) (noted good.node.plan broken_words on)

@@ -7,7 +7,7 @@ use Rattle.outside.specs.declared.links.Links as networks
 use Rattle.outside.specs.Shelf.{Shelved}
 use Rattle.outside.specs.declared.sink.SinkError.{SinkError}
 use Rattle.outside.specs.declared.sink.SinkError.TheVariants.{Failed, Memory}
-use Rattle.job_mean.specs.Job.{Job, node, layered}
+use Rattle.job_mean.specs.Job.{Job, Mode, node}
 use Rattle.job_mean.specs.Status.{Ended, done, file_refused, second_refused, read_failed, write_failed, link_failed, no_memory}
 use Rattle.program_mean.specs.Headline.{node_words}
 use Rattle.program_mean.specs.Output.{IsNode}
@@ -52,16 +52,17 @@ pub record Untouched (n : Beyond) : Type 0 where
   pub told : n.told_after ≡ n.told
   pub clock : n.clock_after ≡ n.clock
 
--- The words of a node that runs layer by layer: its files, its turns, its own members, and how many failed receives it bears.
+-- The words of a node: its files, its turns, its own members, how many failed receives it bears, and its mode.
 pub record Node : Type 0 where
   pub file : Text
   pub plan : Text
   pub turns : ℕ
   pub me : List ℕ
   pub patience : ℕ
+  pub mode : Mode
 
 abbrev pub job_of : Node → Job
-job_of w = node w.file w.plan w.turns w.me w.patience layered
+job_of w = node w.file w.plan w.turns w.me w.patience w.mode
 
 -- Its files were read, and are good.
 pub record Good (w : Node) (told : Option Shelved) : Type 0 where
@@ -73,7 +74,7 @@ pub record Good (w : Node) (told : Option Shelved) : Type 0 where
 
 -- What it is to do then, and what surrounds it.
 abbrev pub task_of : (w : Node) (told : Option Shelved) → Good w told → Task
-task_of w told good = record { stack = good.node.stack; plan = good.node.plan; words = node_words w.turns w.me w.patience layered }
+task_of w told good = record { stack = good.node.stack; plan = good.node.plan; words = node_words w.turns w.me w.patience w.mode }
 
 abbrev pub before : Around → Beyond → Whereabouts
 before a n = whereabouts (outside.surrounding a.output n.faults n.sends n.told) n.clock

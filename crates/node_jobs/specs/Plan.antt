@@ -5,8 +5,8 @@ use Rattle.outside.specs.declared.sink.SinkError.TheVariants as sink
 use Rattle.layer_mean.specs.Tree.{LayerTree}
 use Rattle.script_mean.specs.declared.plan.NodePlan.{NodePlan}
 use Rattle.script_text.specs.Plan.{IsRunnable}
-use Rattle.job_mean.specs.Job.{layered}
 use Rattle.job_mean.specs.Status.{Ended, done, second_refused, write_failed, link_failed, no_memory}
+use Rattle.job_text.specs.Shown.{shown_mode}
 use Rattle.job_text.specs.declared.named.Node as given
 use Rattle.program_mean.specs.Headline.{node_words}
 use Rattle.program_mean.specs.Output.{HasRoom}
@@ -20,7 +20,14 @@ use Rattle.node_jobs.specs.Comes.{Node, Lost, Broken}
 
 -- The words of a node's job.
 abbrev pub words_of : given.Node → Node
-words_of n = record { file = n.file.now; plan = n.plan.now; turns = n.turns; me = n.members.items; patience = n.patience }
+words_of n = record {
+  file = n.file.now;
+  plan = n.plan.now;
+  turns = n.turns;
+  me = n.members.items;
+  patience = n.patience;
+  mode = shown_mode n.mode;
+}
 
 -- A plan of 1 to 32 members, whose lines come in order and are events of members.
 pub record IsServable (plan : NodePlan) : Type 0 where
@@ -35,7 +42,7 @@ pub record IsReady (stack : List LayerTree) (plan : NodePlan) (me : List ℕ) : 
 
 -- What a node of these words is to do.
 abbrev pub task : List LayerTree → NodePlan → Node → Task
-task stack plan w = record { stack = stack; plan = plan; words = node_words w.turns w.me w.patience layered }
+task stack plan w = record { stack = stack; plan = plan; words = node_words w.turns w.me w.patience w.mode }
 
 -- It ran, and something holds of its run.
 pub record Served (stack : List LayerTree) (plan : NodePlan) (w : Node) (Holds : Task → Whereabouts → Whereabouts → Type 0) (a b : Whereabouts) : Type 0 where

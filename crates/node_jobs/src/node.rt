@@ -1,6 +1,6 @@
-//! The job `node`, layer by layer.
+//! The job `node`.
 
-ghost use Rattle.chain_laws.specs.Runs.{TypedStack};
+ghost use Rattle.bypass_laws.specs.Making.{IsSound};
 ghost use Rattle.event_graph.specs.Answer.{stack_tree};
 ghost use Rattle.job_ends.specs.Comes.{around};
 ghost use Rattle.job_ends.specs.Shown.{shown};
@@ -22,7 +22,7 @@ use script_mean::NodePlan;
 use stack_play::{Opened, PlayError, open};
 use std::alloc::{AllocError, Global};
 
-/// Runs own members of a plan's group over a network, layer by layer, and writes what they do and what it comes to.
+/// Runs own members of a plan's group over a network, and writes what they do and what it comes to.
 pub fn run_node<S: Shelf, O: Sink, N: Links, C: Clock>(
     alloc: Global,
     node: &Node<'_>,
@@ -53,7 +53,7 @@ fn serve_plan<O: Sink, N: Links, C: Clock>(
     links: &mut N,
     clock: &mut C,
 ) -> Ending
-    requires typed { TypedStack (stack_tree stack) }
+    requires sound { IsSound (stack_tree stack) }
     requires servable { IsServable plan.now }
     ensures { RunsPlan (stack_tree stack) plan.now (words_of node.now)
         (whereabouts (outside.around O.Sink N.Links out.old links.old) (C.told clock.old))
@@ -67,7 +67,7 @@ fn serve_plan<O: Sink, N: Links, C: Clock>(
         Ok(me) => me,
         Err(AllocError) => return Ending::Memory,
     };
-    match open(alloc, stack, plan.group, plan.stamp, count) {
+    match open(alloc, node.mode, stack, plan.group, plan.stamp, count) {
         Ok(opened) => {
             let Opened {
                 stack,

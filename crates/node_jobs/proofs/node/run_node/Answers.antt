@@ -2,15 +2,15 @@ use Rattle.std.proofs.Common.{refl}
 use Rattle.event_graph.specs.Answer.{stack_tree}
 use Rattle.job_ends.specs.Comes.{around}
 use Rattle.job_ends.specs.Shown.{shown}
-use Rattle.file_jobs.proofs.Typed.{means_typed}
+use Rattle.file_jobs.proofs.Sound.{means_sound}
 use Rattle.node_jobs.specs.Comes.{beyond}
 use Rattle.node_jobs.specs.Plan.{words_of}
 use Rattle.node_jobs.proofs.Runs.{ran}
 use Rattle.node_jobs.proofs.Stops.{stopped_at_plan}
 use Rattle.node_jobs.proofs.node.run_node.Goals as goal
 
-pub serve_plan-requires-clause-typed : goal.serve_plan-requires-clause-typed
-serve_plan-requires-clause-typed g c = means_typed _ _ c.in-Ok.ensures.read.means
+pub serve_plan-requires-clause-sound : goal.serve_plan-requires-clause-sound
+serve_plan-requires-clause-sound g c = means_sound _ _ c.in-Ok.ensures.read.means
 
 pub returns-in-Ok-fetch_plan : goal.returns-in-Ok-fetch_plan
 returns-in-Ok-fetch_plan g c = ran (words_of c.args.node.now)
