@@ -1,22 +1,21 @@
 -- What `run` does, from what its job came to and what was said of that.
-use Rattle.std.proofs.Common.{◌≡◌, ◌∙◌, refl, ap, inl, inr, ⊎_elim, ℕ, List, Option, Some, None}
+use Rattle.std.proofs.Common.{◌≡◌, ◌∙◌, refl, ap, inl, ℕ, List, Option, Some, None}
 use Rattle.clap.specs.Walk.{Text}
 use Rattle.outside.specs.Links.{Network}
 use Rattle.outside.specs.Shelf.{Shelved}
-use Rattle.job_mean.specs.Job.{Job, layered, bypass, check, synth, replay, load, node, audit, job_of_words}
-use Rattle.job_mean.specs.Status.{Ended, words_refused, no_memory}
+use Rattle.job_mean.specs.Job.{Job, check, synth, replay, load, node, audit, job_of_words}
+use Rattle.job_mean.specs.Status.{Ended, no_memory}
 use Rattle.program_laws.specs.OneEnd.{IsAlone}
 use Rattle.outside.specs.Said.{Errors}
 use Rattle.outside.specs.Tells.{Tells}
-use Rattle.job_ends.specs.Comes.{Around, surrounding, NoJob}
-use Rattle.job_ends.specs.Due.{Due}
+use Rattle.job_ends.specs.Comes.{Around, surrounding}
 use Rattle.job_ends.specs.Shown.{Said}
-use Rattle.job_ends.proofs.Due.{words_due, exact, status_said}
+use Rattle.job_ends.proofs.Due.{words_due, exact}
 use Rattle.job_ends.proofs.Seen.{seen, jobless_seen}
 use Rattle.node_jobs.specs.Comes.{Beyond, Node, Untouched, lying_beyond, job_of}
 use Rattle.node_jobs.proofs.Due.{node_exact}
 use Rattle.node_jobs.proofs.Seen.{node_seen}
-use Rattle.stackc_run.specs.Performed.{Way, over_files, over_network, unbuilt, way_of, PerformedBy, Performed, DoesBy, DoesJob}
+use Rattle.stackc_run.specs.Performed.{Way, over_files, over_network, way_of, PerformedBy, Performed, DoesBy, DoesJob}
 
 -- a job over files has no network
 alone : (job : Job) → way_of job ≡ over_files → IsAlone job
@@ -24,30 +23,20 @@ alone (check file) is = tt
 alone (synth file) is = tt
 alone (replay file script mode wire count) is = tt
 alone (load file seed events members raw mode) is = tt
-alone (node file plan turns me patience layered) is = absurd (cc is)
-alone (node file plan turns me patience bypass) is = absurd (cc is)
+alone (node file plan turns me patience mode) is = absurd (cc is)
 alone (audit file law) is = tt
 
 -- a job over a network is a node's
 node_is : (job : Job) (w : Node) → way_of job ≡ over_network w → job ≡ job_of w
 node_is (check file) w is = absurd (cc is)
 node_is (synth file) w is = absurd (cc is)
-node_is (replay file script layered wire count) w is = absurd (cc is)
-node_is (replay file script bypass wire count) w is = absurd (cc is)
-node_is (load file seed events members raw layered) w is = absurd (cc is)
-node_is (load file seed events members raw bypass) w is = absurd (cc is)
-node_is (node file plan turns me patience layered) w is =
-    let own : Node = record { file = file; plan = plan; turns = turns; me = me; patience = patience } in
+node_is (replay file script mode wire count) w is = absurd (cc is)
+node_is (load file seed events members raw mode) w is = absurd (cc is)
+node_is (node file plan turns me patience mode) w is =
+    let own : Node = record { file = file; plan = plan; turns = turns; me = me; patience = patience; mode = mode } in
     let same : own ≡ w = cc is in
     ap job_of same
-node_is (node file plan turns me patience bypass) w is = absurd (cc is)
 node_is (audit file law) w is = absurd (cc is)
-
--- a job that is refused ends with 2
-refused_due : (a : Around) (e : Errors) (end : Ended) → NoJob a end → Said end e → Due 2 e.status
-refused_due a e words_refused n said = status_said words_refused e said
-refused_due a e no_memory n said = ⊎_elim inr inr (status_said no_memory e said)
-refused_due a e _ n said = absurd n
 
 does_by : (words : List Text) (job : Job) (way : Way) → way_of job ≡ way → job_of_words words ≡ Some job → (a : Around) (n : Beyond) (e : Errors) (end : Ended) →
     PerformedBy way job a n end → Said end e → DoesBy way words job a n e
@@ -68,8 +57,6 @@ does_by words job (over_network w) by is a n e end came said =
       seen = run;
       exact = node_exact words w a n e named run end came said;
     }
-does_by words job unbuilt by is a n e end came said =
-    record { end = end; came = came.0; untouched = came.1; said = said; due = refused_due a e end came.0 said }
 
 pub does : (words : List Text) (job : Option Job) → job_of_words words ≡ job → (a : Around) (n : Beyond) (e : Errors) (end : Ended) →
     Performed job a n end → Said end e → DoesJob words job a n e
@@ -88,7 +75,6 @@ wanted job told reads output faults sends links clock = go job where
       PerformedBy way job (surrounding told reads reads output output) (lying_beyond faults faults sends sends links links clock clock) no_memory
   by over_files job = (inl refl, untouched)
   by (over_network w) job = inl (record { unwritten = refl; untouched = untouched })
-  by unbuilt job = (record { untouched = refl; unread = refl }, untouched)
 
   go : (job : Option Job) → Performed job (surrounding told reads reads output output) (lying_beyond faults faults sends sends links links clock clock) no_memory
   go None = (record { untouched = refl; unread = refl }, untouched)

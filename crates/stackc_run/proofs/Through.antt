@@ -12,7 +12,7 @@ use Rattle.job_ends.specs.Comes.{Around, surrounding, NoJob, Whole, Comes}
 use Rattle.job_ends.proofs.Due.{Finished, well, breach, finished}
 use Rattle.node_loop.specs.Serve.{MadeAllTurns}
 use Rattle.node_jobs.specs.Comes.{Beyond, Node, NodeComes, Ran}
-use Rattle.stackc_run.specs.Performed.{Way, over_files, over_network, unbuilt, way_of, PerformedBy, Performed}
+use Rattle.stackc_run.specs.Performed.{Way, over_files, over_network, way_of, PerformedBy, Performed}
 use Rattle.stackc_run.specs.Through.{Stream, HandsOn, RunsThrough, IsWhole, closed, DeliversOutput, DeliversJournal, DeliversBy, Delivers, journal_of}
 
 -- an end that is whole behind the stream was whole before, and the stream got all
@@ -62,8 +62,6 @@ module _ (told : Option Shelved) (reads reads_after : ℕ) (n : Beyond) (out : S
   delivered_by over_files job end p (breach is) = delivered job breached (subst (Comes job a) is p.0)
   delivered_by (over_network w) job end p (well is) = journal w (subst (NodeComes w a n) is p)
   delivered_by (over_network w) job end p (breach is) = absurd (subst (NodeComes w a n) is p)
-  delivered_by unbuilt job end p (well is) = absurd (subst (NoJob a) is p.0)
-  delivered_by unbuilt job end p (breach is) = absurd (subst (NoJob a) is p.0)
 
   by_end : (job : Option Job) (end : Ended) → Performed job a n end → Finished end → Delivers job told reads reads_after n out
   by_end None end p (well is) = absurd (subst (NoJob a) is p.0)

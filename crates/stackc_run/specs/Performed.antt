@@ -1,7 +1,7 @@
 -- What the words' job came to, whichever it is, and what was said of that.
 use Rattle.std.specs.Prelude.{List, Option, Some, None}
 use Rattle.clap.specs.Walk.{Text}
-use Rattle.job_mean.specs.Job.{Job, layered, bypass, check, synth, replay, load, node, audit, job_of_words}
+use Rattle.job_mean.specs.Job.{Job, check, synth, replay, load, node, audit, job_of_words}
 use Rattle.job_mean.specs.Status.{Ended}
 use Rattle.outside.specs.Said.{Errors}
 use Rattle.job_ends.specs.Comes.{Around, NoJob, Comes}
@@ -12,29 +12,24 @@ use Rattle.node_jobs.specs.Comes.{Beyond, Node, NodeComes, Untouched}
 use Rattle.node_jobs.specs.Due.{NodeExact}
 use Rattle.node_jobs.specs.Seen.{NodeSeen}
 
--- How a job is done: over files alone, or as a node over a network, too. One that isn't built is refused as words that are no job.
+-- How a job is done: over files alone, or as a node over a network, too.
 pub data Way : Type 0 where
   over_files : Way
   over_network : Node → Way
-  unbuilt : Way
 
 abbrev pub way_of : Job → Way
 way_of (check file) = over_files
 way_of (synth file) = over_files
-way_of (replay file script layered wire count) = over_files
-way_of (replay file script bypass wire count) = unbuilt
-way_of (load file seed events members raw layered) = over_files
-way_of (load file seed events members raw bypass) = unbuilt
-way_of (node file plan turns me patience layered) =
-    over_network (record { file = file; plan = plan; turns = turns; me = me; patience = patience })
-way_of (node file plan turns me patience bypass) = unbuilt
+way_of (replay file script mode wire count) = over_files
+way_of (load file seed events members raw mode) = over_files
+way_of (node file plan turns me patience mode) =
+    over_network (record { file = file; plan = plan; turns = turns; me = me; patience = patience; mode = mode })
 way_of (audit file law) = over_files
 
 -- How a job ended that is done in a way. One that is no node left the network and the clock as they were.
 abbrev pub PerformedBy : Way → Job → Around → Beyond → Ended → Type 0
 PerformedBy over_files job a n end = Comes job a end × Untouched n
 PerformedBy (over_network w) job a n end = NodeComes w a n end
-PerformedBy unbuilt job a n end = NoJob a end × Untouched n
 
 -- How the words' job ended.
 abbrev pub Performed : Option Job → Around → Beyond → Ended → Type 0
@@ -68,19 +63,10 @@ pub record Jobless (words : List Text) (a : Around) (n : Beyond) (e : Errors) : 
   pub seen : Seen words None a e
   pub due : Due 2 e.status
 
--- A job that isn't built was refused, and that was said.
-pub record Unbuilt (a : Around) (n : Beyond) (e : Errors) : Type 0 where
-  pub end : Ended
-  pub came : NoJob a end
-  pub untouched : Untouched n
-  pub said : Said end e
-  pub due : Due 2 e.status
-
 -- What `run` does with its words, by the job that they are.
 abbrev pub DoesBy : Way → List Text → Job → Around → Beyond → Errors → Type 0
 DoesBy over_files words job a n e = Done words job a n e
 DoesBy (over_network w) words job a n e = NodeDone words w a n e
-DoesBy unbuilt words job a n e = Unbuilt a n e
 
 abbrev pub DoesJob : List Text → Option Job → Around → Beyond → Errors → Type 0
 DoesJob words None a n e = Jobless words a n e

@@ -6,7 +6,7 @@ use Rattle.outside.specs.Count.{Rose}
 use Rattle.outside.specs.Shelf.{Shelved}
 use Rattle.clap.specs.Walk.{Text}
 use Rattle.stack_mean.specs.Plans.{plans_of}
-use Rattle.job_mean.specs.Job.{Job, layered, job_of_words}
+use Rattle.job_mean.specs.Job.{Job, job_of_words}
 use Rattle.job_mean.specs.Status.{Ended, done, breached, file_refused, report_refused, words_refused, second_refused, read_failed, write_failed, link_failed, no_memory}
 use Rattle.run_mean.specs.Journal.{node_lines}
 use Rattle.program_mean.specs.Headline.{node_words}
@@ -17,7 +17,7 @@ use Rattle.job_ends.specs.Comes.{Good, surrounding}
 use Rattle.job_ends.specs.Shown.{Said}
 use Rattle.node_loop.specs.Serve.{MadeAllTurns}
 use Rattle.node_jobs.specs.Comes.{Beyond, Node, Ran}
-use Rattle.stackc_run.specs.Performed.{Way, over_files, over_network, unbuilt, way_of, Performed, Does}
+use Rattle.stackc_run.specs.Performed.{Way, over_files, over_network, way_of, Performed, Does}
 
 -- How a job ended whose whole output was written, where its stream got all or lacks something: then that is a fault of writing.
 abbrev pub closed : Bool → Ended → Ended
@@ -73,7 +73,7 @@ pub record DeliversOutput (job : Job) (told : Option Shelved) (reads reads_after
 
 -- The whole journal of a node over what its surroundings told.
 abbrev pub journal_of : {file second : List ℕ} (w : Node) → IsNode file second w.me → Surroundings → List (List ℕ)
-journal_of w node s = let words = node_words w.turns w.me w.patience layered in
+journal_of w node s = let words = node_words w.turns w.me w.patience w.mode in
     node_lines node.stack (plans_of node.stack) (failed s) (noted node.plan words s) (played node.stack node.plan words s)
 
 -- A node made all its turns, and the output's stream gained its whole journal.
@@ -85,7 +85,6 @@ pub record DeliversJournal (w : Node) (told : Option Shelved) (reads reads_after
 abbrev pub DeliversBy : Way → Job → Option Shelved → ℕ → ℕ → Beyond → Stream → Type 0
 DeliversBy over_files job told reads reads_after n out = DeliversOutput job told reads reads_after out
 DeliversBy (over_network w) job told reads reads_after n out = DeliversJournal w told reads reads_after n out
-DeliversBy unbuilt job told reads reads_after n out = ⊥
 
 -- The words are a job, and the output's stream gained its whole output.
 abbrev pub Delivers : Option Job → Option Shelved → ℕ → ℕ → Beyond → Stream → Type 0

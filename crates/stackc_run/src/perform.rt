@@ -12,7 +12,7 @@ ghost use Rattle.stackc_run.specs.Performed.{Performed};
 use bypass_jobs::synthesize;
 use file_jobs::{audit_report, check_stack};
 use job_ends::Ending;
-use job_text::{Job, Mode, job};
+use job_text::{Job, job};
 use node_jobs::run_node;
 use outside::{Clock, Links, Shelf, Sink};
 use play_jobs::{load_stack, replay_script};
@@ -37,7 +37,7 @@ pub(crate) fn perform<S: Shelf, O: Sink, N: Links, C: Clock>(
     }
 }
 
-/// Does a job, where it is built.
+/// Does a job.
 fn perform_job<S: Shelf, O: Sink, N: Links, C: Clock>(
     alloc: Global,
     job: &Job<'_>,
@@ -53,17 +53,8 @@ fn perform_job<S: Shelf, O: Sink, N: Links, C: Clock>(
         Job::Check(file) => check_stack(alloc, *file, shelf, out),
         Job::Synth(file) => synthesize(alloc, *file, shelf, out),
         Job::Audit(audit) => audit_report(alloc, audit.file, audit.law, shelf, out),
-        Job::Replay(replay) => match replay.mode {
-            Mode::Layered => replay_script(alloc, replay, shelf, out),
-            Mode::Bypass => Ending::Words,
-        },
-        Job::Load(load) => match load.mode {
-            Mode::Layered => load_stack(alloc, load, shelf, out),
-            Mode::Bypass => Ending::Words,
-        },
-        Job::Node(node) => match node.mode {
-            Mode::Layered => run_node(alloc, node, shelf, out, links, clock),
-            Mode::Bypass => Ending::Words,
-        },
+        Job::Replay(replay) => replay_script(alloc, replay, shelf, out),
+        Job::Load(load) => load_stack(alloc, load, shelf, out),
+        Job::Node(node) => run_node(alloc, node, shelf, out, links, clock),
     }
 }
