@@ -1,13 +1,14 @@
 #!/usr/bin/env bash
-# Two processes of one group over the loopback, one member each: 0 casts `hi`, 1 casts `yo`, and each delivers what the other cast. Prints what
-# the two wrote but for their ticks; ends with 0 where both delivered.
+# Two processes of one group over the loopback, one member each: 0 runs by bypasses and casts `hi`, 1 runs layer by layer and casts `yo`, and each
+# delivers what the other cast. Prints what the two wrote but for their ticks; ends with 0 where both delivered.
 set -eu
 here=$(dirname "$(readlink -f "$0")")
 room=$(mktemp -d)
 trap 'rm -rf "$room"' EXIT
 "$here/../stackc" check "$here/counter.layers" >/dev/null
+mode=(bypass layered)
 for member in 0 1; do
-  "$here/../stackc" node "$here/counter.layers" "$here/pair.plan" --turns 1000 --me "$member" --patience 1000 --run layered >"$room/$member" &
+  "$here/../stackc" node "$here/counter.layers" "$here/pair.plan" --turns 1000 --me "$member" --patience 1000 --run "${mode[member]}" >"$room/$member" &
 done
 wait
 for member in 0 1; do

@@ -15,13 +15,12 @@ fn refuses(alloc: Global, texts: &[&str], status: u8, err: &[u8]) -> Result<bool
 #[test]
 fn refuses_other_words(rt: HostRuntime) -> Result<(), Fail> {
     let alloc = rt.alloc();
-    let cases: [&[&str]; 7] = [
+    let cases: [&[&str]; 6] = [
         &[],
-        &["node", "f", "s", "--turns=1", "--me=0", "--run=bypass"],
+        &["node", "f", "s", "--turns=1", "--run=bypass"],
         &["replay", "a"],
         &["play", "f", "s", "--run", "layered"],
-        &["replay", "f", "s", "--run", "bypass"],
-        &["load", "f", "--seed=1", "--events=1", "--members=1"],
+        &["replay", "f", "s", "--run", "fast"],
         &["audit", "f"],
     ];
     for texts in cases {
@@ -66,11 +65,15 @@ fn counts_generated_scripts(rt: HostRuntime) -> Result<(), Fail> {
     let load: &[&str] = &[
         "load",
         "f",
-        "--seed=1",
-        "--events=5",
-        "--members=32",
-        "--run=layered",
+        "--seed=7",
+        "--events=40",
+        "--members=3",
+        "--raw",
     ];
+    let counts =
+        b"deliver 9 packet 8 timer 0 block 0 announce 0 view 0 out 0 refused 10 absent 6 end 40\nshort 8\n";
+    assert!(rt; leaves(alloc, load, COUNTER, Vec::new(alloc), 0, counts, b"")?);
+    let load: &[&str] = &["load", "f", "--seed=1", "--events=5", "--members=32"];
     assert!(rt;
         leaves(
             alloc,
@@ -90,7 +93,7 @@ const BYPASSES: &[u8] =
     b"entry cast fused\ndo bind t.0 = peer\ndo bind t.1 = 0.k\ndo set 0.k = (0.k + 1)\ndo out down Cast(t.0,body) cnt.num(t.1)\nentry send fused\ndo out down Send(peer,body) cnt.none()\nplan 0 cast cnt.num(?)\nentry plan 0 fused\nwhen (in.0 == 0.e[peer])\ndo set 0.e[peer] = (in.0 + 1)\ndo bind t.0 = peer\ndo out up Cast(t.0,body)\nplan 1 send cnt.none()\nentry plan 1 fused\ndo out up Send(peer,body)\nend 4 fused 0 absent\n";
 
 /// A layer whose casts and sends go round a loop.
-const REPEATER: &[u8] =
+pub(crate) const REPEATER: &[u8] =
     b"layer rep { down Cast(p, m) { each i below 2 max 2 { down Cast(p, m); } } down Send(p, m) { each i below 1 max 1 { down Send(p, m); } } }\nstack { rep; }\n";
 
 const LOOPS: &[u8] = b"entry cast absent loop 0\nentry send absent loop 0\nend 0 fused 2 absent\n";
@@ -110,7 +113,7 @@ const COMPUTED: &[u8] =
     b"entry cast fused\ndo bind t.0 = peer\ndo bind t.1 = 5\ndo out down Cast(t.0,body) lit.h(t.1)\nentry send fused\ndo out down Send(peer,body) lit.none()\nplan 0 cast lit.h(5)\nentry plan 0 fused\ndo bind t.0 = peer\ndo out up Cast(t.0,body)\nplan 1 send lit.none()\nentry plan 1 fused\ndo out up Send(peer,body)\nend 4 fused 0 absent\n";
 
 /// A layer with two cases, whose casts have no handler when they arrive.
-const FLIP: &[u8] =
+pub(crate) const FLIP: &[u8] =
     b"layer flip {\n  state int k;\n  header a(x) passes;\n  header b(x) passes;\n  down Cast(p, m) {\n    set k = (k + 1);\n    if two ((k & 1) == 1) { down Cast(p, m) with a(k); } else { down Cast(p, m) with b(k); }\n  }\n}\nstack { flip; }\n";
 
 const CASES: &[u8] =

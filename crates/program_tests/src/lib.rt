@@ -7,6 +7,8 @@ mod fragments;
 #[cfg(test)]
 mod jobs;
 #[cfg(test)]
+mod modes;
+#[cfg(test)]
 mod nodes;
 #[cfg(test)]
 mod replays;

@@ -126,13 +126,3 @@ fn refuses_what_is_too_large(rt: HostRuntime) -> Result<(), Fail> {
     assert!(rt; refuses_body(alloc, 8193)?);
     Ok(())
 }
-
-#[test]
-fn adds_what_is_wanted(rt: HostRuntime) -> Result<(), Fail> {
-    let alloc = rt.alloc();
-    let texts: &[&str] = &["replay", "f", "s", "--run=layered", "--wire", "--count"];
-    let report =
-        b"packet 1 0 all cnt.num(0) 6869\nwire 1 e50000000100000007000000000000000700ff01000000006869\ndeliver 1 cast 0 6869\nend 2\nvisits 2\n";
-    assert!(rt; leaves(alloc, texts, COUNTER, SCRIPT, 0, report, b"")?);
-    Ok(())
-}

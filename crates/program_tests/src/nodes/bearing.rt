@@ -13,6 +13,10 @@ const TICKS: &[u8] = b"> tick 0 5\n> tick 1 5\n> tick 2 5\n";
 const BORNE: &[u8] =
     b"> tick 0 5\n> tick 1 5\n> tick 2 5\ndeaf 1\n> cast 0 6869\npacket 1 0 all cnt.num(0) 6869\n> tick 0 6\n> tick 1 6\n> tick 2 6\n> raw 1 e50000000100000007000000000000000700ff01000000006869\ndeliver 1 cast 0 6869\n> raw 2 e50000000100000007000000000000000700ff01000000006869\ndeliver 2 cast 0 6869\n> cast 2 7a\npacket 2 2 all cnt.num(0) 7a\nend 10\n";
 
+/// The same in bypass mode, where both casts and their deliveries are common: each packet goes short.
+const BORNE_SHORT: &[u8] =
+    b"> tick 0 5\n> tick 1 5\n> tick 2 5\ndeaf 1\n> cast 0 6869\npacket 1 0 all cnt.num(0) 6869\n> tick 0 6\n> tick 1 6\n> tick 2 6\n> raw 1 e60000000100000007000000000000000700ff00000000006869\ndeliver 1 cast 0 6869\n> raw 2 e60000000100000007000000000000000700ff00000000006869\ndeliver 2 cast 0 6869\n> cast 2 7a\npacket 2 2 all cnt.num(0) 7a\nend 10\n";
+
 /// Links of which the third listen fails or not, and the second receive.
 fn failing(alloc: Global, listen: bool, receive: bool) -> Result<MemLinks, AllocError> {
     let listens = vec![in alloc; false, false, listen]?;
@@ -23,14 +27,12 @@ fn failing(alloc: Global, listen: bool, receive: bool) -> Result<MemLinks, Alloc
 /// Two turns of the counter layer over links.
 fn served(
     alloc: Global,
+    run: &str,
     me: &str,
     patience: &str,
     links: &mut MemLinks,
 ) -> Result<Left, AllocError> {
-    let words = words(
-        alloc,
-        &["node", "f", "p", "--turns=2", me, "--run=layered", patience],
-    )?;
+    let words = words(alloc, &["node", "f", "p", "--turns=2", me, run, patience])?;
     let mut shelf = MemShelf::of(pair(alloc, COUNTER, "p", PLAN)?, Vec::new(alloc));
     let mut clock = MemClock::of(vec![in alloc; 5, 6]?);
     left_over(
@@ -46,15 +48,37 @@ fn served(
 #[test]
 fn serves_and_bears(rt: HostRuntime) -> Result<(), Fail> {
     let alloc = rt.alloc();
+    let layered = "--run=layered";
     let all = "--me=0,1,2";
-    let cases: [(&str, &str, bool, bool, u8, &[u8], &[u8]); 5] = [
-        (all, "--patience=0", false, false, 0, SERVED, b""),
-        (all, "--patience=0", false, true, 6, TICKS, b"link fault\n"),
-        (all, "--patience=1", false, true, 0, BORNE, b""),
-        (all, "--patience=9", true, false, 6, b"", b"link fault\n"),
+    let none = "--patience=0";
+    let cases: [(&str, &str, &str, bool, bool, u8, &[u8], &[u8]); 6] = [
+        (layered, all, none, false, false, 0, SERVED, b""),
+        (layered, all, none, false, true, 6, TICKS, b"link fault\n"),
+        (layered, all, "--patience=1", false, true, 0, BORNE, b""),
         (
+            "--run=bypass",
+            all,
+            "--patience=1",
+            false,
+            true,
+            0,
+            BORNE_SHORT,
+            b"",
+        ),
+        (
+            layered,
+            all,
+            "--patience=9",
+            true,
+            false,
+            6,
+            b"",
+            b"link fault\n",
+        ),
+        (
+            layered,
             "--me=1,3",
-            "--patience=0",
+            none,
             false,
             false,
             3,
@@ -62,9 +86,9 @@ fn serves_and_bears(rt: HostRuntime) -> Result<(), Fail> {
             b"script: member 1\n",
         ),
     ];
-    for (me, patience, listen_fails, receive_fails, status, out, err) in cases {
+    for (run, me, patience, listen_fails, receive_fails, status, out, err) in cases {
         let mut links = failing(alloc, listen_fails, receive_fails)?;
-        assert!(rt; served(alloc, me, patience, &mut links)?.is(status, out, err));
+        assert!(rt; served(alloc, run, me, patience, &mut links)?.is(status, out, err));
     }
     Ok(())
 }

@@ -12,7 +12,12 @@ const NODE: [&str; 9] = [
     "node", "f", "p", "--turns", "200", "--me", "0,1,2", "--run", "layered",
 ];
 
+/// The same in bypass mode.
+const SHORT_NODE: [&str; 7] = ["node", "f", "p", "--turns", "200", "--me", "0,1,2"];
+
 const REPLAY: [&str; 5] = ["replay", "f", "p", "--run", "layered"];
+
+const SHORT_REPLAY: [&str; 3] = ["replay", "f", "p"];
 
 const GROUP: &str = "group 1 stamp 7 members 3\n";
 
@@ -73,28 +78,36 @@ fn behind(alloc: Global, text: &[u8], mark: &[u8]) -> Result<Vec<u8>, AllocError
     Ok(behind)
 }
 
-/// Whether the events that a node wrote replay to the rest of what it wrote.
+/// Whether the events that a node wrote replay to the rest of what it wrote, in both modes.
 fn replays(alloc: Global, written: &[u8]) -> Result<bool, AllocError> {
     let (events, report) = parted(alloc, written, b"> ")?;
     let mut script = Vec::from_slice(alloc, GROUP.as_bytes())?;
     script.extend_from_slice(&events)?;
-    let again = left_in_memory(alloc, &REPLAY, &script)?;
-    Ok(again.status == 0 && again.out == report)
+    let layered = left_in_memory(alloc, &REPLAY, &script)?;
+    let short = left_in_memory(alloc, &SHORT_REPLAY, &script)?;
+    Ok(layered.status == 0 && layered.out == report && short.status == 0 && short.out == report)
+}
+
+/// Whether the words of the node leave its journal, which replays.
+fn journals(alloc: Global, texts: &[&str]) -> Result<bool, AllocError> {
+    let plan = plan(alloc, "127.0.0.1")?;
+    let node = left_in_memory(alloc, texts, plan.as_bytes())?;
+    let delivered = behind(alloc, &node.out, b"deliver ")?;
+    let all = b"1 cast 0 6869\n2 cast 0 6869\n0 cast 2 -\n1 cast 2 -\n".as_slice();
+    Ok(
+        node.status == 0
+            && node.err.is_empty()
+            && delivered.as_slice() == all
+            && node.out.ends_with(b"\nend 606\n")
+            && replays(alloc, &node.out)?,
+    )
 }
 
 #[test]
-fn a_node_in_memory_replays(rt: HostRuntime) -> Result<(), Fail> {
+fn nodes_in_memory_replay(rt: HostRuntime) -> Result<(), Fail> {
     let alloc = rt.alloc();
-    let plan = plan(alloc, "127.0.0.1")?;
-    let node = left_in_memory(alloc, &NODE, plan.as_bytes())?;
-    assert_eq!(rt; node.status, 0);
-    assert_eq!(rt; node.err.as_slice(), b"".as_slice());
-    assert_eq!(rt;
-        behind(alloc, &node.out, b"deliver ")?.as_slice(),
-        b"1 cast 0 6869\n2 cast 0 6869\n0 cast 2 -\n1 cast 2 -\n".as_slice()
-    );
-    assert!(rt; node.out.ends_with(b"\nend 606\n"));
-    assert!(rt; replays(alloc, &node.out)?);
+    assert!(rt; journals(alloc, &NODE)?);
+    assert!(rt; journals(alloc, &SHORT_NODE)?);
     Ok(())
 }
 
@@ -105,7 +118,7 @@ fn a_node_over_the_loopback_replays(rt: HostRuntime) -> Result<(), Fail> {
     let plan = plan(alloc, &host)?;
     let mut links = UdpLinks::of(alloc, &rt)?;
     let mut clock = RunClock::of(&rt);
-    let node = left_of(alloc, &NODE, plan.as_bytes(), &mut links, &mut clock)?;
+    let node = left_of(alloc, &SHORT_NODE, plan.as_bytes(), &mut links, &mut clock)?;
     assert_eq!(rt; node.status, 0);
     assert_eq!(rt; node.err.as_slice(), b"".as_slice());
     assert_eq!(rt;
