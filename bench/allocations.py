@@ -1,7 +1,7 @@
 #!/usr/bin/env python3
 """Counts how often a replay takes memory, for a script and for one of twice as many casts.
 
-Run it from any folder: bench/allocations.py [CASTS] [PROGRAM] [MODE]. The scripts are those of bench/layered.py, over a stack of all library
+Run it from any folder: bench/allocations.py [CASTS] [PROGRAM] [MODE]. The scripts are those of bench/library.py, over a stack of all library
 layers among three members. It prints how many blocks are taken (malloc) and how many grow (realloc) in a replay of half as many casts and of all, and
 what takes those that belong to the further events: the nearest two functions outside of the allocator and the collections. What is taken at
 the beginning is the same for both scripts, and isn't shown. It wants valgrind. The program is the one that ./stackc builds.
@@ -14,7 +14,7 @@ import sys
 import tempfile
 
 sys.dont_write_bytecode = True
-from layered import TOP, Bench
+from library import TOP, Bench
 
 TAKING = ("malloc", "calloc", "realloc")
 PASSED = re.compile(r"rattle_|std_alloc::|core::|std::|indexmap::")

@@ -27,12 +27,12 @@ def script(events):
     return "\n".join(lines) + "\n"
 
 
-def seconds(events, folder):
+def seconds(events, folder, mode):
     path = os.path.join(folder, f"{events}.script")
     with open(path, "w", encoding="ascii") as file:
         file.write(script(events))
     before = resource.getrusage(resource.RUSAGE_CHILDREN)
-    words = [f"{TOP}/crates/stackc/out/stackc", "replay", f"{TOP}/examples/counter.layers", path, "--run", "layered"]
+    words = [f"{TOP}/crates/stackc/out/stackc", "replay", f"{TOP}/examples/counter.layers", path, "--run", mode]
     ran = subprocess.run(words, stdout=subprocess.PIPE, check=True)
     after = resource.getrusage(resource.RUSAGE_CHILDREN)
     last = ran.stdout.rstrip(b"\n").rsplit(b"\n", 1)[-1]
@@ -45,7 +45,8 @@ def main():
     subprocess.run([f"{TOP}/stackc"], stderr=subprocess.DEVNULL, check=False)
     with tempfile.TemporaryDirectory() as folder:
         for count in (events // 2, events):
-            print(f"{count} events: {min(seconds(count, folder) for _ in range(5)):.3f} s of processor time")
+            for mode in ("layered", "bypass"):
+                print(f"{count} events, {mode}: {min(seconds(count, folder, mode) for _ in range(5)):.3f} s of processor time")
 
 
 main()

@@ -2,8 +2,8 @@
 """Runs nodes over UDP on this machine, and replays their journals.
 
 Run it from any folder: diff/node.py [FILES] [COUNT] [SEED]. FILES is as in diff/replay.py. Of each file a random plan of one to six members is run,
-all of them in one process or parted between two. Of what each process wrote, the lines behind `> ` are its journal; with the plan's first
-line in front they are replayed, by the program and by the independent reading. Both must write what the node wrote besides, but for its lines
+all of them in one process or parted between two, each in either mode. Of what each process wrote, the lines behind `> ` are its journal; with the plan's first
+line in front they are replayed, by the program in both modes and by the independent reading. All must write what the node wrote besides, but for its lines
 `lost` and `deaf`. With two processes each delivers what the other cast, now and then: how many deliveries there were is printed.
 """
 import os
@@ -60,7 +60,7 @@ def node(r, room, file, name):
     group, plan = plan_of(r, members, turns)
     with open(f"{room}/plan", "w", encoding="utf-8") as out:
         out.write(plan)
-    words = [[replay.PROGRAM, "node", name, f"{room}/plan", "--turns", str(turns), "--me", ",".join(map(str, me)), "--patience", "1000", "--run", "layered"]
+    words = [[replay.PROGRAM, "node", name, f"{room}/plan", "--turns", str(turns), "--me", ",".join(map(str, me)), "--patience", "1000", "--run", r.choice(replay.MODES)]
              for me in parts_of(r, members)]
     running_ones = [subprocess.Popen(one, stdout=subprocess.PIPE, stderr=subprocess.PIPE) for one in words]
     wrong = delivered = 0
@@ -75,9 +75,10 @@ def node(r, room, file, name):
         script = (group + "".join(event + "\n" for event in events)).encode()
         with open(f"{room}/script", "wb") as out:
             out.write(script)
-        again = subprocess.run([replay.PROGRAM, "replay", name, f"{room}/script", "--run", "layered"], stdout=subprocess.PIPE, check=False).stdout
+        again = [subprocess.run([replay.PROGRAM, "replay", name, f"{room}/script", "--run", mode], stdout=subprocess.PIPE, check=False).stdout.decode()
+                 for mode in replay.MODES]
         read = running.replay(file, script)[0]
-        for other, what in ((again.decode(), "replay"), (read, "reading")):
+        for other, what in (*zip(again, ("layered replay", "replay by bypasses")), (read, "reading")):
             if other.splitlines() != report:
                 print(f"{one}: the {what} of its journal differs\n{plan}")
                 wrong += 1

@@ -3,8 +3,8 @@
 
 Run it from any folder: diff/replay.py [FILES] [COUNT] [SEED] [WORD..]. FILES is `library`, for random stacks of the library's layers,
 `random`, for random layer files that are accepted, made as those of diff/check.py, or `counter`, for the counter layer. Of each file a random
-script is replayed, layer by layer, with `--wire` and `--count` now and then, or with exactly the further words; and the lines of a generated
-script are counted. What is written, what is said and the status must be those of the reading. It prints each difference.
+script is replayed in both modes, with `--wire` and `--count` now and then, or with exactly the further words; and the lines of a generated
+script are counted in both. What is written, what is said and the status must be those of the reading. It prints each difference.
 """
 import os
 import random
@@ -18,7 +18,8 @@ import reading
 import running
 
 TOP = os.path.dirname(os.path.dirname(os.path.abspath(__file__)))
-PROGRAM = f"{TOP}/crates/stackc/out/stackc"
+PROGRAM = os.environ.get("STACKC", f"{TOP}/crates/stackc/out/stackc")
+MODES = ("layered", "bypass")
 
 # Heavier files are passed over, since the reading runs them slowly.
 MOST_WEIGHT = 600
@@ -73,18 +74,20 @@ def answer(words):
     return ran.stdout.decode(), ran.stderr.decode().strip(), ran.returncode
 
 
-def replay(r, paths, texts, given):
-    """The words of a replay, and what the reading says of it."""
+def replays(r, paths, texts, given):
+    """In each mode the words of a replay, and what the reading says of it."""
     words = given or [word for word in ("--wire", "--count") if r.random() < 0.4]
-    wanted = running.replay(*texts, "layered", "--wire" in words, "--count" in words)
-    return ["replay", *paths, "--run", "layered", *words], wanted
+    for mode in MODES:
+        wanted = running.replay(*texts, mode, "--wire" in words, "--count" in words)
+        yield ["replay", *paths, "--run", mode, *words], wanted
 
 
-def load(r, paths, texts):
-    """The words of a load, and what the reading says of it."""
+def loads(r, paths, texts):
+    """In each mode the words of a load, and what the reading says of it."""
     seed, events, members, raw = r.randrange(2**32), r.randint(0, 200), r.randint(1, 6), r.random() < 0.5
-    words = ["load", paths[0], "--seed", str(seed), "--events", str(events), "--members", str(members), "--run", "layered"]
-    return words + ["--raw"] * raw, running.load(texts[0], seed, events, members, raw)
+    words = ["load", paths[0], "--seed", str(seed), "--events", str(events), "--members", str(members), *["--raw"] * raw]
+    for mode in MODES:
+        yield [*words, "--run", mode], running.load(texts[0], seed, events, members, raw, mode)
 
 
 def kept(name, texts):
@@ -109,13 +112,13 @@ def main():
             for path, text in zip(paths, texts):
                 with open(path, "wb") as file:
                     file.write(text)
-            for words, wanted in (replay(r, paths, texts, given), load(r, paths, texts)):
+            for words, wanted in (*replays(r, paths, texts, given), *loads(r, paths, texts)):
                 got = answer(words)
                 if got != wanted:
                     differences += 1
                     place = kept(f"differs-{seed}-{number}", texts)
                     print(f"{place}, {' '.join(words)}: the program answers {got}, the reading {wanted}"[:2000])
-    print(f"{count} scripts and as many loads, {differences} differences")
+    print(f"{count} scripts and as many loads, in both modes, {differences} differences")
     sys.exit(1 if differences else 0)
 
 

@@ -1,7 +1,7 @@
 #!/usr/bin/env python3
-"""Times replays of a stack of all library layers among three members, and loads.
+"""Times replays of a stack of all library layers among three members, and loads, layer by layer and by bypasses.
 
-Run it from any folder: bench/layered.py [CASTS] [PROGRAM]. It makes a script of so many casts of 64 bytes over a lossless network: each packet is
+Run it from any folder: bench/library.py [CASTS] [PROGRAM]. It makes a script of so many casts of 64 bytes over a lossless network: each packet is
 given once to each member that it is for, in order, and all clocks tick. It prints the processor time of a replay of half as many casts and of all,
 the least of five runs, and the same of loads of as many events; and the instructions of each, from the program's start to its end, where
 there is valgrind. The program is the one that ./stackc builds.
@@ -91,9 +91,11 @@ def main():
             lines = bench.script(count)
             path = bench.file(f"{count}.script", "\n".join(lines) + "\n")
             events = len(lines) - 1
-            bench.measure(f"replay of {count} casts", events, ["replay", bench.stack, path, "--run", "layered"])
-            words = ["load", bench.stack, "--seed", "1", "--events", str(min(events, 99_999)), "--members", str(MEMBERS), "--run", "layered"]
-            bench.measure("load", min(events, 99_999), words)
+            most = min(events, 99_999)
+            load = ["load", bench.stack, "--seed", "1", "--events", str(most), "--members", str(MEMBERS)]
+            for mode in ("layered", "bypass"):
+                bench.measure(f"replay of {count} casts, {mode}", events, ["replay", bench.stack, path, "--run", mode])
+                bench.measure(f"load, {mode}", most, [*load, "--run", mode])
 
 
 if __name__ == "__main__":
