@@ -146,9 +146,9 @@ fn rows_and_views_move(rt: HostRuntime) -> Result<(), Fail> {
         },
         Case {
             file: COUNTER,
-            script: b"group 1 stamp 7 members 3\nraw 1 e50000000200000008000000000000000700ff\nraw 1 e50000000100000007000000000000000700ff\nraw 1 e60000000100000007000000000000000700fffa\nraw 1 e60000000100000007000000000000000700ff000000\nraw 1 e60000000100000007000000000000000300ff000000\nraw 1 e60000000100000007000000000000000700ff00000000006869\n",
-            layered: b"refused 1 group\nrefused 1 chain\nrefused 1 plan\nrefused 1 chain\nrefused 1 view\ndeliver 1 cast 0 6869\nend 6\nvisits 1\n",
-            bypass: b"refused 1 group\nrefused 1 chain\nrefused 1 plan\nrefused 1 chain\nrefused 1 view\ndeliver 1 cast 0 6869\nend 6\nvisits 0\n",
+            script: b"group 1 stamp 7 members 3\nraw 1 000000000000000000000000000000000000\nraw 1 e4000000000000000000000000000000000000\nraw 1 e50000000200000008000000000000000700ff\nraw 1 e50000000100000007000000000000000700ff\nraw 1 e60000000100000007000000000000000700fffa\nraw 1 e60000000100000007000000000000000700ff000000\nraw 1 e60000000100000007000000000000000300ff000000\nraw 1 e60000000100000007000000000000000700ff00000000006869\n",
+            layered: b"refused 1 short\nrefused 1 form\nrefused 1 group\nrefused 1 chain\nrefused 1 plan\nrefused 1 chain\nrefused 1 view\ndeliver 1 cast 0 6869\nend 8\nvisits 1\n",
+            bypass: b"refused 1 short\nrefused 1 form\nrefused 1 group\nrefused 1 chain\nrefused 1 plan\nrefused 1 chain\nrefused 1 view\ndeliver 1 cast 0 6869\nend 8\nvisits 0\n",
         },
         Case {
             file: VIEWS,
