@@ -29,7 +29,8 @@ use Rattle.stack_mean.specs.Drawn.{DrawnHeader, DrawnEvent, Drawing, DrawnVisit,
 use Rattle.stack_mean.specs.Shape.{first_tag}
 use Rattle.shape_laws.specs.Known.{HeadersAre, MessageIs, EventIs}
 use Rattle.shape_laws.proofs.Predicted.{AllAs}
-use Rattle.replay_laws.specs.Missed.{is_decision, way_decisions, popped_tag}
+use Rattle.miss_mean.specs.Spots.{popped_tag}
+use Rattle.replay_laws.specs.Missed.{is_decision, way_decisions}
 
 -- decisions that are this many, as far as they go as predicted: once one doesn't, nothing is said of those after it
 abbrev pub Counts : Case → List Decision → ℕ → Type 0

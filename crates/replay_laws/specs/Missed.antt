@@ -2,8 +2,6 @@
 use Rattle.std.specs.Prelude.{◌≡◌, ℕ, ◌<◌, Bool, true, false, List, count_by, length, slice_index_or, Option, Some, None, Ok}
 use Rattle.std.specs.List.{sum_by}
 use Rattle.std.specs.Option.{option_and_then}
-use Rattle.layer_ast.specs.declared.tokens.Dir.{Dir}
-use Rattle.layer_ast.specs.declared.tokens.Dir.TheVariants.{Up, Down}
 use Rattle.layer_mean.specs.declared.run.Case.{Case}
 use Rattle.layer_mean.specs.Tree.{LayerTree, no_layer}
 use Rattle.layer_mean.specs.State.{State}
@@ -15,6 +13,7 @@ use Rattle.packet_mean.specs.declared.here.Here.{Here}
 use Rattle.stack_mean.specs.Plans.{plans_of}
 use Rattle.stack_mean.specs.Shape.{Known, ShapeVisit, Shape, shape}
 use Rattle.run_mean.specs.Common.{entry_of, first_missed}
+use Rattle.miss_mean.specs.Spots.{popped_tag}
 use Rattle.run_mean.specs.Member.{Entered, step_from}
 use Rattle.member_laws.specs.Steps.{IsStep}
 
@@ -31,11 +30,6 @@ is_decision _ = false
 abbrev pub way_decisions : Option (List way.Step) → ℕ
 way_decisions None = 0
 way_decisions (Some steps) = count_by is_decision steps
-
--- The tag that is popped of an event with this first tag: going down none is.
-abbrev pub popped_tag : Dir → ℕ → ℕ
-popped_tag Up tag = tag
-popped_tag Down tag = 0
 
 -- How many decisions the way of a shape's visit has: that of the handler that is met, if there is one.
 abbrev pub visit_decisions : Case → List LayerTree → ShapeVisit → ℕ
