@@ -3,13 +3,14 @@ use Rattle.std.proofs.Common.{◌≡◌, ℕ, suc, ◌+◌, ◌^◌, ◌<◌, �
 use Rattle.std.proofs.lemmas.Bool.{eq-eqb, and_from, and_parts, or_left, or_right, ltb-true, cases_lt}
 use Rattle.std.proofs.lemmas.List.{length-append, length-drop, get_or_past}
 use Rattle.std.specs.List.{AllByRecursion}
-use Rattle.std.specs.Prelude.{option_and_then}
+use Rattle.std.specs.Prelude.{option_and_then, Ok}
 use Rattle.msg_core.specs.Chain.{Content}
 use Rattle.msg_core.specs.Parts.{longest_body}
 use Rattle.msg_core.specs.declared.message.Header.{Header}
 use Rattle.layer_ast.specs.declared.tokens.Kind.{Kind}
 use Rattle.layer_ast.specs.declared.syntax.Shape.{Shape}
 use Rattle.layer_ast.specs.declared.syntax.Shape.TheVariants.{One, Array, Square}
+use Rattle.layer_mean.specs.declared.run.Case.{Case}
 use Rattle.layer_mean.specs.declared.run.Event.{Event}
 use Rattle.layer_mean.specs.declared.run.Row.{Row}
 use Rattle.layer_mean.specs.Event.{carries, event_of}
@@ -24,11 +25,11 @@ use Rattle.chain_laws.specs.Typed.{Queue, queue_in, queue_at}
 use Rattle.chain_laws.specs.Runs.{AreChainedStates}
 use Rattle.chain_laws.proofs.Lists.{zip_at}
 use Rattle.chain_laws.proofs.Sorts.{Kept, kept, rows_at_kept, row_at_kept, message_in_body}
-use Rattle.file_laws.specs.Named.{shape_in, form_at}
+use Rattle.file_laws.specs.Named.{NamedStack, shape_in, form_at}
 use Rattle.trace_mean.specs.Trace.{number, TraceNumber, atom, me, count, ltime, element, square, rows, item, size, binary, apply, pick, body, TraceMessage, core, held, cut, tail, join, Operation, bind, note, check, set, set_square, push, take, output}
 use Rattle.trace_mean.specs.Worth.{Input, nothing_kept, state_of, number_of, content_at}
 use Rattle.trace_mean.specs.Follow.{Trail, on, stopped_at, does, before, perform}
-use Rattle.trace_mean.specs.Fuse.{field_atoms, entry_chain, entry_task}
+use Rattle.trace_mean.specs.Fuse.{field_atoms, entry_chain, entry_task, trace_of}
 use Rattle.trace_laws.specs.Members.{AreOf}
 use Rattle.trace_laws.specs.Safe.{IsSafe, SafeTrace}
 use Rattle.trace_laws.specs.Right.{Enters}
@@ -42,7 +43,7 @@ use Rattle.guard_mean.specs.Hoist.{is_zero}
 use Rattle.guard_mean.specs.Perform.{holds, end_of, ended}
 use Rattle.guard_mean.specs.Prune.{hoist}
 use Rattle.guard_mean.specs.Simplify.{simplified}
-use Rattle.guard_laws.specs.Sound.{extent, row_count, fits_extent}
+use Rattle.guard_laws.specs.Sound.{extent, row_count, fits_extent, Sound}
 use Rattle.guard_laws.proofs.Premises.{IsShortRow, IsShortTrail, Fits, FitsMessage, FitsAll, FitsOperation, RoomAt, Roomy, AllFit}
 use Rattle.guard_laws.specs.Entry.{EntriesAreGuarded, CodesFollowTraces, CodesAreRight}
 use Rattle.guard_laws.proofs.States.{extents_after, queues_after, extents_stay, rows_after}
@@ -56,7 +57,7 @@ abbrev is_square : Option Shape → Bool
 is_square (Some Square) = true
 is_square _ = false
 
-abbrev squares_of : List LayerTree → ℕ → ℕ → Bool
+abbrev pub squares_of : List LayerTree → ℕ → ℕ → Bool
 squares_of stack p c = is_square (form_at shape_in (layer_of stack p) c)
 
 -- what is named as it is fits
@@ -338,14 +339,21 @@ short_before stack k fields i states enters = record {
   m : Content
   m = content_at i nothing_kept (record { chain = entry_chain 0 stack k.tags (field_atoms 0 fields); core = body })
 
-pub entries_are_guarded : EntriesAreGuarded
-entries_are_guarded case stack k fields operations i states named made enters =
+-- each operation of a trace that is come to is as it should be
+pub entries_are_sound : (case : Case) (stack : List LayerTree) (k : Known) (fields : List (Option ℕ)) (operations : List Operation) (i : Input)
+    (states : List State) → NamedStack stack → trace_of case stack k fields ≡ Ok operations → Enters stack k fields i states →
+    Sound (squares_of stack) i operations (on (before states))
+entries_are_sound case stack k fields operations i states named made enters =
     let there = traces_name_well case stack k fields operations named made in
     let right = traces_are_right case stack k fields operations i states made enters in
-    hoisted_is_same (squares_of stack) i states operations (sound_of (squares_of stack) i operations (before states)
+    sound_of (squares_of stack) i operations (before states)
     (short_before stack k fields i states enters) (all_fit stack operations there)
     (roomy stack i states enters.of enters.states_are operations (before states)
-    (record { extents = λ p c. refl; few = few_rows stack i states enters.of enters.states_are }) there right.safe))
+    (record { extents = λ p c. refl; few = few_rows stack i states enters.of enters.states_are }) there right.safe)
+
+pub entries_are_guarded : EntriesAreGuarded
+entries_are_guarded case stack k fields operations i states named made enters =
+    hoisted_is_same (squares_of stack) i states operations (entries_are_sound case stack k fields operations i states named made enters)
 
 pub codes_follow_traces : CodesFollowTraces
 codes_follow_traces case stack k fields operations i states named made enters =

@@ -25,7 +25,7 @@ module _ (sq : Squares) (i : Input) (ss : List State) where
         unsound [] k = tt
         unsound (o ∷ operations) k = tt
 
-  start : Claim sq i ss (on (before ss)) nothing_yet
+  pub start : Claim sq i ss (on (before ss)) nothing_yet
   start = record {
     standing = λ vs b. record {
       none = refl;

@@ -1,0 +1,4 @@
+pub mod Positions
+pub mod Checked
+pub mod Stops
+pub mod Told

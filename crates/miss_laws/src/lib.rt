@@ -1,0 +1,20 @@
+//! That the checks of a stack's traces, asked on the states before a step, tell what the step lacked: the contracts of functions that do nothing.
+#![tactic(auto)]
+
+ghost use Rattle.miss_laws.specs.Checked.{ChecksFindUnheld, UnheldStops};
+ghost use Rattle.miss_laws.specs.Told.{MissesAreTold};
+
+/// The tests of a guarded handler's conjuncts find the first that doesn't hold.
+pub fn checks_find_unheld()
+    ensures { ChecksFindUnheld }
+{}
+
+/// Of a hoisted trace that is the check at which following it stops.
+pub fn unheld_stops()
+    ensures { UnheldStops }
+{}
+
+/// So they tell what a step that isn't common lacked.
+pub fn misses_are_told()
+    ensures { MissesAreTold }
+{}
