@@ -1,0 +1,10 @@
+//! The checks of a stack's traces, by which it is told what a step lacked.
+#![tactic(auto)]
+
+mod asked;
+mod cases;
+mod lacks;
+mod needs;
+mod stack;
+
+pub use stack::StackChecks;
