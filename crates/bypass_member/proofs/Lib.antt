@@ -14,3 +14,5 @@ pub mod Going
 pub mod Taking
 pub mod Making
 pub mod Placing
+pub mod Probing
+pub mod Untaken

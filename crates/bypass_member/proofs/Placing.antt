@@ -72,7 +72,7 @@ module _ (p : Placed) (view : View) (states : List State) (input : Input) (is : 
   abbrev its : Entered → Step
   its what = step_from p.stack (here_in p view) p.id states what
 
-  steps_in : (what : Entered) → entered p.stack p.plans (here_in p view) input ≡ Ok what → step_of p input ≡ Ok (its what)
+  pub steps_in : (what : Entered) → entered p.stack p.plans (here_in p view) input ≡ Ok what → step_of p input ≡ Ok (its what)
   steps_in what enters = ap (λ (m : Member). step_at p m input) is ∙ ap (λ (e : Result Entered Refusal). step_in p view states e) enters
 
   pub takes : (g : Ground) (what : Entered) (old works : Works) (gathered : Gathered) (before after : ℕ) (took : Took) (new : Placed) →

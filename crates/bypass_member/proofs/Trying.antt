@@ -72,7 +72,7 @@ module _ (plans : List Plan) (here : Here) where
 
 -- so the code of an entry handles its step
 module _ (g : Ground) (w : Works) (what : Entered) (ground : IsGround g) (is_in : IsIn (stack_of g) g.most g.here.view g.id (states_in w)) where
-  own : AreOf (step_input (plans_in g) g.here what) (stack_of g) (states_in w)
+  pub own : AreOf (step_input (plans_in g) g.here what) (stack_of g) (states_in w)
   own = are_also (input_at g.here.view g.id) (step_input (plans_in g) g.here what)
       (sym ground.rank ∙ sym (its_rank (plans_in g) g.here what))
       (sym (its_count (plans_in g) g.here what))

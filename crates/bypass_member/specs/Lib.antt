@@ -14,3 +14,5 @@ pub mod Trying
 pub mod Making
 pub mod Placing
 pub mod Codes
+pub mod Probing
+pub mod Attempting

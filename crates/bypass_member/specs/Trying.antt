@@ -16,7 +16,7 @@ use Rattle.trace_reads.specs.Registers.{input_of}
 use Rattle.bypass_codes.specs.Codes.{CodesTree, code_at}
 use Rattle.handler_laws.specs.Handled.{step_input, IsHandled}
 use Rattle.step_outputs.specs.Gathered.{Gathered}
-use Rattle.bypass_member.specs.Stepping.{stack_of, plans_in, codes_in, mode_of, in_full, step_over}
+use Rattle.bypass_member.specs.Stepping.{stack_of, plans_in, codes_in, mode_of, in_full, step_over, HasGone}
 use Rattle.bypass_member.specs.Working.{states_in, taken_in, AreSame, IsReady}
 use Rattle.bypass_member.specs.declared.commons.Tried.{Tried}
 use Rattle.bypass_member.specs.declared.ground.Ground.{Ground}
@@ -86,3 +86,8 @@ pub record IsLeft (g : Ground) (old : Works) (what : Entered) (new : Works) : Ty
 abbrev pub MakesCommon : Ground → Works → Entered → Works → Gathered → Option Case → Type 0
 MakesCommon g old what new out (Some case) = IsMadeIn case g old what new out
 MakesCommon g old what new out None = IsLeft g old what new
+
+-- And with what comes out sent short: a step that was made counts for no visit.
+abbrev pub MakesByCode : Ground → Works → Entered → Works → Gathered → Bool → Type 0
+MakesByCode g old what new out true = (visits : ℕ) → HasGone g old what new out visits visits true
+MakesByCode g old what new out false = IsLeft g old what new

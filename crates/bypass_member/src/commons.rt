@@ -44,7 +44,7 @@ pub(crate) struct Tried<'c, 'g> {
 }
 
 /// Keeps the fields of what entered that the plan of its entry leaves variable; others than packets have none.
-fn keep_fields(plans: &Plans, what: EntryOf, entry: &Entry<'_>, fields: &mut Vec<u32>)
+pub(crate) fn keep_fields(plans: &Plans, what: EntryOf, entry: &Entry<'_>, fields: &mut Vec<u32>)
     requires what { (here : stands.Here) → what ≡ entry_for (plans_tree plans.now) (entry_meant here entry.now) }
     requires room { AllByRecursion (HasAtMost (vec_capacity fields.old)) (plans_tree plans.now) }
     ensures fields { (here : stands.Here) → fields.new.items ≡ fields_given (plans_tree plans.now) (entry_meant here entry.now) }
@@ -88,7 +88,12 @@ fn body_in<'a>(entry: &'a Entry<'_>) -> &'a [u8]
 }
 
 /// What code is given of what entered, beside the fields that were kept.
-fn given_of<'a>(_plans: &Plans, here: &Here, entry: &'a Entry<'_>, fields: &'a [u32]) -> Given<'a>
+pub(crate) fn given_of<'a>(
+    _plans: &Plans,
+    here: &Here,
+    entry: &'a Entry<'_>,
+    fields: &'a [u32],
+) -> Given<'a>
     requires lies { LiesWithin entry.now }
     requires fields { fields.now ≡ fields_given (plans_tree _plans.now) (entry_meant here.now entry.now) }
     ensures given { input_of result ≡ step_input (plans_tree _plans.now) here.now (entry_meant here.now entry.now) }

@@ -11,6 +11,7 @@ mod ground;
 mod member;
 mod opening;
 mod opens;
+mod probes;
 mod runs;
 mod scratch;
 mod steps;

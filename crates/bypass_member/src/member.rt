@@ -5,6 +5,7 @@ use crate::error::OpenError;
 use crate::ground::{Ground, Took, lent, rank_after, rank_in, view_after};
 use crate::opening::Opening;
 use crate::opens::{Kit, close_works, open_kit};
+use crate::probes::{Attempt, probed_of, try_common};
 use crate::scratch::{Scratch, close_scratch, share};
 use crate::steps::take;
 use crate::works::Works;
@@ -15,10 +16,12 @@ use member_reads::Shown;
 use msg_core::{Headers, View};
 use packet_full::{Scan, member_count};
 use packet_mean::Here;
+use stack_checks::StackChecks;
 use stack_shapes::{EntryShapes, PlanStarts, Plans};
 use std::alloc::Global;
 use std::marker::Model;
 use std::rc::Rc;
+use step_misses::Probed;
 use step_outputs::Outputs;
 use view_core::{Input, Refusal, Stepped};
 
@@ -67,9 +70,12 @@ impl Model for Member {
 
 impl Member {
     ghost use Rattle.std.specs.Prelude.{◌≡◌, ◌^◌, ◌+◌, ◌≤◌, true, length, is_some, Ok};
+    ghost use Rattle.bypass_laws.specs.Making.{IsSound};
     ghost use Rattle.chain_laws.specs.Runs.{TypedStack};
     ghost use Rattle.file_layer.specs.Making.{making};
+    ghost use Rattle.job_mean.specs.Job.{bypass};
     ghost use Rattle.member_laws.specs.Members.{IsChainedMember};
+    ghost use Rattle.miss_laws.specs.Told.{AreChecksOf};
     ghost use Rattle.msg_core.specs.View.{rank};
     ghost use Rattle.slot_pool.specs.References.{Exact};
     ghost use Rattle.pool_laws.specs.Room.{slots_beyond};
@@ -78,6 +84,7 @@ impl Member {
     ghost use Rattle.view_core.specs.Steps.{input_meant};
     ghost use Rattle.bypass_member.specs.Opening.{CanOpen, Opens};
     ghost use Rattle.bypass_member.specs.Placed.{Steps, StandsAt};
+    ghost use Rattle.bypass_member.specs.Probing.{ProbesMember, StandsWhere};
 
     /// The member of a group that has this id, in its first view, its layers made by the maker of the group's stack. It runs by the code of the
     /// stack's bypasses, if the opening has it. All memory is taken here.
@@ -168,6 +175,61 @@ impl Member {
         self.view = view_after(view, change);
         self.rank = rank_after(here.rank, id, change);
         Stepped::Taken { common, change }
+    }
+
+    /// Tries an input as a common step. If it is one, the step is made by its code, as `step` would make it, and what came out is told by `out`. Else
+    /// nothing changes, and of a cast, a send or a packet that would be taken it is told what each case of its entry lacks.
+    pub fn probe(&mut self, checks: &mut StackChecks, input: Input<'_>, out: &mut Outputs) -> Probed
+        requires mode { self.old.mode ≡ bypass }
+        requires sound { IsSound self.old.stack }
+        requires checks { AreChecksOf self.old.stack checks.old }
+        requires out { out.old.places ≡ largest_weight self.old.stack }
+        ensures probed { ProbesMember self.old (input_meant input.entry) self.new out.new.outputs result }
+        ensures checks { checks.new ≡ checks.old }
+        ensures places { out.new.places ≡ out.old.places }
+        ensures here { StandsWhere self.old out.new.here result }
+    {
+        out.clear();
+        let Some(view) = self.view else {
+            return Probed::Other
+        };
+        let id = self.id;
+        let here = Here {
+            group: self.group,
+            stamp: self.stamp,
+            view,
+            rank: self.rank,
+        };
+        let entry = match judge(&self.stack, &self.plans, &here, input, &mut self.scan) {
+            Ok(entry) => entry,
+            Err(_) => return Probed::Other,
+        };
+        let ground = Ground {
+            stack: &self.stack,
+            plans: &self.plans,
+            entries: &self.entries,
+            starts: self.starts,
+            codes: lent(&self.codes),
+            bare: &self.bare,
+            here,
+            id,
+            most: self.most,
+        };
+        match try_common(
+            &mut self.works,
+            &mut self.scratch,
+            &ground,
+            &entry,
+            checks,
+            out,
+        ) {
+            Attempt::Made(change) => {
+                self.view = view_after(view, change);
+                self.rank = rank_after(here.rank, id, change);
+                Probed::Common
+            }
+            Attempt::Left(miss) => probed_of(miss),
+        }
     }
 
     /// Where it is, and what its layers keep.

@@ -2,6 +2,7 @@
 
 ghost use Rattle.std.specs.Prelude.{◌≡◌, ◌^◌, ◌≤◌, List, map};
 ghost use Rattle.member_laws.specs.Members.{IsEntered};
+ghost use Rattle.packet_mean.specs.declared.here.Here as stands;
 ghost use Rattle.run_mean.specs.Common.{first_plan, with_plans};
 ghost use Rattle.run_mean.specs.Member.{Entered, Output};
 ghost use Rattle.stack_mean.specs.Acceptance.{largest_weight};
@@ -9,6 +10,7 @@ ghost use Rattle.stack_shapes.specs.Entries.{entry_for};
 ghost use Rattle.bypass_member.specs.Judged.{entry_meant, LiesWithin};
 ghost use Rattle.bypass_member.specs.Serving.{IsSpare};
 ghost use Rattle.bypass_member.specs.Stepping.{codes_in, in_full, plans_in, stack_of, IsGround, HasGone, HasPlayed, HasTaken};
+ghost use Rattle.bypass_member.specs.Trying.{MakesByCode};
 ghost use Rattle.bypass_member.specs.Viewing.{IsIn};
 ghost use Rattle.bypass_member.specs.Working.{states_in, taken_in, IsReady};
 
@@ -71,6 +73,37 @@ fn send_short(ground: &Ground<'_>, what: EntryOf, case: Case, out: &mut Outputs)
     }
 }
 
+/// Makes a common step by its code, its outputs sent short where they are, and tells whether it did; where there is no code, or none passes, nothing
+/// has changed.
+pub(crate) fn make_by_code<'x>(
+    works: &mut Works,
+    scratch: &'x mut Scratch,
+    ground: &Ground<'_>,
+    what: EntryOf,
+    entry: &'x Entry<'_>,
+    out: &mut Outputs,
+) -> bool
+    requires ground { IsGround ground.now }
+    requires ready { IsReady (stack_of ground.now) ground.now.most works.old }
+    requires spare { IsSpare (codes_in ground.now) (plans_in ground.now) scratch.old }
+    requires is_in { IsIn (stack_of ground.now) ground.now.most ground.now.here.view ground.now.id (states_in works.old) }
+    requires entered { IsEntered (stack_of ground.now) (entry_meant ground.now.here entry.now) }
+    requires lies { LiesWithin entry.now }
+    requires what { (here : stands.Here) → what ≡ entry_for (plans_in ground.now) (entry_meant here entry.now) }
+    requires out { out.old.places ≡ largest_weight (stack_of ground.now) }
+    ensures made { MakesByCode ground.now works.old (entry_meant ground.now.here entry.now) works.new out.new result }
+    ensures spare { IsSpare (codes_in ground.now) (plans_in ground.now) scratch.new }
+    ensures places { out.new.places ≡ out.old.places }
+{
+    match make_common(works, scratch, ground, what, entry, out) {
+        Some(case) => {
+            send_short(ground, what, case, out);
+            true
+        }
+        None => false,
+    }
+}
+
 /// Makes the step of what entered, and tells whether it was a common one: by its code, where there is some that passes, and else by the run of
 /// the layers.
 fn make(
@@ -94,18 +127,13 @@ fn make(
     ensures places { out.new.places ≡ out.old.places }
 {
     let what = entry_of(ground.plans, &entry);
-    match make_common(works, scratch, ground, what, &entry, out) {
-        Some(case) => {
-            send_short(ground, what, case, out);
-            true
-        }
-        None => {
-            let predicted = play(works, ground, entry, out, visits);
-            ground
-                .entries
-                .is_common(what, predicted.first, predicted.second)
-        }
+    if make_by_code(works, scratch, ground, what, &entry, out) {
+        return true;
     }
+    let predicted = play(works, ground, entry, out, visits);
+    ground
+        .entries
+        .is_common(what, predicted.first, predicted.second)
 }
 
 /// Takes what entered: one step.

@@ -2,5 +2,7 @@
 #![tactic(auto)]
 
 mod feed;
+mod probe;
 
 pub use feed::Feed;
+pub use probe::Probe;

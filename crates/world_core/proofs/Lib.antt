@@ -1,7 +1,9 @@
 pub mod Arena
 pub mod Begun
 pub mod FirstView
+pub mod Gives
 pub mod Opened
+pub mod Probed
 pub mod Spelled
 pub mod Stepped
 pub mod Visits

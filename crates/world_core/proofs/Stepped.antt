@@ -17,7 +17,7 @@ use Rattle.packet_mean.specs.Spelling.{full_bytes}
 use Rattle.packet_mean.specs.declared.here.Here.{Here}
 use Rattle.run_mean.specs.Common.{with_plans, plan_behind, short_from}
 use Rattle.run_mean.specs.Member.{Member, inside, out, Input, datagram, is_out, Entered, entered, Output, packet_in, Refusal, Step, step_from}
-use Rattle.run_mean.specs.World.{World, Happening, only, refused, taken, absent, here_of, member_at, packet_number, world_behind}
+use Rattle.run_mean.specs.World.{World, Happening, only, refused, taken, absent, shown, here_of, member_at, packet_number, world_behind}
 use Rattle.run_mean.specs.World.{stepped, stepped_of, stepped_inside, given}
 use Rattle.view_core.specs.Happenings.{DidIs, IsTaken}
 use Rattle.view_core.specs.declared.step.Change.{Change}
@@ -46,14 +46,14 @@ are_seated mode stack plans group stamp n members seated =
     seated ∙ ap (seats mode stack plans group stamp) (sym (count_seats mode stack plans group stamp n members seated))
 
 module _ (mode : Mode) (stack : List LayerTree) (plans : List Plan) (group stamp : ℕ) (members : List Placed) (id : ℕ) (p : Placed) where
-  seat_at : AreSeated mode stack plans group stamp members → id < length members → p ≡ get_or members id p →
+  pub seat_at : AreSeated mode stack plans group stamp members → id < length members → p ≡ get_or members id p →
       seat_of p ≡ seat mode stack plans group stamp id
   seat_at seated lt at =
       ap seat_of at ∙ sym (get_or-map seat_of members id p (seat_of p) lt) ∙ ap (λ ss. get_or ss id (seat_of p)) seated ∙
       get_or-map-range_with_len (seat mode stack plans group stamp) 0 (length members) id id (seat_of p) lt (zero-add id)
 
 -- one of them steps
-same_seat : (p : Placed) (input : Input) (p' : Placed) (outs : List (Output × Option ℕ)) (before after : ℕ) (st : Stepped) →
+pub same_seat : (p : Placed) (input : Input) (p' : Placed) (outs : List (Output × Option ℕ)) (before after : ℕ) (st : Stepped) →
     Steps p input p' outs before after st → seat_of p' ≡ seat_of p
 same_seat p input p' outs before after (Taken common change) is =
     λ i. record {
@@ -66,13 +66,19 @@ same_seat p input p' outs before after (Taken common change) is =
     }
 same_seat p input p' outs before after (Refused reason) is = ap seat_of is.same
 
+pub seated_after : (mode : Mode) (stack : List LayerTree) (plans : List Plan) (group stamp : ℕ) (members : List Placed) (place : ℕ) (p p' : Placed) →
+    AreSeated mode stack plans group stamp members → p ≡ get_or members place p → seat_of p' ≡ seat_of p →
+    AreSeated mode stack plans group stamp (set members place p')
+seated_after mode stack plans group stamp members place p p' seated at same =
+    are_seated mode stack plans group stamp (length members) (set members place p')
+    (map-set_same seat_of members place p' p (same ∙ ap seat_of at) ∙ seated)
+
 pub seated_behind : (mode : Mode) (stack : List LayerTree) (plans : List Plan) (group stamp : ℕ) (members : List Placed) (place : ℕ) (p : Placed)
     (input : Input) (p' : Placed) (outs : List (Output × Option ℕ)) (before after : ℕ) (st : Stepped) →
     AreSeated mode stack plans group stamp members → p ≡ get_or members place p → Steps p input p' outs before after st →
     AreSeated mode stack plans group stamp (set members place p')
 seated_behind mode stack plans group stamp members place p input p' outs before after st seated at is =
-    are_seated mode stack plans group stamp (length members) (set members place p')
-    (map-set_same seat_of members place p' p (same_seat p input p' outs before after st is ∙ ap seat_of at) ∙ seated)
+    seated_after mode stack plans group stamp members place p p' seated at (same_seat p input p' outs before after st is)
 
 -- what a member in a seat makes of an input
 abbrev here_at : Seat → View → Here
@@ -94,7 +100,7 @@ same_step p (inside view states) input = go (entered p.stack p.plans (here_in p 
   go (Err reason) = refl
 
 -- what happens by the step of a member
-abbrev happened : World → ℕ → Member → Result Step Refusal → Happening
+abbrev pub happened : World → ℕ → Member → Result Step Refusal → Happening
 happened w id m (Err reason) = only w (refused reason)
 happened w id out (Ok s) = only w absent
 happened w id (inside view states) (Ok s) = record { world = world_behind w view id s; did = taken s }
@@ -109,7 +115,7 @@ world_step mode stack plans w id input (inside view states) = go (entered stack 
   go (Err reason) = refl
 
 -- a member in its seat steps as the one of the world does
-placed_step : (mode : Mode) (stack : List LayerTree) (plans : List Plan) (w : World) (id : ℕ) (input : Input) (p : Placed) →
+pub placed_step : (mode : Mode) (stack : List LayerTree) (plans : List Plan) (w : World) (id : ℕ) (input : Input) (p : Placed) →
     seat_of p ≡ seat mode stack plans w.group w.stamp id → member_at w id ≡ p.member →
     stepped stack plans w id input ≡ happened w id p.member (step_of p input)
 placed_step mode stack plans w id input p sits at =
@@ -201,7 +207,7 @@ found_number : (w : World) (spelled : List (List ℕ)) (number : ℕ) → map fu
 found_number w spelled zero is = refl
 found_number w spelled (suc k) is = sym (slice_get-map full_bytes w.packets k) ∙ ap (λ xs. slice_get xs k) is
 
-given_is : (stack : List LayerTree) (plans : List Plan) (w : World) (id number : ℕ) (spelled : List (List ℕ)) (bytes : List ℕ) →
+pub given_is : (stack : List LayerTree) (plans : List Plan) (w : World) (id number : ℕ) (spelled : List (List ℕ)) (bytes : List ℕ) →
     map full_bytes w.packets ≡ spelled → Some bytes ≡ spelled_number spelled number →
     given stack plans w id (packet_number w number) ≡ stepped stack plans w id (datagram bytes)
 given_is stack plans w id number spelled bytes is found =
@@ -212,7 +218,7 @@ given_is stack plans w id number spelled bytes is found =
           let bytes_are : full_bytes packet ≡ bytes = cc same in
           ap (λ xs. stepped stack plans w id (datagram xs)) bytes_are
 
-absent_is : (stack : List LayerTree) (plans : List Plan) (w : World) (id number : ℕ) (spelled : List (List ℕ)) →
+pub absent_is : (stack : List LayerTree) (plans : List Plan) (w : World) (id number : ℕ) (spelled : List (List ℕ)) →
     map full_bytes w.packets ≡ spelled → None ≡ spelled_number spelled number →
     given stack plans w id (packet_number w number) ≡ only w absent
 absent_is stack plans w id number spelled is none =
@@ -221,51 +227,55 @@ absent_is stack plans w id number spelled is none =
       go None same = refl
       go (Some packet) same = absurd (cc same)
 
+-- where no input is given, nothing happens
+pub absent_fed : (c : Peopled) (w : World) (h : Happening) (outs : List (Output × Option ℕ)) (visits : ℕ) → outs ≡ [] → Stands c w →
+    h ≡ only w absent → IsFed c h c outs visits visits told.Absent
+absent_fed c w h outs visits none stands is = subst (λ x. IsFed c x c outs visits visits told.Absent) (sym is)
+    (record { world = stands; told = record { outs_are = none; visits_are = refl } })
+
+pub shown_fed : (c : Peopled) (w : World) (h : Happening) (outs : List (Output × Option ℕ)) (visits : ℕ) → outs ≡ [] → Stands c w →
+    h ≡ only w shown → IsFed c h c outs visits visits told.Shown
+shown_fed c w h outs visits none stands is = subst (λ x. IsFed c x c outs visits visits told.Shown) (sym is)
+    (record { world = stands; told = record { outs_are = none; visits_are = refl } })
+
 -- a group that is told by its parts
 module _ (c : Peopled) (mode : Mode) (stack : List LayerTree) (plans : List Plan) (group stamp : ℕ) (members : List Placed) (spelled : List (List ℕ))
-    (shown : kept mode stack plans group stamp members spelled ≡ c) where
+    (is_shown : kept mode stack plans group stamp members spelled ≡ c) where
   pub stays_behind : (more : List (List ℕ)) (place : ℕ) (p' : Placed) → Stays c (kept mode stack plans group stamp (set members place p') more)
   stays_behind more place p' = record {
-    mode = ap (λ x. x.mode) shown;
-    stack = ap (λ x. x.stack) shown;
-    plans = ap (λ x. x.plans) shown;
+    mode = ap (λ x. x.mode) is_shown;
+    stack = ap (λ x. x.stack) is_shown;
+    plans = ap (λ x. x.plans) is_shown;
     count = length-map (set members place p') member_of ∙ length-set members place p' ∙ sym (length-map members member_of) ∙
-        ap (λ x. length x.members) shown;
+        ap (λ x. length x.members) is_shown;
   }
-
-  pub absent_fed : (id number : ℕ) (outs : List (Output × Option ℕ)) (visits : ℕ) → None ≡ spelled_number spelled number → outs ≡ [] →
-      (w : World) → Stands c w → IsFed c (given c.stack c.plans w id (packet_number w number)) c outs visits visits told.Absent
-  absent_fed id number outs visits there none w stands =
-      let same = stands.spelled ∙ sym (ap (λ x. x.spelled) shown) in
-      subst (λ h. IsFed c h c outs visits visits told.Absent) (sym (absent_is c.stack c.plans w id number spelled same there))
-      (record { world = stands; told = record { outs_are = none; visits_are = refl } })
 
   module _ (id place : ℕ) (p : Placed) (seated : AreSeated mode stack plans group stamp members) (is_place : place ≡ id) (lt : id < length c.members)
       (found : p ≡ get_or members place p) where
-    within : id < length members
-    within = subst (λ n. id < n) (sym (ap (λ x. length x.members) shown) ∙ length-map members member_of) lt
+    pub within : id < length members
+    within = subst (λ n. id < n) (sym (ap (λ x. length x.members) is_shown) ∙ length-map members member_of) lt
+
+    pub mode_at : p.mode ≡ c.mode
+    mode_at =
+        let at_id = found ∙ ap (λ k. get_or members k p) is_place in
+        ap (λ (s : Seat). s.mode) (seat_at mode stack plans group stamp members id p seated within at_id) ∙ ap (λ x. x.mode) is_shown
 
     pub stack_at : p.stack ≡ c.stack
     stack_at =
         let at_id = found ∙ ap (λ k. get_or members k p) is_place in
-        ap (λ (s : Seat). s.stack) (seat_at mode stack plans group stamp members id p seated within at_id) ∙ ap (λ x. x.stack) shown
+        ap (λ (s : Seat). s.stack) (seat_at mode stack plans group stamp members id p seated within at_id) ∙ ap (λ x. x.stack) is_shown
 
     module _ (more : List (List ℕ)) (p' : Placed) (outs : List (Output × Option ℕ)) (before after : ℕ) (st : Stepped) where
       abbrev new : Peopled
       new = kept mode stack plans group stamp (set members place p') more
 
+      -- it is fed as whatever happens by that step
       pub step_fed : (input : Input) → Steps p input p' outs before after st → more ≡ spelled ++ spelled_of outs → (w : World) → Stands c w →
-          IsFed c (stepped c.stack c.plans w id input) new outs before after (told.Stepped st)
-      step_fed input is sent w stands =
-          let stands_there = subst (λ x. Stands x w) (sym shown) stands in
-          subst (λ (x : Peopled). IsFed x (stepped x.stack x.plans w id input) new outs before after (told.Stepped st)) shown
+          (h : Happening) → (map full_bytes w.packets ≡ spelled → h ≡ stepped c.stack c.plans w id input) →
+          IsFed c h new outs before after (told.Stepped st)
+      step_fed input is sent w stands h asks =
+          let stands_there = subst (λ x. Stands x w) (sym is_shown) stands in
+          subst (λ (x : Happening). IsFed c x new outs before after (told.Stepped st)) (sym (asks stands_there.spelled))
+          (subst (λ (x : Peopled). IsFed x (stepped x.stack x.plans w id input) new outs before after (told.Stepped st)) is_shown
           (kept_fed mode stack plans group stamp members spelled more id place p input p' outs before after st seated is_place within found is sent
-          w stands_there)
-
-      pub give_fed : (number : ℕ) (bytes : List ℕ) → Some bytes ≡ spelled_number spelled number → Steps p (datagram bytes) p' outs before after st →
-          more ≡ spelled ++ spelled_of outs → (w : World) → Stands c w →
-          IsFed c (given c.stack c.plans w id (packet_number w number)) new outs before after (told.Stepped st)
-      give_fed number bytes there is sent w stands =
-          let same = stands.spelled ∙ sym (ap (λ x. x.spelled) shown) in
-          subst (λ h. IsFed c h new outs before after (told.Stepped st)) (sym (given_is c.stack c.plans w id number spelled bytes same there))
-          (step_fed (datagram bytes) is sent w stands)
+          w stands_there))

@@ -1,3 +1,5 @@
+pub mod Asking
+pub mod Examining
 pub mod Opening
 pub mod Parts
 pub mod Seats

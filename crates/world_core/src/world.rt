@@ -6,13 +6,17 @@ ghost use Rattle.stack_mean.specs.Acceptance.{largest_weight};
 ghost use Rattle.file_layer.specs.Making.{making};
 ghost use Rattle.run_mean.specs.Member.{out as is_in_none};
 ghost use Rattle.run_mean.specs.World as mean;
-ghost use Rattle.view_core.specs.Steps.{input_meant};
 ghost use Rattle.bypass_member.specs.Opening.{CanOpen};
 ghost use Rattle.group_feed.specs.Feeding.{Fed};
+ghost use Rattle.group_feed.specs.Probing.{Probes};
+ghost use Rattle.job_mean.specs.Job.{bypass};
+ghost use Rattle.script_mean.specs.Event.{member_of};
+ghost use Rattle.world_core.specs.Examining.{IsExamined};
 ghost use Rattle.world_core.specs.Opening.{Begins};
 ghost use Rattle.group_feed.specs.Standing.{Stands, Stays};
 ghost use Rattle.msg_core.specs.View.{most_members};
 
+use crate::asked::{Asked, input_of};
 use crate::members::{close_all, open_all};
 use crate::packets::Packets;
 use bypass_member::{Member, OpenError, Opening};
@@ -22,12 +26,14 @@ use group_feed::Feed;
 use member_reads::Shown;
 use msg_core::Memory;
 use script_mean::ScriptEvent;
+use stack_checks::StackChecks;
 use stack_shapes::Plans;
 use std::alloc::{AllocError, Global};
 use std::marker::Model;
 use std::rc::Rc;
+use step_misses::Probed;
 use step_outputs::Outputs;
-use view_core::{Did, Input};
+use view_core::Did;
 
 /// The members of a group, by id, and every packet ever sent in it. A packet that is lost is one that is never given.
 pub struct World {
@@ -108,25 +114,34 @@ impl World {
         }
     }
 
-    /// A member is given an input.
+    /// An event is taken: its member steps by the input that it is given, if it is given one.
     #[inline(always)]
-    fn step(
+    fn take(
         &mut self,
-        id: u8,
-        input: Input<'_>,
+        event: &ScriptEvent,
         out: &mut Outputs,
         visits: &mut u64,
     ) -> Result<Did, Memory>
-        requires member { id < length self.old.members }
+        requires member { member_of event.now < length self.old.members }
         requires out { out.old.places ≡ largest_weight self.old.stack }
         requires visits { visits.old ≤ 2 ^ 63 }
         ensures fed { (w : mean.World) → Stands self.old w →
-            Fed self.old (mean.stepped self.old.stack self.old.plans w id (input_meant input.entry)) self.new out.new.outputs visits.old visits.new
-            result }
+            Fed self.old (mean.happens self.old.stack self.old.plans w event.now) self.new out.new.outputs visits.old visits.new result }
         ensures stays { Stays self.old self.new }
         ensures places { out.new.places ≡ out.old.places }
         ensures few { visits.new ≤ visits.old + 65536 }
     {
+        let (id, input) = match input_of(event, &self.packets) {
+            Asked::Step(id, input) => (id, input),
+            Asked::Absent => {
+                out.clear();
+                return Ok(Did::Absent);
+            }
+            Asked::Shown => {
+                out.clear();
+                return Ok(Did::Shown);
+            }
+        };
         let stepped = self.members[usize::from(id)].step(input, out, visits);
         match self.packets.keep(out) {
             Ok(()) => Ok(Did::Stepped(stepped)),
@@ -134,32 +149,31 @@ impl World {
         }
     }
 
-    /// Packet `number` reaches a member, as a datagram.
-    #[inline(always)]
-    fn give(
+    /// Tries an event as a common step of its member, by the checks of the group's stack.
+    pub(crate) fn probe(
         &mut self,
-        number: u32,
-        id: u8,
+        checks: &mut StackChecks,
+        event: &ScriptEvent,
         out: &mut Outputs,
-        visits: &mut u64,
-    ) -> Result<Did, Memory>
-        requires member { id < length self.old.members }
+    ) -> Result<Probed, Memory>
+        requires mode { self.old.mode ≡ bypass }
+        requires examined { IsExamined self.old.stack checks.old }
+        requires member { member_of event.now < length self.old.members }
         requires out { out.old.places ≡ largest_weight self.old.stack }
-        requires visits { visits.old ≤ 2 ^ 63 }
-        ensures fed { (w : mean.World) → Stands self.old w →
-            Fed self.old (mean.given self.old.stack self.old.plans w id (mean.packet_number w number)) self.new out.new.outputs visits.old
-            visits.new result }
+        ensures probed { (w : mean.World) → Stands self.old w →
+            Probes self.old (mean.happens self.old.stack self.old.plans w event.now) self.new result }
         ensures stays { Stays self.old self.new }
+        ensures checks { checks.new ≡ checks.old }
         ensures places { out.new.places ≡ out.old.places }
-        ensures few { visits.new ≤ visits.old + 65536 }
     {
-        let Some(datagram) = self.packets.numbered(number) else {
-            out.clear();
-            return Ok(Did::Absent);
+        let (id, input) = match input_of(event, &self.packets) {
+            Asked::Step(id, input) => (id, input),
+            Asked::Absent => return Ok(Probed::Other),
+            Asked::Shown => return Ok(Probed::Other),
         };
-        let stepped = self.members[usize::from(id)].step(Input::Datagram(datagram), out, visits);
+        let probed = self.members[usize::from(id)].probe(checks, input, out);
         match self.packets.keep(out) {
-            Ok(()) => Ok(Did::Stepped(stepped)),
+            Ok(()) => Ok(probed),
             Err(Memory) => Err(Memory),
         }
     }
@@ -191,29 +205,13 @@ impl Feed for World {
     ghost group = { λ w. w };
 
     #[inline(always)]
-    #[tactic(auto, unfolding(run_mean::specs::World::happens))]
     fn feed(
         &mut self,
         event: &ScriptEvent,
         out: &mut Outputs,
         visits: &mut u64,
     ) -> Result<Did, Memory> {
-        match event {
-            ScriptEvent::Cast(id, body) => self.step(*id, Input::Cast(body.slice()), out, visits),
-            ScriptEvent::Send(id, to, body) => {
-                self.step(*id, Input::Send(*to, body.slice()), out, visits)
-            }
-            ScriptEvent::Leave(id) => self.step(*id, Input::Leave, out, visits),
-            ScriptEvent::Tick(id, moment) => self.step(*id, Input::Tick(*moment), out, visits),
-            ScriptEvent::Give(number, id) => self.give(*number, *id, out, visits),
-            ScriptEvent::Raw(id, bytes) => {
-                self.step(*id, Input::Datagram(bytes.slice()), out, visits)
-            }
-            ScriptEvent::Show(_) => {
-                out.clear();
-                Ok(Did::Shown)
-            }
-        }
+        self.take(event, out, visits)
     }
 
     fn next_number(&self) -> u64 {

@@ -1,0 +1,35 @@
+use Rattle.std.proofs.Common.{◌≤◌, ◌∙◌, List, map, length, sym, ap, subst}
+use Rattle.msg_core.specs.Parts.{longest_body}
+use Rattle.file_layer.specs.Layer.{state_in}
+use Rattle.file_layer.specs.declared.layer.FileLayer.{FileLayer}
+use Rattle.trace_reads.specs.Registers.{input_of}
+use Rattle.bypass_member.specs.Judged.{entry_meant}
+use Rattle.bypass_member.specs.Stepping.{mode_of, plans_in, stack_of}
+use Rattle.bypass_member.specs.Working.{states_in}
+use Rattle.bypass_member.proofs.Probing.{body_short, in_no_case, lacks_none, lacks_some}
+use Rattle.bypass_member.proofs.probes.lacked.Goals as goal
+
+pub returns-then-not-is_told-clause-lacks : goal.returns-then-not-is_told-clause-lacks
+returns-then-not-is_told-clause-lacks c =
+    let g = c.args.ground.now in
+    let what = entry_meant g.here c.args.entry.now in
+    lacks_none g c.args.works.now what (in_no_case (mode_of g) g (states_in c.args.works.now) what c.requires.mode c.requires.uncommon)
+    (sym (c.is_told.ensures g.here (plans_in g)) ∙ c.if-not-is_told.true)
+
+pub given_of-given-requires-clause-fields : goal.given_of-given-requires-clause-fields
+given_of-given-requires-clause-fields c = c.as_slice.ensures.value ∙ c.keep_fields.ensures.fields c.args.ground.now.here
+
+pub miss-requires-clause-body : goal.miss-requires-clause-body
+miss-requires-clause-body c =
+    subst (λ body. length body ≤ longest_body) (sym c.given_of-given.ensures.body)
+    (body_short (stack_of c.args.ground.now) c.args.ground.now.here c.args.entry.now c.requires.entered)
+
+pub returns-clause-lacks : goal.returns-clause-lacks
+returns-clause-lacks c =
+    let g = c.args.ground.now in
+    let what = entry_meant g.here c.args.entry.now in
+    lacks_some g c.args.works.now what (in_no_case (mode_of g) g (states_in c.args.works.now) what c.requires.mode c.requires.uncommon)
+    c.requires.ground c.requires.is_in c.requires.sound c.args.checks.now c.requires.checks c.requires.entered c.misses_are_told.ensures
+    (sym (c.is_told.ensures g.here (plans_in g)) ∙ c.if-not-is_told.false) c.args.what (c.requires.what g.here)
+    (input_of c.given_of-given.result) c.given_of-given.ensures.given _
+    (ap (λ (layers : List FileLayer). map (state_in c.args.works.now.pool) layers) c.as_slice-2.ensures.value) c.miss.result c.miss.ensures.miss

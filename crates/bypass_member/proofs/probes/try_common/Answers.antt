@@ -1,0 +1,24 @@
+use Rattle.std.proofs.Common.{ap, true}
+use Rattle.step_outputs.specs.Gathered.{Gathered}
+use Rattle.bypass_member.specs.Judged.{entry_meant}
+use Rattle.bypass_member.proofs.Probing.{not_made}
+use Rattle.bypass_member.proofs.Taking.{taken}
+use Rattle.bypass_member.proofs.probes.try_common.Goals as goal
+
+pub change_view-requires-clause-ready : goal.change_view-requires-clause-ready
+change_view-requires-clause-ready c = (c.if-make_by_code.ensures.made 0).ready
+
+pub change_view-requires-clause-members : goal.change_view-requires-clause-members
+change_view-requires-clause-members c = (c.if-make_by_code.ensures.made 0).members
+
+pub returns-then-make_by_code-clause-attempts : goal.returns-then-make_by_code-clause-attempts
+returns-then-make_by_code-clause-attempts c =
+    taken c.args.ground.now c.args.works.now (entry_meant c.args.ground.now.here c.args.entry.now) c.make_by_code.new.works
+    c.change_view.new.works c.make_by_code.new.out 0 0 true c.change_view.result c.requires.ground c.requires.is_in.inside_is.states_are
+    c.requires.entered (c.if-make_by_code.ensures.made 0) c.change_view.ensures
+
+pub returns-clause-attempts : goal.returns-clause-attempts
+returns-clause-attempts c =
+    not_made c.args.ground.now c.args.works.now c.make_by_code.new.works (entry_meant c.args.ground.now.here c.args.entry.now)
+    c.if-make_by_code.ensures.made.same c.requires.ready c.requires.is_in c.clear.new.self (ap (λ (o : Gathered). o.outputs) c.clear.ensures)
+    c.lacked.result c.lacked.ensures.lacks

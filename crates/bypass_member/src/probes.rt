@@ -1,0 +1,137 @@
+//! What entered, tried as a common step.
+
+ghost use Rattle.std.specs.Prelude.{◌≡◌, ℕ, List, Option, is_some, vec_capacity};
+ghost use Rattle.std.specs.List.{AllByRecursion};
+ghost use Rattle.bypass_laws.specs.Making.{IsSound};
+ghost use Rattle.job_mean.specs.Job.{bypass};
+ghost use Rattle.member_laws.specs.Members.{IsEntered};
+ghost use Rattle.miss_laws.specs.Told.{AreChecksOf};
+ghost use Rattle.miss_mean.specs.Lacks.{entry_named};
+ghost use Rattle.packet_mean.specs.declared.here.Here as stands;
+ghost use Rattle.run_mean.specs.Member as member;
+ghost use Rattle.stack_mean.specs.Acceptance.{largest_weight};
+ghost use Rattle.stack_mean.specs.Plan as mean;
+ghost use Rattle.stack_shapes.specs.Entries.{entry_for};
+ghost use Rattle.bypass_member.specs.Attempting.{Attempts};
+ghost use Rattle.bypass_member.specs.Judged.{entry_meant, LiesWithin};
+ghost use Rattle.bypass_member.specs.Placed.{Placed};
+ghost use Rattle.bypass_member.specs.Probing.{IsNotTaken, Lacks, ProbesMember, StandsWhere};
+ghost use Rattle.bypass_member.specs.Serving.{HasAtMost, IsSpare};
+ghost use Rattle.bypass_member.specs.Stepping.{codes_in, mode_of, plans_in, stack_of, step_over, IsGround};
+ghost use Rattle.bypass_member.specs.Trying.{IsUncommon};
+ghost use Rattle.bypass_member.specs.Viewing.{IsIn};
+ghost use Rattle.bypass_member.specs.Working.{states_in, IsReady};
+
+use crate::commons::{given_of, keep_fields};
+use crate::entry::{Entry, entry_of};
+use crate::ground::Ground;
+use crate::scratch::Scratch;
+use crate::steps::make_by_code;
+use crate::views::change_view;
+use crate::works::Works;
+use miss_laws::misses_are_told;
+use stack_checks::StackChecks;
+use stack_shapes::EntryOf;
+use step_misses::{Miss, Probed};
+use step_outputs::Outputs;
+use view_core::Change;
+
+/// What it comes to that what entered is tried as a common step: it was made, and where the member is behind it, if it installed something; or
+/// nothing has changed, and what the step lacks, if that is told of it.
+#[derive(Clone, Copy)]
+pub(crate) enum Attempt {
+    Made(Option<Change>),
+    Left(Option<Miss>),
+}
+
+/// Whether it is told of what entered what its step lacks: a leave and a tick are never common.
+fn is_told(entry: &Entry<'_>) -> bool
+    ensures { (here : stands.Here) (plans : List mean.Plan) → result ≡ is_some (entry_named plans (entry_meant here entry.now)) }
+{
+    match entry {
+        Entry::Cast(_) => true,
+        Entry::Send(_, _) => true,
+        Entry::Leave => false,
+        Entry::Tick(_) => false,
+        Entry::Packet(_, _) => true,
+    }
+}
+
+/// What the step of what entered lacks, which isn't common, if that is told of it. The fields of a packet are kept for that.
+fn lacked<'x>(
+    works: &Works,
+    fields: &'x mut Vec<u32>,
+    ground: &Ground<'_>,
+    what: EntryOf,
+    entry: &'x Entry<'_>,
+    checks: &mut StackChecks,
+) -> Option<Miss>
+    requires ground { IsGround ground.now }
+    requires mode { mode_of ground.now ≡ bypass }
+    requires sound { IsSound (stack_of ground.now) }
+    requires checks { AreChecksOf (stack_of ground.now) checks.old }
+    requires ready { IsReady (stack_of ground.now) ground.now.most works.now }
+    requires is_in { IsIn (stack_of ground.now) ground.now.most ground.now.here.view ground.now.id (states_in works.now) }
+    requires room { AllByRecursion (HasAtMost (vec_capacity fields.old)) (plans_in ground.now) }
+    requires entered { IsEntered (stack_of ground.now) (entry_meant ground.now.here entry.now) }
+    requires lies { LiesWithin entry.now }
+    requires what { (here : stands.Here) → what ≡ entry_for (plans_in ground.now) (entry_meant here entry.now) }
+    requires uncommon { IsUncommon (mode_of ground.now) ground.now (states_in works.now) (entry_meant ground.now.here entry.now) }
+    ensures lacks { Lacks (stack_of ground.now) (plans_in ground.now)
+        (step_over ground.now (states_in works.now) (entry_meant ground.now.here entry.now)) result }
+    ensures checks { checks.new ≡ checks.old }
+    ensures capacity { vec_capacity fields.new ≡ vec_capacity fields.old }
+{
+    if !is_told(entry) {
+        return None;
+    }
+    misses_are_told();
+    keep_fields(ground.plans, what, entry, fields);
+    let given = given_of(ground.plans, &ground.here, entry, fields.as_slice());
+    Some(checks.miss(what, &given, works.layers.as_slice(), &works.pool))
+}
+
+/// Makes the step of what entered, if it is a common one; else nothing changes, and it is told what it lacks.
+pub(crate) fn try_common(
+    works: &mut Works,
+    scratch: &mut Scratch,
+    ground: &Ground<'_>,
+    entry: &Entry<'_>,
+    checks: &mut StackChecks,
+    out: &mut Outputs,
+) -> Attempt
+    requires ground { IsGround ground.now }
+    requires mode { mode_of ground.now ≡ bypass }
+    requires sound { IsSound (stack_of ground.now) }
+    requires checks { AreChecksOf (stack_of ground.now) checks.old }
+    requires ready { IsReady (stack_of ground.now) ground.now.most works.old }
+    requires spare { IsSpare (codes_in ground.now) (plans_in ground.now) scratch.old }
+    requires is_in { IsIn (stack_of ground.now) ground.now.most ground.now.here.view ground.now.id (states_in works.old) }
+    requires entered { IsEntered (stack_of ground.now) (entry_meant ground.now.here entry.now) }
+    requires lies { LiesWithin entry.now }
+    requires out { out.old.places ≡ largest_weight (stack_of ground.now) }
+    ensures attempts { Attempts ground.now works.old (entry_meant ground.now.here entry.now) works.new out.new result }
+    ensures spare { IsSpare (codes_in ground.now) (plans_in ground.now) scratch.new }
+    ensures checks { checks.new ≡ checks.old }
+    ensures places { out.new.places ≡ out.old.places }
+{
+    let what = entry_of(ground.plans, entry);
+    if make_by_code(works, scratch, ground, what, &*entry, out) {
+        let view = ground.here.view;
+        return Attempt::Made(change_view(works, ground.stack, ground.most, view, ground.id, out));
+    }
+    out.clear();
+    Attempt::Left(lacked(works, &mut scratch.fields, ground, what, &*entry, checks))
+}
+
+/// What is answered where the step of an input isn't made.
+pub(crate) fn probed_of(miss: Option<Miss>) -> Probed
+    ensures probed { (old : Placed) (input : member.Input) (new : Placed) (outs : List (member.Output × Option ℕ)) →
+        IsNotTaken old input new outs miss → ProbesMember old input new outs result }
+    ensures here { (p : Placed) (here : stands.Here) → StandsWhere p here result }
+{
+    match miss {
+        Some(miss) => Probed::Missed(miss),
+        None => Probed::Other,
+    }
+}
