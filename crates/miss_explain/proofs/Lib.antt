@@ -1,0 +1,10 @@
+mod Passing
+mod Decisions
+mod Numbers
+mod Finding
+mod Layers
+mod Spots
+mod Told
+mod Words
+mod Going
+mod Events

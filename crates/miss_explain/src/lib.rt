@@ -1,0 +1,18 @@
+//! Why the steps of a script weren't common, written line by line: what each case of such a step lacked, and where in the layers' texts the
+//! decision stands that left the prediction.
+#![tactic(auto)]
+
+mod handlers;
+mod kept;
+mod lack;
+mod meeting;
+mod miss;
+mod script;
+mod search;
+mod spot;
+mod statements;
+mod texts;
+
+pub use miss::write_miss;
+pub use script::explain;
+pub use texts::Texts;

@@ -1,0 +1,174 @@
+//! The lines of a script.
+
+ghost use Rattle.std.specs.Prelude.{◌≡◌, ◌∷◌, ◌<◌, ◌≤◌, [], length};
+ghost use Rattle.event_graph.specs.Answer.{stack_tree};
+ghost use Rattle.group_feed.specs.Standing.{Stands, Stays};
+ghost use Rattle.layer_ast.specs.View.{file_tree};
+ghost use Rattle.miss_mean.specs.Text.{explained_lines};
+ghost use Rattle.outside.specs.Lines.{Wrote};
+ghost use Rattle.outside.specs.Tells.{tells_of};
+ghost use Rattle.run_mean.specs.Report as report;
+ghost use Rattle.run_mean.specs.World as mean;
+ghost use Rattle.script_mean.specs.Event.{member_of};
+ghost use Rattle.script_mean.specs.Lines.{most_lines};
+ghost use Rattle.script_mean.specs.Script.{IsRunnable};
+ghost use Rattle.stack_mean.specs.Acceptance.{largest_weight};
+ghost use Rattle.stack_shapes.specs.Shapes.{short_shapes};
+ghost use Rattle.stack_shapes.specs.Trees.{plans_tree};
+ghost use Rattle.miss_explain.specs.Explaining.{Explains, FedOn, Follows, IsAtFirst, IsReady, Keeps, MayBeTold, SomeWorld, probed_lines, script_misses};
+
+use crate::miss::write_miss;
+use crate::texts::Texts;
+use group_feed::Probe;
+use msg_core::Memory;
+use outside::{Sink, SinkError, put_line};
+use report_lines::{Line, end_line};
+use script_mean::{Script, ScriptEvent, member_of};
+use std::alloc::Global;
+use step_misses::Probed;
+use step_outputs::Outputs;
+
+/// Feeds an event. How many visits it makes isn't told.
+fn feed<P: Probe>(probe: &mut P, event: &ScriptEvent, outputs: &mut Outputs) -> Result<(), Memory>
+    requires member { member_of event.now < length (P.group probe.old).members }
+    requires places { outputs.old.places ≡ largest_weight (P.group probe.old).stack }
+    ensures fed { (w : mean.World) → Stands (P.group probe.old) w → FedOn (P.group probe.old) event.now w (P.group probe.new) result }
+    ensures stays { Stays (P.group probe.old) (P.group probe.new) }
+    ensures places { outputs.new.places ≡ outputs.old.places }
+{
+    let mut visits = 0;
+    match probe.feed(event, outputs, &mut visits) {
+        Ok(_) => Ok(()),
+        Err(Memory) => Err(Memory),
+    }
+}
+
+/// Feeds an event that was probed, unless it was made as a common step.
+fn feed_uncommon<P: Probe>(
+    probe: &mut P,
+    probed: Probed,
+    event: &ScriptEvent,
+    outputs: &mut Outputs,
+) -> Result<(), Memory>
+    requires member { member_of event.now < length (P.group probe.old).members }
+    requires places { outputs.old.places ≡ largest_weight (P.group probe.old).stack }
+    ensures follows { (w : mean.World) → Stands (P.group probe.old) w → Follows probed (P.group probe.old) event.now w (P.group probe.new) result }
+    ensures stays { Stays (P.group probe.old) (P.group probe.new) }
+    ensures places { outputs.new.places ≡ outputs.old.places }
+{
+    match probed {
+        Probed::Common => Ok(()),
+        Probed::Other => feed(probe, event, outputs),
+        Probed::Missed(_) => feed(probe, event, outputs),
+    }
+}
+
+/// Puts the line of a member's event that was probed, if it lacked something.
+fn write_probed<O: Sink>(
+    line: &mut Line,
+    texts: Texts<'_>,
+    number: u64,
+    member: u8,
+    probed: Probed,
+    out: &mut O,
+) -> Result<(), SinkError>
+    requires entries { texts.entries.now ≡ short_shapes (stack_tree texts.stack.now) (plans_tree texts.plans.now) }
+    requires told { MayBeTold (stack_tree texts.stack.now) (plans_tree texts.plans.now) probed }
+    ensures { Wrote (probed_lines (file_tree texts.entry.file.now) (stack_tree texts.entry.stack.now) (plans_tree texts.entry.plans.now) number member probed)
+        (tells_of O.Sink out.old) (tells_of O.Sink out.new) result }
+{
+    match probed {
+        Probed::Common => Ok(()),
+        Probed::Other => Ok(()),
+        Probed::Missed(miss) => write_miss(line, texts, number, member, &miss, out),
+    }
+}
+
+/// Explains the event with this number.
+fn explain_event<P: Probe, O: Sink>(
+    line: &mut Line,
+    probe: &mut P,
+    texts: Texts<'_>,
+    number: u64,
+    event: &ScriptEvent,
+    outputs: &mut Outputs,
+    out: &mut O,
+) -> Result<(), SinkError>
+    requires entries { texts.entries.now ≡ short_shapes (stack_tree texts.stack.now) (plans_tree texts.plans.now) }
+    requires ready { IsReady (stack_tree texts.stack.now) (plans_tree texts.plans.now) (P.group probe.old) outputs.old.places }
+    requires world { SomeWorld (P.group probe.old) }
+    requires member { member_of event.now < length (P.group probe.old).members }
+    ensures kept { Keeps (stack_tree texts.entry.stack.now) (plans_tree texts.entry.plans.now) (P.group probe.old) (P.group probe.new) outputs.new.places }
+    ensures told { (w : mean.World) → Stands (P.group probe.old) w →
+        Explains (file_tree texts.entry.file.now) (stack_tree texts.entry.stack.now) (plans_tree texts.entry.plans.now) number w event.now (P.group probe.new)
+        (tells_of O.Sink out.old) (tells_of O.Sink out.new) result }
+{
+    match probe.probe(event, outputs) {
+        Ok(probed) => {
+            write_probed(line, texts, number, member_of(event), probed, out)?;
+            match feed_uncommon(probe, probed, event, outputs) {
+                Ok(()) => Ok(()),
+                Err(Memory) => Err(SinkError::Memory),
+            }
+        }
+        Err(Memory) => Err(SinkError::Memory),
+    }
+}
+
+/// Explains all events of a script.
+fn explain_events<P: Probe, O: Sink>(
+    line: &mut Line,
+    probe: &mut P,
+    texts: Texts<'_>,
+    script: &Script,
+    outputs: &mut Outputs,
+    out: &mut O,
+) -> Result<(), SinkError>
+    requires entries { texts.entries.now ≡ short_shapes (stack_tree texts.stack.now) (plans_tree texts.plans.now) }
+    requires first { IsAtFirst (stack_tree texts.stack.now) (plans_tree texts.plans.now) script.now (P.group probe.old) outputs.old.places }
+    requires runs { IsRunnable script.now }
+    requires few { length script.now.events ≤ most_lines }
+    ensures { Wrote (script_misses (file_tree texts.entry.file.now) (stack_tree texts.entry.stack.now) (plans_tree texts.entry.plans.now) script.now)
+        (tells_of O.Sink out.old) (tells_of O.Sink out.new) result }
+{
+    let events = script.events.slice();
+    for index in 0..events.len() {
+        let number = index as u64 + 1;
+        explain_event(line, probe, texts, number, &events[index], outputs, out)?;
+    }
+    Ok(())
+}
+
+/// Puts the last line.
+fn write_end<O: Sink>(line: &mut Line, events: u64, out: &mut O) -> Result<(), SinkError>
+    ensures { Wrote (report.end_line events ∷ [])
+        (tells_of O.Sink out.old) (tells_of O.Sink out.new) result }
+{
+    line.clear();
+    match end_line(line, events) {
+        Ok(()) => put_line(line.slice(), out),
+        Err(Memory) => Err(SinkError::Memory),
+    }
+}
+
+/// Explains a script with a group that begins, runs by bypasses and tells of an event why it is no common step: of each step that isn't common its
+/// line is put, then the last line.
+pub fn explain<P: Probe, O: Sink>(
+    alloc: Global,
+    probe: &mut P,
+    texts: Texts<'_>,
+    script: &Script,
+    outputs: &mut Outputs,
+    out: &mut O,
+) -> Result<(), SinkError>
+    requires entries { texts.entries.now ≡ short_shapes (stack_tree texts.stack.now) (plans_tree texts.plans.now) }
+    requires first { IsAtFirst (stack_tree texts.stack.now) (plans_tree texts.plans.now) script.now (P.group probe.old) outputs.old.places }
+    requires runs { IsRunnable script.now }
+    requires few { length script.now.events ≤ most_lines }
+    ensures { Wrote (explained_lines (file_tree texts.entry.file.now) (stack_tree texts.entry.stack.now) (plans_tree texts.entry.plans.now) script.now)
+        (tells_of O.Sink out.old) (tells_of O.Sink out.new) result }
+{
+    let mut line = Line::new(alloc);
+    explain_events(&mut line, probe, texts, script, outputs, out)?;
+    write_end(&mut line, script.events.slice().len() as u64, out)
+}
