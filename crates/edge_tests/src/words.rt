@@ -28,6 +28,10 @@ fn said(alloc: Global, texts: &[&str]) -> Result<String, AllocError> {
             replay.wire,
             replay.count
         ),
+        Some(Job::Explain(explain)) => format!(in alloc;
+            "explain {} {}",
+            explain.file, explain.script
+        ),
         Some(Job::Load(load)) => format!(in alloc;
             "load {} {} {} {} {}",
             load.file, load.seed, load.events, load.members, load.raw
@@ -52,13 +56,14 @@ fn said(alloc: Global, texts: &[&str]) -> Result<String, AllocError> {
 #[test]
 fn reads_each_job(rt: HostRuntime) -> Result<(), Fail> {
     let alloc = rt.alloc();
-    let cases: [(&[&str], &str); 8] = [
+    let cases: [(&[&str], &str); 9] = [
         (&["check", "f"], "check f"),
         (&["synth", "--", "--f"], "synth --f"),
         (
             &["replay", "--wire", "f", "--run=layered", "s"],
             "replay f s true true false",
         ),
+        (&["explain", "f", "s"], "explain f s"),
         (
             &[
                 "load",

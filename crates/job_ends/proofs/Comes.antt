@@ -5,8 +5,8 @@ use Rattle.std.specs.List.{concat}
 use Rattle.std.specs.Option.{option_map}
 use Rattle.clap.specs.Walk.{Text}
 use Rattle.outside.specs.Shelf.{Shelved, found_in, after_read}
-use Rattle.program_laws.proofs.Files.{one_meaning}
-use Rattle.job_mean.specs.Job.{Job, check, synth, replay, load, node, audit}
+use Rattle.program_laws.proofs.Files.{one_file, one_meaning}
+use Rattle.job_mean.specs.Job.{Job, check, synth, replay, explain, load, node, audit}
 use Rattle.job_mean.specs.Status.{Ended, done, breached, write_failed, no_memory}
 use Rattle.program_mean.specs.Headline.{Run, second_for, whole_end, WritesOf}
 use Rattle.script_mean.specs.Generate.{generate}
@@ -18,6 +18,7 @@ use Rattle.stack_mean.specs.Plans.{plans_of}
 use Rattle.run_mean.specs.Report.{output_in}
 use Rattle.run_mean.specs.Tally.{tally, accepted_lines}
 use Rattle.program_mean.specs.Output.{finding_line}
+use Rattle.miss_mean.specs.Text.{explained_lines}
 use Rattle.bypass_mean.specs.Lines.{printed_lines}
 use Rattle.bypass_laws.specs.Printed.{synth_lines, synth_text}
 use Rattle.std.specs.Prelude.{Result, Ok}
@@ -70,6 +71,17 @@ writes_of (replay name script mode wire count) r file second lines o none = (
   },
   none,
 )
+writes_of (explain name script) r file second lines o none = (
+  record {
+    stack = o.stack;
+    means = o.means;
+    script = o.script;
+    spelled = o.spelled;
+    room = o.room;
+    written = ap concat o.written;
+  },
+  none,
+)
 writes_of (load name seed events members raw mode) r file second lines o none =
     (record { stack = o.stack; means = o.means; room = o.room; written = ap concat o.written }, none)
 writes_of (node name plan turns me patience mode) r file second lines o none = absurd o
@@ -88,6 +100,12 @@ output_once (replay name script mode wire count) file second one other x y =
     let both : ◌≡◌ {A = Result Script ScriptFault} (Ok x.script) (Ok y.script) = sym x.spelled ∙ y.spelled in
     let same : x.script ≡ y.script = cc (both) in
     x.written ∙ (λ k. output_in (stack k) (plans_of (stack k)) (same k) mode wire count) ∙ sym y.written
+output_once (explain name script) file second one other x y =
+    let stack = one_meaning file x.stack y.stack x.means y.means in
+    let tree = one_file file x.means.file y.means.file x.means.is_file y.means.is_file in
+    let both : ◌≡◌ {A = Result Script ScriptFault} (Ok x.script) (Ok y.script) = sym x.spelled ∙ y.spelled in
+    let same : x.script ≡ y.script = cc (both) in
+    x.written ∙ (λ k. explained_lines (tree k) (stack k) (plans_of (stack k)) (same k)) ∙ sym y.written
 output_once (load name seed events members raw mode) file second one other x y =
     let stack = one_meaning file x.stack y.stack x.means y.means in
     x.written ∙ ap (λ s. tally s (plans_of s) mode (generate seed events members raw)) stack ∙ sym y.written
@@ -106,6 +124,7 @@ pub beside_once : (job : Job) (shelf : Shelved) (one other : Option (List ℕ)) 
 beside_once (check name) shelf one other x y = x ∙ sym y
 beside_once (synth name) shelf one other x y = x ∙ sym y
 beside_once (replay name script mode wire count) shelf one other x y = sym x ∙ y
+beside_once (explain name script) shelf one other x y = sym x ∙ y
 beside_once (load name seed events members raw mode) shelf one other x y = x ∙ sym y
 beside_once (node name plan turns me patience mode) shelf one other x y = sym x ∙ y
 beside_once (audit name law) shelf one other x y = x ∙ sym y
@@ -116,6 +135,7 @@ pub second_read : (job : Job) (told : Option Shelved) (text : List ℕ) → Besi
 second_read (check name) told text is = (None, sym is)
 second_read (synth name) told text is = (None, sym is)
 second_read (replay name script mode wire count) told text is = (Some text, refl)
+second_read (explain name script) told text is = (Some text, refl)
 second_read (load name seed events members raw mode) told text is = (None, sym is)
 second_read (node name plan turns me patience mode) told text is = (Some text, refl)
 second_read (audit name law) told text is = (None, sym is)
@@ -125,6 +145,7 @@ pub second_missed : (job : Job) (told : Option Shelved) → Beside job told None
 second_missed (check name) told is = absurd (cc is)
 second_missed (synth name) told is = absurd (cc is)
 second_missed (replay name script mode wire count) told is = refl
+second_missed (explain name script) told is = refl
 second_missed (load name seed events members raw mode) told is = absurd (cc is)
 second_missed (node name plan turns me patience mode) told is = refl
 second_missed (audit name law) told is = absurd (cc is)
@@ -142,6 +163,7 @@ pub next_second : (job : Job) (told : Option Shelved) → (second : Option (List
 next_second (check name) told = (None, refl)
 next_second (synth name) told = (None, refl)
 next_second (replay name script mode wire count) told = found_at (option_map after_read told) script
+next_second (explain name script) told = found_at (option_map after_read told) script
 next_second (load name seed events members raw mode) told = (None, refl)
 next_second (node name plan turns me patience mode) told = found_at (option_map after_read told) plan
 next_second (audit name law) told = (None, refl)

@@ -7,7 +7,7 @@ use Rattle.outside.specs.Shelf.{Shelved}
 use Rattle.audit_mean.specs.Finding.{AuditFault, audit_of}
 use Rattle.audit_mean.specs.declared.law.Finding.{Finding}
 use Rattle.audit_mean.specs.declared.law.Finding.TheVariants.{Holds, Breach}
-use Rattle.job_mean.specs.Job.{Job, check, synth, replay, load, node, audit, job_of_words}
+use Rattle.job_mean.specs.Job.{Job, check, synth, replay, explain, load, node, audit, job_of_words}
 use Rattle.job_mean.specs.Status.{Ended, done, breached, file_refused, report_refused, words_refused, second_refused, read_failed, write_failed, link_failed, no_memory, status_number}
 use Rattle.bypass_laws.specs.Printed.{synth_text}
 use Rattle.program_mean.specs.Headline.{IsNoReport, end_found, whole_end, second_for}
@@ -72,6 +72,7 @@ whole_number : (job : Job) (file : List ℕ) → IsWhole (status_number (whole_e
 whole_number (check name) file = inl refl
 whole_number (synth name) file = inl refl
 whole_number (replay name script mode wire count) file = inl refl
+whole_number (explain name script) file = inl refl
 whole_number (load name seed events members raw mode) file = inl refl
 whole_number (node name plan turns me patience mode) file = inl refl
 whole_number (audit name law) file = go (audit_of law file) where
@@ -110,6 +111,7 @@ module _ (words : List Text) (job : Job) (a : Around) (e : Errors) (is : job_of_
       go (check name) named refused = absurd refused
       go (synth name) named refused = absurd refused
       go (replay name script mode wire count) named refused = absurd refused
+      go (explain name script) named refused = absurd refused
       go (load name seed events members raw mode) named refused = absurd refused
       go (node name plan turns me patience mode) named refused = absurd refused
 

@@ -8,7 +8,7 @@ use Rattle.audit_mean.specs.Finding.{AuditFault}
 use Rattle.std.specs.Io.KnownBytes.{Appends}
 use Rattle.clap.specs.Walk.{Text}
 use Rattle.outside.proofs.Appended.{appends_none}
-use Rattle.job_mean.specs.Job.{Job, check, synth, replay, load, node, audit, job_of_words}
+use Rattle.job_mean.specs.Job.{Job, check, synth, replay, explain, load, node, audit, job_of_words}
 use Rattle.job_mean.specs.Status.{Ended, done, breached, file_refused, report_refused, words_refused, second_refused, read_failed, write_failed, link_failed, no_memory, status_number, error_line}
 use Rattle.bypass_laws.specs.Printed.{synth_text}
 use Rattle.program_mean.specs.Judged.{IsGood}
@@ -45,6 +45,7 @@ report_second (audit name law) file fault refused told = (refl, refl)
 report_second (check name) file fault refused told = absurd refused
 report_second (synth name) file fault refused told = absurd refused
 report_second (replay name script mode wire count) file fault refused told = absurd refused
+report_second (explain name script) file fault refused told = absurd refused
 report_second (load name seed events members raw mode) file fault refused told = absurd refused
 report_second (node name plan turns me patience mode) file fault refused told = absurd refused
 

@@ -15,10 +15,11 @@ use Rattle.script_mean.specs.Generate.{generate}
 use Rattle.script_mean.specs.Script.{script_of}
 use Rattle.script_mean.specs.declared.script.Script.{Script}
 use Rattle.stack_mean.specs.Plans.{plans_of}
-use Rattle.job_mean.specs.Job.{Mode, Job, check, synth, replay, load, node, audit}
+use Rattle.job_mean.specs.Job.{Mode, Job, check, synth, replay, explain, load, node, audit}
 use Rattle.job_mean.specs.Status.{FileFault, SecondFault, Ended, done, breached, file_refused, report_refused, words_refused, second_refused, read_failed, write_failed, no_memory}
 use Rattle.run_mean.specs.Report.{output_in}
 use Rattle.run_mean.specs.Tally.{tally, accepted_lines}
+use Rattle.miss_mean.specs.Text.{explained_lines}
 use Rattle.bypass_mean.specs.Bypasses.{Bypasses}
 use Rattle.bypass_mean.specs.Lines.{printed_lines}
 use Rattle.bypass_laws.specs.Making.{bypasses_of, simplest}
@@ -69,6 +70,7 @@ abbrev pub file_name : Job → Text
 file_name (check file) = file
 file_name (synth file) = file
 file_name (replay file script mode wire count) = file
+file_name (explain file script) = file
 file_name (load file seed events members raw mode) = file
 file_name (node file plan turns me patience mode) = file
 file_name (audit file law) = file
@@ -80,6 +82,7 @@ Finds job told found = IfSome told (λ shelf. found_in shelf (file_name job) ≡
 -- What the read of its second file finds behind that; a job that has none reads as if it were empty.
 abbrev pub Beside : Job → Option Shelved → Option (List ℕ) → Type 0
 Beside (replay file script mode wire count) told found = IfSome (option_map after_read told) (λ shelf. found_in shelf script ≡ found)
+Beside (explain file script) told found = IfSome (option_map after_read told) (λ shelf. found_in shelf script ≡ found)
 Beside (node file plan turns me patience mode) told found = IfSome (option_map after_read told) (λ shelf. found_in shelf plan ≡ found)
 Beside _ told found = found ≡ Some []
 
@@ -113,6 +116,15 @@ pub record Replayed (file text : List ℕ) (mode : Mode) (wire count : Bool) (li
   pub room : HasRoom stack script.members
   pub written : lines ≡ output_in stack (plans_of stack) script mode wire count
 
+-- That of an explanation.
+pub record Explained (file text : List ℕ) (lines : List (List ℕ)) : Type 0 where
+  pub stack : List LayerTree
+  pub means : Means file stack
+  pub script : Script
+  pub spelled : script_of text ≡ Ok script
+  pub room : HasRoom stack script.members
+  pub written : lines ≡ explained_lines means.file stack (plans_of stack) script
+
 -- That of a load.
 pub record Loaded (file : List ℕ) (seed events members : ℕ) (raw : Bool) (mode : Mode) (lines : List (List ℕ)) : Type 0 where
   pub stack : List LayerTree
@@ -125,6 +137,7 @@ IsOutput (check name) file second lines = Checked file lines
 IsOutput (synth name) file second lines = Synthesized file lines
 IsOutput (audit name law) file second lines = Audited file law lines
 IsOutput (replay name script mode wire count) file second lines = Replayed file second mode wire count lines
+IsOutput (explain name script) file second lines = Explained file second lines
 IsOutput (load name seed events members raw mode) file second lines = Loaded file seed events members raw mode lines
 IsOutput _ file second lines = ⊥
 

@@ -15,12 +15,13 @@ pub data Mode : Type 0 where
   bypass : Mode
 
 -- what the program is to do: judge a file; print its bypasses; replay a script, with the packets' bytes or
--- the number of visits if wanted; replay a script that is made from a seed, with datagrams in it if wanted; run members over a network
--- of which so many receives may fail; judge a law of the group on a report
+-- the number of visits if wanted; tell why the steps of a script weren't common; replay a script that is made from a seed, with datagrams in it
+-- if wanted; run members over a network of which so many receives may fail; judge a law of the group on a report
 pub data Job : Type 0 where
   check : (file : Text) → Job
   synth : (file : Text) → Job
   replay : (file script : Text) (mode : Mode) (wire count : Bool) → Job
+  explain : (file script : Text) → Job
   load : (file : Text) (seed events members : ℕ) (raw : Bool) (mode : Mode) → Job
   node : (file plan : Text) (turns : ℕ) (members : List ℕ) (patience : ℕ) (mode : Mode) → Job
   audit : (file : Text) (law : Law) → Job
@@ -121,6 +122,13 @@ replay_job given = do
   mode ← mode_of given.run
   Some (replay given.file script mode given.wire given.count)
 
+-- `explain FILE SCRIPT`
+abbrev pub explain_job : Given → Option Job
+explain_job given = do
+  _ ← with_only (codes "second" ∷ []) given
+  script ← given.second
+  Some (explain given.file script)
+
 -- `load FILE --seed S --events E --members N`, may have `--run MODE` and `--raw`
 abbrev pub load_job : Given → Option Job
 load_job given = do
@@ -155,6 +163,7 @@ job given =
     if bytes_eq given.job (codes "check") then check_job given
     else if bytes_eq given.job (codes "synth") then synth_job given
     else if bytes_eq given.job (codes "replay") then replay_job given
+    else if bytes_eq given.job (codes "explain") then explain_job given
     else if bytes_eq given.job (codes "load") then load_job given
     else if bytes_eq given.job (codes "node") then node_job given
     else if bytes_eq given.job (codes "audit") then audit_job given

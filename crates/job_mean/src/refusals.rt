@@ -30,6 +30,8 @@ pub fn refuse_by_job()
     ensures mode_for_check { job_of_words (codes "check" ∷ codes "a" ∷ codes "--run=layered" ∷ []) ≡ None }
     ensures count_for_synth { job_of_words (codes "synth" ∷ codes "a" ∷ codes "--count" ∷ []) ≡ None }
     ensures no_script { job_of_words (codes "replay" ∷ codes "a" ∷ []) ≡ None }
+    ensures nothing_to_explain { job_of_words (codes "explain" ∷ codes "a" ∷ []) ≡ None }
+    ensures mode_for_explain { job_of_words (codes "explain" ∷ codes "a" ∷ codes "b" ∷ codes "--run=bypass" ∷ []) ≡ None }
     ensures another_mode { job_of_words (codes "replay" ∷ codes "a" ∷ codes "b" ∷ codes "--run=Layered" ∷ []) ≡ None }
     ensures seed_for_replay { job_of_words (codes "replay" ∷ codes "a" ∷ codes "b" ∷ codes "--seed=1" ∷ []) ≡ None }
     ensures script_for_load { job_of_words (codes "load" ∷ codes "a" ∷ codes "b" ∷ codes "--seed=1" ∷ codes "--events=1" ∷ codes "--members=1" ∷ []) ≡ None }

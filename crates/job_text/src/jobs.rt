@@ -6,7 +6,7 @@ ghost use Rattle.job_text.specs.Shown.{node_of, shown_given, shown_job, shown_mo
 ghost use Rattle.msg_core.specs.View.{most_members};
 
 use crate::given::Given;
-use crate::named::{Audit, Job, Load, Mode, Node, Replay};
+use crate::named::{Audit, Explain, Job, Load, Mode, Node, Replay};
 use crate::numbers::{a_number, a_number_or_zero, some_members};
 use audit_mean::Law;
 use msg_core::MOST_MEMBERS;
@@ -29,6 +29,8 @@ pub(crate) fn job_of<'w>(alloc: Global, given: &Given<'w>) -> Result<Option<Job<
         Ok(synth(given))
     } else if given.job == "replay" {
         Ok(replay(given))
+    } else if given.job == "explain" {
+        Ok(explain(given))
     } else if given.job == "load" {
         Ok(load(given))
     } else if given.job == "node" {
@@ -77,6 +79,20 @@ fn replay<'w>(given: &Given<'w>) -> Option<Job<'w>>
         mode,
         wire: given.wire,
         count: given.count,
+    }))
+}
+
+/// `explain FILE SCRIPT`
+fn explain<'w>(given: &Given<'w>) -> Option<Job<'w>>
+    ensures { option_map shown_job result ≡ spec.explain_job (shown_given given.now) }
+{
+    if !given.has_only(&["second"]) {
+        return None;
+    }
+    let script = given.second?;
+    Some(Job::Explain(Explain {
+        file: given.file,
+        script,
     }))
 }
 

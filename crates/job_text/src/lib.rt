@@ -11,7 +11,7 @@ mod named;
 mod numbers;
 mod reading;
 
-pub use crate::named::{Audit, Job, Load, Mode, Node, Replay};
+pub use crate::named::{Audit, Explain, Job, Load, Mode, Node, Replay};
 pub use crate::reading::job;
 pub use audit_mean::Law;
 pub use msg_core::Memory;

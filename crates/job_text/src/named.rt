@@ -23,6 +23,7 @@ pub enum Job<'w> {
     /// Prints the bypasses of this stack file.
     Synth(&'w str),
     Replay(Replay<'w>),
+    Explain(Explain<'w>),
     Load(Load<'w>),
     Node(Node<'w>),
     Audit(Audit<'w>),
@@ -38,6 +39,13 @@ pub struct Replay<'w> {
     pub wire: bool,
     /// Whether the number of visits is written.
     pub count: bool,
+}
+
+/// Tells why the steps of a script over a stack file weren't common.
+#[derive(Clone, Copy)]
+pub struct Explain<'w> {
+    pub file: &'w str,
+    pub script: &'w str,
 }
 
 /// Replays a script that is made from a seed, and counts the lines of its report.

@@ -10,7 +10,7 @@ use Rattle.stack_mean.specs.Acceptance.{rows_of}
 use Rattle.std.proofs.lemmas.Bool.{le-leb, lt-ltb}
 use Rattle.std.proofs.lemmas.List.Elements.{All-head, All-tail}
 use Rattle.std.specs.List.{All, fold, list_all}
-use Rattle.job_mean.specs.Job.{Job, check, synth, replay, load, node, audit, job_of_words}
+use Rattle.job_mean.specs.Job.{Job, check, synth, replay, explain, load, node, audit, job_of_words}
 use Rattle.job_mean.specs.Status.{FileFault, SecondFault, Ended, done, breached, file_refused, report_refused, words_refused, second_refused, read_failed, write_failed, link_failed, no_memory, status_number}
 use Rattle.audit_mean.specs.Finding.{AuditFault, audit_of}
 use Rattle.audit_mean.specs.declared.law.Law.{Law}
@@ -99,6 +99,7 @@ good_stack : (job : Job) (file second : List ℕ) → ReadsStack job → Good jo
 good_stack (check name) file second reads good = good
 good_stack (synth name) file second reads good = good
 good_stack (replay name script mode wire count) file second reads good = good
+good_stack (explain name script) file second reads good = good
 good_stack (load name seed events members raw mode) file second reads good = good
 good_stack (node name plan turns me patience mode) file second reads good = good
 good_stack (audit name law) file second reads good = absurd reads
@@ -109,6 +110,7 @@ reads_stack : (job : Job) (stack : List LayerTree) (second : List ℕ) (fault : 
 reads_stack (check name) stack second fault refused = tt
 reads_stack (synth name) stack second fault refused = tt
 reads_stack (replay name script mode wire count) stack second fault refused = tt
+reads_stack (explain name script) stack second fault refused = tt
 reads_stack (load name seed events members raw mode) stack second fault refused = tt
 reads_stack (node name plan turns me patience mode) stack second fault refused = tt
 reads_stack (audit name law) stack second fault refused = absurd (cc refused)
@@ -139,6 +141,11 @@ writes_good print (replay name script mode wire count) r file second out w = rec
   means = w.0.means;
   fine = script_fine w.0.stack second w.0.script w.0.spelled w.0.room;
 }
+writes_good print (explain name script) r file second out w = record {
+  stack = w.0.stack;
+  means = w.0.means;
+  fine = script_fine w.0.stack second w.0.script w.0.spelled w.0.room;
+}
 writes_good print (load name seed events members raw mode) r file second out w =
     record { stack = w.0.stack; means = w.0.means; fine = roomy w.0.stack members w.0.room }
 writes_good print (node name plan turns me patience mode) r file second out w =
@@ -153,6 +160,7 @@ links_good (node name plan turns me patience mode) r file second (inr w) =
 links_good (check name) r file second w = absurd w
 links_good (synth name) r file second w = absurd w
 links_good (replay name script mode wire count) r file second w = absurd w
+links_good (explain name script) r file second w = absurd w
 links_good (load name seed events members raw mode) r file second w = absurd w
 links_good (audit name law) r file second w = absurd w
 
@@ -224,6 +232,7 @@ no_report_or_good (audit name law) file second fault none good =
 no_report_or_good (check name) file second fault none good = none
 no_report_or_good (synth name) file second fault none good = none
 no_report_or_good (replay name script mode wire count) file second fault none good = none
+no_report_or_good (explain name script) file second fault none good = none
 no_report_or_good (load name seed events members raw mode) file second fault none good = none
 no_report_or_good (node name plan turns me patience mode) file second fault none good = none
 
@@ -232,6 +241,7 @@ no_report_or_stack (audit name law) file fault none reads = reads
 no_report_or_stack (check name) file fault none reads = none
 no_report_or_stack (synth name) file fault none reads = none
 no_report_or_stack (replay name script mode wire count) file fault none reads = none
+no_report_or_stack (explain name script) file fault none reads = none
 no_report_or_stack (load name seed events members raw mode) file fault none reads = none
 no_report_or_stack (node name plan turns me patience mode) file fault none reads = none
 
@@ -278,6 +288,7 @@ served_or_deaf print (node name plan turns me patience mode) r file second count
 served_or_deaf print (check name) r file second counts heard w x = x
 served_or_deaf print (synth name) r file second counts heard w x = x
 served_or_deaf print (replay name script mode wire count) r file second counts heard w x = x
+served_or_deaf print (explain name script) r file second counts heard w x = x
 served_or_deaf print (load name seed events members raw mode) r file second counts heard w x = x
 served_or_deaf print (audit name law) r file second counts heard w x = x
 
@@ -316,6 +327,7 @@ one_report_fault (audit name law) file a b x y =
 one_report_fault (check name) file a b x y = absurd x
 one_report_fault (synth name) file a b x y = absurd x
 one_report_fault (replay name script mode wire count) file a b x y = absurd x
+one_report_fault (explain name script) file a b x y = absurd x
 one_report_fault (load name seed events members raw mode) file a b x y = absurd x
 one_report_fault (node name plan turns me patience mode) file a b x y = absurd x
 
@@ -579,6 +591,7 @@ no_links (node name plan turns me patience mode) r file second alone fails = alo
 no_links (check name) r file second alone fails = fails
 no_links (synth name) r file second alone fails = fails
 no_links (replay name script mode wire count) r file second alone fails = fails
+no_links (explain name script) r file second alone fails = fails
 no_links (load name seed events members raw mode) r file second alone fails = fails
 no_links (audit name law) r file second alone fails = fails
 

@@ -8,12 +8,12 @@ use Rattle.script_mean.specs.declared.script.Script.{Script}
 use Rattle.audit_mean.specs.Finding.{AuditFault, audit_of}
 use Rattle.audit_mean.specs.declared.law.Finding.{Finding}
 use Rattle.audit_mean.specs.declared.law.Finding.TheVariants.{Breach}
-use Rattle.job_mean.specs.Job.{Mode, layered, bypass, Job, check, synth, replay, load, node, audit, job_of_words}
+use Rattle.job_mean.specs.Job.{Mode, layered, bypass, Job, check, synth, replay, explain, load, node, audit, job_of_words}
 use Rattle.job_mean.specs.Status.{FileFault, SecondFault, Ended, done, breached, file_refused, report_refused, words_refused, second_refused, read_failed, write_failed, link_failed, no_memory, status_number, error_line}
 use Rattle.run_mean.specs.Journal.{Heard, Handed}
 use Rattle.run_mean.specs.Report.{report_lines, output_in}
 use Rattle.program_mean.specs.Judged.{Means, IsGood, Refuses}
-use Rattle.program_mean.specs.Output.{Checks, Replays, Loads, Surroundings, NodeWords, failures, Serves, CannotListen, GoesDeaf, Audits}
+use Rattle.program_mean.specs.Output.{Checks, Replays, Explains, Loads, Surroundings, NodeWords, failures, Serves, CannotListen, GoesDeaf, Audits}
 use Rattle.program_mean.specs.Second.{second_fault}
 
 -- A count of faults before and after a run.
@@ -53,6 +53,7 @@ RoseBy count failures = (count.after ≡ count.before + failures) ⊎ (count.aft
 -- Whether a job has a second file; one that has none reads as if it were empty.
 abbrev pub second_for : Job → Option (List ℕ) → Option (List ℕ)
 second_for (replay name script mode wire count) second = second
+second_for (explain name script) second = second
 second_for (node name plan turns me patience mode) second = second
 second_for _ second = Some []
 
@@ -74,6 +75,7 @@ abbrev pub WritesOf : (List LayerTree → List ℕ) → Job → Run → (file se
 WritesOf print (check name) r file second out = Checks file out × HandsNothing r
 WritesOf print (synth name) r file second out = Prints print file out × HandsNothing r
 WritesOf print (replay name script mode wire count) r file second out = Replays file second mode wire count out × HandsNothing r
+WritesOf print (explain name script) r file second out = Explains file second out × HandsNothing r
 WritesOf print (load name seed events members raw mode) r file second out =
     Loads file seed events members raw mode out × HandsNothing r
 WritesOf print (node name plan turns me patience mode) r file second out =

@@ -18,6 +18,7 @@ use Rattle.job_mean.specs.Job.{Mode}
 use Rattle.run_mean.specs.Journal.{Heard, failure, Note, notes_of, node_run, note_lines, node_lines, Handed, handed}
 use Rattle.run_mean.specs.Report.{Moment, output_in}
 use Rattle.run_mean.specs.Tally.{tally, accepted_lines}
+use Rattle.miss_mean.specs.Text.{explained_lines}
 use Rattle.program_mean.specs.Judged.{Means}
 
 -- The rows of a member are few enough, in a group of so many members.
@@ -39,6 +40,16 @@ pub record Replays (file script_text : List ℕ) (mode : Mode) (wire count : Boo
   pub spelled : script_of script_text ≡ Ok script
   pub room : HasRoom stack script.members
   pub written : out ≡ concat (output_in stack (plans_of stack) script mode wire count)
+
+-- `explain`: whatever stack the file means and whatever script the other bytes spell, it is told of each step that was taken and wasn't common
+-- what it lacked, with the lines of that file.
+pub record Explains (file script_text out : List ℕ) : Type 0 where
+  pub stack : List LayerTree
+  pub means : Means file stack
+  pub script : Script
+  pub spelled : script_of script_text ≡ Ok script
+  pub room : HasRoom stack script.members
+  pub written : out ≡ concat (explained_lines means.file stack (plans_of stack) script)
 
 -- `load`: a generated script is run, and its lines are counted.
 pub record Loads (file : List ℕ) (seed events members : ℕ) (raw : Bool) (mode : Mode) (out : List ℕ) : Type 0 where

@@ -7,7 +7,7 @@ use Rattle.script_mean.specs.Script.{ScriptFault, no_member, script_of}
 use Rattle.script_mean.specs.declared.plan.NodePlan.{NodePlan}
 use Rattle.script_mean.specs.declared.script.Script.{Script}
 use Rattle.stack_mean.specs.Acceptance.{rows_of, most_rows}
-use Rattle.job_mean.specs.Job.{Job, check, synth, replay, load, node, audit}
+use Rattle.job_mean.specs.Job.{Job, check, synth, replay, explain, load, node, audit}
 use Rattle.job_mean.specs.Status.{SecondFault, misspelled, too_many_rows}
 
 -- The members of a stack have too many rows, in a group of so many.
@@ -30,6 +30,7 @@ abbrev pub second_fault : Job → List LayerTree → List ℕ → Option SecondF
 second_fault (check file) stack text = None
 second_fault (synth file) stack text = None
 second_fault (replay file script mode wire count) stack text = after_script stack (script_of text)
+second_fault (explain file script) stack text = after_script stack (script_of text)
 second_fault (load file seed events members raw mode) stack text = crowded stack members
 second_fault (node file plan turns me patience mode) stack text = after_plan stack me (node_plan text)
 second_fault (audit file law) stack text = None

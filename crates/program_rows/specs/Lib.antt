@@ -1,4 +1,5 @@
 pub mod Refused
 pub mod FlipFile
+pub mod LateFile
 pub mod Written
 pub mod Node

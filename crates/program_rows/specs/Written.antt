@@ -4,8 +4,9 @@ use Rattle.job_mean.specs.Job.{layered, bypass}
 use Rattle.file_mean.specs.CounterFile as counter
 use Rattle.library_rows.specs.WholeStack as whole
 use Rattle.audit_mean.specs.declared.law.Law.TheVariants.{Sender, Total}
-use Rattle.program_mean.specs.Output.{Checks, Replays, Audits}
+use Rattle.program_mean.specs.Output.{Checks, Replays, Explains, Audits}
 use Rattle.program_rows.specs.FlipFile as flip
+use Rattle.program_rows.specs.LateFile as late
 
 -- A script of a cast and a delivery.
 abbrev pub script : List ℕ
@@ -44,6 +45,20 @@ flip_report =
 
 abbrev pub ReplaysFlips : Type 0
 ReplaysFlips = Replays flip.text flips bypass true true flip_report
+
+-- A packet of the counter layer that is given again isn't the one that is due: the condition in line 9 of its file fails.
+abbrev pub twice : List ℕ
+twice = codes "group 1 stamp 7 members 3\n" ++ codes "cast 0 6869\n" ++ codes "give 1 1\n" ++ codes "give 1 1\n" ++ codes "state 1\n"
+
+abbrev pub ExplainsCounter : Type 0
+ExplainsCounter = Explains counter.text twice (codes "miss 3 1 plan 0 visit 1 place 0 cnt line 9\n" ++ codes "end 4\n")
+
+-- Of two casts the first is odd: it lacks a shape in the first case, and the second goes another way in line 7 of its file.
+abbrev pub casts : List ℕ
+casts = codes "group 1 stamp 1 members 1\n" ++ codes "cast 0 -\n" ++ codes "cast 0 -\n"
+
+abbrev pub ExplainsLate : Type 0
+ExplainsLate = Explains late.text casts (codes "miss 1 0 cast absent loop 0 or visit 1 place 0 late line 7\n" ++ codes "end 2\n")
 
 -- A report in which two members deliver two casts in another order: that is a breach of the one order of all casts, and none of each
 -- peer's.

@@ -3,7 +3,7 @@
 
 ghost use Rattle.program_rows.specs.Refused.{RefusesBadByte, RefusesCycle, RefusesEmpty, RefusesUnknown, RefusesWeight};
 ghost use Rattle.program_rows.specs.Node.{EndsThere, GoesOn};
-ghost use Rattle.program_rows.specs.Written.{AuditsCrossed, ChecksLibrary, ReplaysCounter, ReplaysFlips, ReplaysShort};
+ghost use Rattle.program_rows.specs.Written.{AuditsCrossed, ChecksLibrary, ExplainsCounter, ExplainsLate, ReplaysCounter, ReplaysFlips, ReplaysShort};
 
 /// Files that are refused, with their causes.
 pub fn refuses()
@@ -31,6 +31,16 @@ pub fn replays_short()
 /// A replay over a file whose layer has two common cases.
 pub fn replays_flips()
     ensures { ReplaysFlips }
+{}
+
+/// What steps of the counter layer lacked.
+pub fn explains_counter()
+    ensures { ExplainsCounter }
+{}
+
+/// What a step lacked in both cases of a layer that has two, the first without a shape.
+pub fn explains_late()
+    ensures { ExplainsLate }
 {}
 
 /// A node whose receive fails, without patience and with it.

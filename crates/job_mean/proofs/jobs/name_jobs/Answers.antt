@@ -23,6 +23,10 @@ pub returns-clause-in_any_order : goal.returns-clause-in_any_order
 unfolding clap_on_literals
 returns-clause-in_any_order c = refl
 
+pub returns-clause-explains : goal.returns-clause-explains
+unfolding clap_on_literals
+returns-clause-explains c = refl
+
 pub returns-clause-loads : goal.returns-clause-loads
 unfolding clap_on_literals
 returns-clause-loads c = refl

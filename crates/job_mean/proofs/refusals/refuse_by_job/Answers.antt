@@ -27,6 +27,14 @@ pub returns-clause-no_script : goal.returns-clause-no_script
 unfolding clap_on_literals
 returns-clause-no_script c = refl
 
+pub returns-clause-nothing_to_explain : goal.returns-clause-nothing_to_explain
+unfolding clap_on_literals
+returns-clause-nothing_to_explain c = refl
+
+pub returns-clause-mode_for_explain : goal.returns-clause-mode_for_explain
+unfolding clap_on_literals
+returns-clause-mode_for_explain c = refl
+
 pub returns-clause-another_mode : goal.returns-clause-another_mode
 unfolding clap_on_literals
 returns-clause-another_mode c = refl
