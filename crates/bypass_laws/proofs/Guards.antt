@@ -7,18 +7,24 @@ use Rattle.layer_mean.specs.Tree.{LayerTree}
 use Rattle.trace_mean.specs.Trace.{Guarded, Operation, bind, note, check, set, set_square, push, take, output}
 use Rattle.trace_mean.specs.Worth.{Input}
 use Rattle.trace_mean.specs.Follow.{Followed, on, stopped_at, before, answer_of, follow, follows, perform, is_done, unchecked}
+use Rattle.trace_laws.specs.Right.{Enters}
 use Rattle.trace_laws.specs.Safe.{SafeTrace}
 use Rattle.trace_laws.proofs.Unchecked.{checks_can_go}
 use Rattle.trace_form_laws.specs.Closed.{Reach, Closed, entry_reach}
 use Rattle.trace_form_laws.specs.There.{AreThere}
+use Rattle.trace_form_laws.specs.WellFormed.{IsWellFormed}
 use Rattle.trace_form_laws.proofs.WellFormed.{traces_are_well_formed}
-use Rattle.guard_mean.specs.Perform.{End, end_of, ended, holds}
+use Rattle.bypass_mean.specs.Bypasses.{Entry}
+use Rattle.guard_mean.specs.Perform.{End, end_of, ended, holds, performed}
 use Rattle.guard_mean.specs.Prune.{hoist}
+use Rattle.guard_mean.specs.Simplify.{simplified}
 use Rattle.guard_laws.proofs.Closed.{hoisted_is_closed, simplified_is_closed}
 use Rattle.guard_laws.proofs.Counts.{hoisted_adds_nothing, simplified_adds_nothing}
 use Rattle.guard_laws.proofs.Forms.{simplified_stays_formed}
 use Rattle.guard_laws.proofs.Simpler.{simplified_is_same}
-use Rattle.guard_laws.proofs.Entry.{entries_are_guarded}
+use Rattle.guard_laws.proofs.Entry.{squares_of, safe_is_sound}
+use Rattle.guard_laws.proofs.Same.{hoisted_is_same}
+use Rattle.bypass_laws.specs.Stack.{IsGuard}
 use Rattle.bypass_laws.specs.Making.{HoistingGuards, SimplifyingGuards}
 
 -- what is left of operations without checks
@@ -67,26 +73,30 @@ followed_safe stack i os states b x same held safe =
       go (on u) is reaches = (checks_can_go stack i os states u is safe).safe
       go (stopped_at n) is reaches = absurd (cc reaches)
 
-pub hoisting_guards : HoistingGuards
-hoisting_guards stack named case e trace made =
-    let formed = traces_are_well_formed case stack e.known e.fields trace named made in
+-- hoisting gives a guarded handler of any trace that is well formed
+pub hoisted_guards : (stack : List LayerTree) (e : Entry) (trace : List Operation) → IsWellFormed stack e.known e.fields trace →
+    IsGuard stack e trace (hoist trace)
+hoisted_guards stack e trace formed =
+    let same : (i : Input) (states : List State) → Enters stack e.known e.fields i states →
+    performed i (hoist trace) states ≡ ended (follow i trace states) =
+    λ i states enters. hoisted_is_same (squares_of stack) i states trace
+    (safe_is_sound stack e.known e.fields trace i states formed.there (formed.safe i states enters) enters) in
     let many = hoisted_adds_nothing trace in record {
-      same = λ i states enters. entries_are_guarded case stack e.known e.fields trace i states named made enters;
+      same = same;
       unchecked = no_checks trace;
       values = hoisted_is_closed trace;
       closed = still_closed stack trace (entry_reach e.fields) formed.closed;
       there = still_there stack trace formed.there;
       safe = λ i states enters held. followed_safe stack i trace states (holds i (hoist trace) states)
-          (end_of (perform i (hoist trace).operations states))
-          (entries_are_guarded case stack e.known e.fields trace i states named made enters) held (formed.safe i states enters);
+          (end_of (perform i (hoist trace).operations states)) (same i states enters) held (formed.safe i states enters);
       joins = omega (arith, many.joins);
       outputs = omega (arith, many.outputs);
     }
 
-pub simplifying_guards : SimplifyingGuards
-simplifying_guards guard stack guards case e trace made =
-    let g : Guarded = guard trace in
-    let is = guards case e trace made in
+-- and simplifying one of any that has one
+pub simplified_guards : (stack : List LayerTree) (e : Entry) (trace : List Operation) (g : Guarded) → IsGuard stack e trace g →
+    IsGuard stack e trace (simplified g)
+simplified_guards stack e trace g is =
     let stays = simplified_stays_formed stack g in
     let many = simplified_adds_nothing g in record {
       same = λ i states enters. let both = simplified_is_same g i states in
@@ -100,3 +110,10 @@ simplifying_guards guard stack guards case e trace made =
       joins = omega (arith, many.joins, is.joins);
       outputs = omega (arith, many.outputs, is.outputs);
     }
+
+pub hoisting_guards : HoistingGuards
+hoisting_guards stack named case e trace made =
+    hoisted_guards stack e trace (traces_are_well_formed case stack e.known e.fields trace named made)
+
+pub simplifying_guards : SimplifyingGuards
+simplifying_guards guard stack guards case e trace made = simplified_guards stack e trace (guard trace) (guards case e trace made)

@@ -339,17 +339,23 @@ short_before stack k fields i states enters = record {
   m : Content
   m = content_at i nothing_kept (record { chain = entry_chain 0 stack k.tags (field_atoms 0 fields); core = body })
 
--- each operation of a trace that is come to is as it should be
+-- each operation that is come to is as it should be, where what is named is there and following is safe
+pub safe_is_sound : (stack : List LayerTree) (k : Known) (fields : List (Option ℕ)) (operations : List Operation) (i : Input) (states : List State) →
+    AreThere stack operations → SafeTrace stack i operations (on (before states)) → Enters stack k fields i states →
+    Sound (squares_of stack) i operations (on (before states))
+safe_is_sound stack k fields operations i states there safe enters =
+    sound_of (squares_of stack) i operations (before states)
+    (short_before stack k fields i states enters) (all_fit stack operations there)
+    (roomy stack i states enters.of enters.states_are operations (before states)
+    (record { extents = λ p c. refl; few = few_rows stack i states enters.of enters.states_are }) there safe)
+
+-- so it is of the traces of entries
 pub entries_are_sound : (case : Case) (stack : List LayerTree) (k : Known) (fields : List (Option ℕ)) (operations : List Operation) (i : Input)
     (states : List State) → NamedStack stack → trace_of case stack k fields ≡ Ok operations → Enters stack k fields i states →
     Sound (squares_of stack) i operations (on (before states))
 entries_are_sound case stack k fields operations i states named made enters =
-    let there = traces_name_well case stack k fields operations named made in
-    let right = traces_are_right case stack k fields operations i states made enters in
-    sound_of (squares_of stack) i operations (before states)
-    (short_before stack k fields i states enters) (all_fit stack operations there)
-    (roomy stack i states enters.of enters.states_are operations (before states)
-    (record { extents = λ p c. refl; few = few_rows stack i states enters.of enters.states_are }) there right.safe)
+    safe_is_sound stack k fields operations i states (traces_name_well case stack k fields operations named made)
+    (traces_are_right case stack k fields operations i states made enters).safe enters
 
 pub entries_are_guarded : EntriesAreGuarded
 entries_are_guarded case stack k fields operations i states named made enters =
