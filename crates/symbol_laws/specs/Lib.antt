@@ -1,0 +1,4 @@
+pub mod Same
+pub mod Safe
+pub mod Replaced
+pub mod Samples
