@@ -1,4 +1,5 @@
 pub mod Texts
 pub mod Stops
+mod Fetched
 pub mod SecondStops
 pub mod Sound

@@ -1,5 +1,5 @@
 -- How a job ends at its second file.
-use Rattle.std.proofs.Common.{◌≡◌, ◌∙◌, ap, ℕ, ◌<◌, List, length, Option, inl, inr}
+use Rattle.std.proofs.Common.{◌≡◌, refl, ◌∙◌, ap, ℕ, ◌<◌, List, length, Option, Some, None, inl, inr}
 use Rattle.std.specs.Prelude.{IfSome, IsSomeAnd, Result, Err, Ok, ◌||◌, nat_lt, if◌then◌else◌}
 use Rattle.std.specs.Option.{option_map}
 use Rattle.std.proofs.lemmas.Bool.{lt-ltb}
@@ -12,16 +12,16 @@ use Rattle.script_mean.specs.Script.{ScriptFault, too_long, bad_line, no_member,
 use Rattle.script_text.specs.Answer.{Answers}
 use Rattle.script_text.specs.declared.error.ScriptError.{ScriptError}
 use Rattle.script_text.specs.declared.error.ScriptError.TheVariants.{TooLong, BadLine, NoMember, Memory}
-use Rattle.job_mean.specs.Job.{Mode, replay}
+use Rattle.job_mean.specs.Job.{Mode, Job, replay, explain}
 use Rattle.std.proofs.Common.{Bool, true, subst}
 use Rattle.job_mean.specs.Status.{Ended, second_refused, read_failed, no_memory, misspelled, too_many_rows}
-use Rattle.program_mean.specs.Second.{after_script}
-use Rattle.job_ends.specs.Comes.{Around, Comes}
+use Rattle.program_mean.specs.Second.{after_script, second_fault}
+use Rattle.job_ends.specs.Comes.{Around, Beside, Comes, file_name}
 use Rattle.job_ends.proofs.Comes.{longer}
-use Rattle.file_jobs.specs.Stack.{IsStack}
+use Rattle.file_jobs.specs.Stack.{IsStack, IsText}
 use Rattle.job_ends.specs.Shown.{shown}
 use Rattle.job_ends.specs.declared.ending.Ending.{Ending}
-use Rattle.file_jobs.specs.Second.{IsText, IsLarge, Unread, StopsAt, Fetches, Refused, Judges, refused_as, longest_second}
+use Rattle.file_jobs.specs.Second.{IsLarge, Unread, StopsAt, Fetches, Refused, Judges, refused_as, longest_second}
 
 -- A text of too many bytes.
 pub large : (name : Text) (told : Option Shelved) (reads reads_after : ℕ) →
@@ -71,27 +71,40 @@ fetches spelled Runs name told reads reads_after text (Err ending) t j = refused
   refused no_memory j = tt
   refused _ j = absurd j
 
--- A replay whose file is good and that stopped at its script came to that.
+-- A job whose second file is a script: its file is good, and it stopped at that.
+module _ (job : Job) (script : Text) (a : Around)
+    (beside : (found : Option (List ℕ)) → IfSome (option_map after_read a.told) (λ shelf. found_in shelf script ≡ found) → Beside job a.told found)
+    (judges : (stack : List LayerTree) (text : List ℕ) → second_fault job stack text ≡ after_script stack (script_of text)) where
+  stops_there : (between : ℕ) (stack : List LayerTree) (end : Ended) → IsStack (file_name job) a.told a.reads between stack →
+      StopsAt script_of script (option_map after_read a.told) between a.reads_after end → a.output_after ≡ a.output → Comes job a end
+  stops_there between stack (second_refused (misspelled fault)) f s same = record {
+    cause = record {
+      file = f.file;
+      second = s.text;
+      found = f.found;
+      beside = beside (Some s.text) s.found;
+      stack = stack;
+      means = f.means;
+      refused = judges stack s.text ∙ ap (after_script stack) s.refused;
+    };
+    sound = s.sound ∙ f.sound;
+    untouched = same;
+  }
+  stops_there between stack read_failed f s same = record {
+    unfound = inr (record { file = f.file; found = f.found; stack = stack; means = f.means; none = beside None s.none });
+    rose = subst (λ n. Rose n a.reads_after) f.sound s.rose;
+    untouched = same;
+  }
+  stops_there between stack no_memory f s same = inl same
+  stops_there between stack _ f s same = absurd s
+
+-- So it is of a replay, and of an explanation.
 pub stops : (name script : Text) (mode : Mode) (wire count : Bool) (a : Around) (between : ℕ) (stack : List LayerTree) (end : Ended) →
     IsStack name a.told a.reads between stack → StopsAt script_of script (option_map after_read a.told) between a.reads_after end →
     a.output_after ≡ a.output → Comes (replay name script mode wire count) a end
-stops name script mode wire count a between stack (second_refused (misspelled fault)) f s same = record {
-  cause = record {
-    file = f.file;
-    second = s.text;
-    found = f.found;
-    beside = s.found;
-    stack = stack;
-    means = f.means;
-    refused = ap (after_script stack) s.refused;
-  };
-  sound = s.sound ∙ f.sound;
-  untouched = same;
-}
-stops name script mode wire count a between stack read_failed f s same = record {
-  unfound = inr (record { file = f.file; found = f.found; stack = stack; means = f.means; none = s.none });
-  rose = subst (λ n. Rose n a.reads_after) f.sound s.rose;
-  untouched = same;
-}
-stops name script mode wire count a between stack no_memory f s same = inl same
-stops name script mode wire count a between stack _ f s same = absurd s
+stops name script mode wire count a = stops_there (replay name script mode wire count) script a (λ found is. is) (λ stack text. refl)
+
+pub explain_stops : (name script : Text) (a : Around) (between : ℕ) (stack : List LayerTree) (end : Ended) →
+    IsStack name a.told a.reads between stack → StopsAt script_of script (option_map after_read a.told) between a.reads_after end →
+    a.output_after ≡ a.output → Comes (explain name script) a end
+explain_stops name script a = stops_there (explain name script) script a (λ found is. is) (λ stack text. refl)

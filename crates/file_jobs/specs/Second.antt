@@ -8,7 +8,7 @@ use Rattle.script_mean.specs.Script.{ScriptFault, too_long, bad_line, no_member}
 use Rattle.script_text.specs.declared.error.ScriptError.{ScriptError}
 use Rattle.script_text.specs.declared.error.ScriptError.TheVariants.{TooLong, BadLine, NoMember, Memory}
 use Rattle.job_mean.specs.Status.{Ended, second_refused, read_failed, no_memory, misspelled}
-use Rattle.file_jobs.specs.Stack.{IsMissed}
+use Rattle.file_jobs.specs.Stack.{IsMissed, IsText}
 use Rattle.job_ends.specs.Shown.{shown}
 use Rattle.job_ends.specs.declared.ending.Ending.{Ending}
 use Rattle.file_jobs.specs.declared.second.TheConstants.{LONGEST_SECOND}
@@ -16,11 +16,6 @@ use Rattle.file_jobs.specs.declared.second.TheConstants.{LONGEST_SECOND}
 -- The most bytes of a second file.
 abbrev pub longest_second : ℕ
 longest_second = LONGEST_SECOND
-
--- The next read of this name found this text.
-pub record IsText (name : Text) (told : Option Shelved) (reads reads_after : ℕ) (text : List ℕ) : Type 0 where
-  pub found : IfSome told (λ shelf. found_in shelf name ≡ Some text)
-  pub sound : reads_after ≡ reads
 
 -- It found a text of too many bytes.
 pub record IsLarge (name : Text) (told : Option Shelved) (reads reads_after : ℕ) : Type 0 where

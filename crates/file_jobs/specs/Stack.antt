@@ -1,15 +1,24 @@
 -- What the read of a job's stack file comes to.
 use Rattle.std.specs.Prelude.{◌≡◌, ℕ, List, Option, Some, None, IfSome, Result, Ok, Err}
+use Rattle.std.specs.declared.alloc.Global.{Global}
+use Rattle.std.specs.declared.vec.Vec.{Vec}
 use Rattle.clap.specs.Walk.{Text}
 use Rattle.outside.specs.Count.{Rose}
 use Rattle.outside.specs.Shelf.{Shelved, found_in}
+use Rattle.layer_ast.specs.View.{file_tree}
 use Rattle.layer_mean.specs.Tree.{LayerTree}
 use Rattle.job_mean.specs.Status.{FileFault, Ended, file_refused, read_failed, no_memory}
 use Rattle.program_mean.specs.Judged.{Means, Refuses}
 use Rattle.event_graph.specs.Answer.{stack_tree}
 use Rattle.event_graph.specs.declared.stack.Stack.{Stack}
+use Rattle.file_jobs.specs.declared.stack.StackFile.{StackFile}
 use Rattle.job_ends.specs.Shown.{shown}
 use Rattle.job_ends.specs.declared.ending.Ending.{Ending}
+
+-- The next read of this name found this text.
+pub record IsText (name : Text) (told : Option Shelved) (reads reads_after : ℕ) (text : List ℕ) : Type 0 where
+  pub found : IfSome told (λ shelf. found_in shelf name ≡ Some text)
+  pub sound : reads_after ≡ reads
 
 -- The next read of this name found a file that means this stack.
 pub record IsStack (name : Text) (told : Option Shelved) (reads reads_after : ℕ) (stack : List LayerTree) : Type 0 where
@@ -37,10 +46,24 @@ StopsAt name told reads reads_after read_failed = IsMissed name told reads reads
 StopsAt name told reads reads_after no_memory = Unit {0}
 StopsAt name told reads reads_after _ = ⊥
 
+-- The text of the file that was read, or how the job ends.
+abbrev pub ReadsText : Text → Option Shelved → (reads reads_after : ℕ) → Result (Vec ℕ Global) Ending → Type 0
+ReadsText name told reads reads_after (Ok text) = IsText name told reads reads_after text.items
+ReadsText name told reads reads_after (Err ending) = StopsAt name told reads reads_after (shown ending)
+
 -- The stack of the file that was read, or how the job ends.
 abbrev pub Fetches : Text → Option Shelved → (reads reads_after : ℕ) → Result Stack Ending → Type 0
 Fetches name told reads reads_after (Ok stack) = IsStack name told reads reads_after (stack_tree stack)
 Fetches name told reads reads_after (Err ending) = StopsAt name told reads reads_after (shown ending)
+
+-- The same with the tree of the file.
+pub record IsStackFile (name : Text) (told : Option Shelved) (reads reads_after : ℕ) (f : StackFile) : Type 0 where
+  pub is : IsStack name told reads reads_after (stack_tree f.stack)
+  pub tree : is.means.file ≡ file_tree f.file
+
+abbrev pub FetchesFile : Text → Option Shelved → (reads reads_after : ℕ) → Result StackFile Ending → Type 0
+FetchesFile name told reads reads_after (Ok f) = IsStackFile name told reads reads_after f
+FetchesFile name told reads reads_after (Err ending) = StopsAt name told reads reads_after (shown ending)
 
 -- The stack that the bytes of a file mean, or why they are refused.
 abbrev pub Refused : List ℕ → Ended → Type 0
@@ -51,3 +74,12 @@ Refused text _ = ⊥
 abbrev pub JudgesStack : List ℕ → Result Stack Ending → Type 0
 JudgesStack text (Ok stack) = Means text (stack_tree stack)
 JudgesStack text (Err ending) = Refused text (shown ending)
+
+-- The same with the tree of the file that they spell.
+pub record IsFileOf (text : List ℕ) (f : StackFile) : Type 0 where
+  pub means : Means text (stack_tree f.stack)
+  pub tree : means.file ≡ file_tree f.file
+
+abbrev pub JudgesFile : List ℕ → Result StackFile Ending → Type 0
+JudgesFile text (Ok f) = IsFileOf text f
+JudgesFile text (Err ending) = Refused text (shown ending)

@@ -13,4 +13,4 @@ mod stack;
 pub use audit::audit_report;
 pub use check::check_stack;
 pub use second::{fetch_second, refusal};
-pub use stack::fetch_stack;
+pub use stack::{StackFile, fetch_file, fetch_stack};

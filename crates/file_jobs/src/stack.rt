@@ -3,26 +3,56 @@
 ghost use Rattle.std.specs.Prelude.{◌≡◌};
 ghost use Rattle.std.specs.Option.{option_map};
 ghost use Rattle.outside.specs.Shelf.{after_read};
-ghost use Rattle.file_jobs.specs.Stack.{JudgesStack, Fetches};
+ghost use Rattle.file_jobs.specs.Stack.{Fetches, FetchesFile, JudgesFile, JudgesStack, ReadsText};
 
 use event_graph::Stack;
-use file_judge::{FileError, judge};
+use file_judge::{FileError, judge, read_file};
 use job_ends::Ending;
-use layer_ast::LONGEST_FILE;
+use layer_ast::{File, LONGEST_FILE};
 use outside::{Got, Shelf, ShelfError};
 use std::alloc::Global;
+use std::mem::forget;
+
+/// A stack file that is accepted: its tree, and its stack.
+#[derive(Drop)]
+pub struct StackFile {
+    pub file: File,
+    pub stack: Stack,
+}
+
+/// Reads a stack file, or finds how the job ends.
+fn fetch_text<S: Shelf>(alloc: Global, file: &str, shelf: &mut S) -> Result<Vec<u8>, Ending>
+    ensures read { ReadsText file.now (S.told shelf.old) (S.faults shelf.old) (S.faults shelf.new) result }
+    ensures kept { S.told shelf.new ≡ option_map after_read (S.told shelf.old) }
+{
+    let mut text = Vec::new(alloc);
+    match shelf.read(file, &mut text, u64::from(LONGEST_FILE)) {
+        Ok(Got::Whole) => Ok(text),
+        Ok(Got::TooLong) => Err(Ending::File(FileError::TooLarge)),
+        Err(ShelfError::Failed) => Err(Ending::Read),
+        Err(ShelfError::Memory) => Err(Ending::Memory),
+    }
+}
 
 /// Reads a stack file and judges it: its accepted stack, or how the job ends.
 pub fn fetch_stack<S: Shelf>(alloc: Global, file: &str, shelf: &mut S) -> Result<Stack, Ending>
     ensures read { Fetches file.now (S.told shelf.old) (S.faults shelf.old) (S.faults shelf.new) result }
     ensures kept { S.told shelf.new ≡ option_map after_read (S.told shelf.old) }
 {
-    let mut text = Vec::new(alloc);
-    match shelf.read(file, &mut text, u64::from(LONGEST_FILE)) {
-        Ok(Got::Whole) => judged(alloc, &text),
-        Ok(Got::TooLong) => Err(Ending::File(FileError::TooLarge)),
-        Err(ShelfError::Failed) => Err(Ending::Read),
-        Err(ShelfError::Memory) => Err(Ending::Memory),
+    match fetch_text(alloc, file, shelf) {
+        Ok(text) => judged(alloc, &text),
+        Err(ending) => Err(ending),
+    }
+}
+
+/// The same, with the file's tree.
+pub fn fetch_file<S: Shelf>(alloc: Global, file: &str, shelf: &mut S) -> Result<StackFile, Ending>
+    ensures read { FetchesFile file.now (S.told shelf.old) (S.faults shelf.old) (S.faults shelf.new) result }
+    ensures kept { S.told shelf.new ≡ option_map after_read (S.told shelf.old) }
+{
+    match fetch_text(alloc, file, shelf) {
+        Ok(text) => judged_file(alloc, &text),
+        Err(ending) => Err(ending),
     }
 }
 
@@ -32,6 +62,23 @@ fn judged(alloc: Global, text: &[u8]) -> Result<Stack, Ending>
 {
     match judge(alloc, text) {
         Ok(stack) => Ok(stack),
+        Err(error) => Err(Ending::File(error)),
+    }
+}
+
+/// The same, with the tree of the file that the text spells: judging takes its own apart, so the text is read once more. A stack that isn't wanted any
+/// longer goes back with the memory of the program.
+fn judged_file(alloc: Global, text: &[u8]) -> Result<StackFile, Ending>
+    ensures { JudgesFile text.now result }
+{
+    match judge(alloc, text) {
+        Ok(stack) => match read_file(alloc, text) {
+            Ok(file) => Ok(StackFile { file, stack }),
+            Err(error) => {
+                forget(stack);
+                Err(Ending::File(error))
+            }
+        },
         Err(error) => Err(Ending::File(error)),
     }
 }

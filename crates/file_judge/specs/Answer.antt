@@ -2,6 +2,8 @@
 use Rattle.std.specs.Prelude.{◌≡◌, ℕ, ◌≤◌, List, length, None, Result, Ok, Err}
 use Rattle.layer_ast.specs.Spells.{longest_file}
 use Rattle.layer_ast.specs.Tree.{FileTree}
+use Rattle.layer_ast.specs.View.{file_tree}
+use Rattle.layer_ast.specs.declared.syntax.File.{File}
 use Rattle.layer_mean.specs.Tree.{LayerTree}
 use Rattle.fault_mean.specs.FileFault.{file_fault}
 use Rattle.file_mean.specs.Library.{IsFile}
@@ -31,6 +33,11 @@ Judges text (Err (Cycle place kind)) = Refuses text (cause.cycle place kind)
 Judges text (Err (TooMany weight)) = Refuses text (cause.too_many weight)
 Judges text (Err TooManyJoins) = Refuses text cause.too_many_joins
 Judges text (Err Memory) = Unit {0}
+
+-- The file that the bytes spell; the very cause for which they spell none; or want of memory.
+abbrev pub Reads : List ℕ → Result File FileError → Type 0
+Reads text (Ok f) = (length text ≤ longest_file) × IsFile text (file_tree f)
+Reads text (Err e) = Judges text (Err e)
 
 -- The bytes are a file without a fault of names or types, which means this stack.
 pub record IsStackOf (text : List ℕ) (stack : List LayerTree) : Type 0 where

@@ -7,7 +7,7 @@ ghost use Rattle.file_mean.specs.Library.{IsFile};
 ghost use Rattle.file_parse.specs.Answers.{Answers};
 ghost use Rattle.typed_layer.specs.Places.{typed_tree};
 ghost use Rattle.file_names.specs.Answer.{resolved_tree};
-ghost use Rattle.file_judge.specs.Answer.{Judges, IsStackOf};
+ghost use Rattle.file_judge.specs.Answer.{Judges, IsStackOf, Reads};
 
 use crate::error::FileError;
 use event_graph::{Stack, StackError, accept};
@@ -18,13 +18,23 @@ use layer_ast::File;
 use std::alloc::Global;
 use typed_layer::Typed;
 
+/// The tree of the file that these bytes spell, with the layers that the library brings it; or the first cause for which they spell none.
+pub fn read_file(alloc: Global, text: &[u8]) -> Result<File, FileError>
+    ensures { Reads text.now result }
+{
+    match parse(alloc, text) {
+        Ok(file) => Ok(file),
+        Err(error) => Err(refused_text(text, error)),
+    }
+}
+
 /// The accepted stack that the bytes of a layer file mean, or the first cause for which the file is refused.
 pub fn judge(alloc: Global, text: &[u8]) -> Result<Stack, FileError>
     ensures { Judges text.now result }
 {
-    match parse(alloc, text) {
+    match read_file(alloc, text) {
         Ok(file) => judge_names(alloc, text, file),
-        Err(error) => Err(refused_text(text, error)),
+        Err(error) => Err(error),
     }
 }
 

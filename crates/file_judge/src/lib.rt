@@ -7,4 +7,4 @@ mod judgement;
 mod tests;
 
 pub use error::FileError;
-pub use judgement::judge;
+pub use judgement::{judge, read_file};

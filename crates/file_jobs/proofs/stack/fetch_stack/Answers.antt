@@ -1,6 +1,5 @@
-use Rattle.std.proofs.Common.{rules}
-use Rattle.file_jobs.proofs.Stops.{large_file}
+use Rattle.file_jobs.proofs.Fetched.{fetched}
 use Rattle.file_jobs.proofs.stack.fetch_stack.Goals as goal
 
-pub returns-in-Ok-TooLong-clause-read : goal.returns-in-Ok-TooLong-clause-read
-returns-in-Ok-TooLong-clause-read g c = large_file _ _ _ _ (rw (c.in-Ok-TooLong.field-0-is, c.from.ensures) at c.in-Ok-TooLong.ensures.answered) (search rules)
+pub returns-in-Ok-clause-read : goal.returns-in-Ok-clause-read
+returns-in-Ok-clause-read g c = fetched _ _ _ _ c.in-Ok.text.items _ c.in-Ok.ensures.read (rw c.deref.ensures.value at c.judged.ensures)
