@@ -12,14 +12,15 @@ ghost use Rattle.node_jobs.specs.Plan.{IsServable, RunsPlan, words_of};
 use crate::members::{are_below, as_bytes};
 use crate::plan::fetch_plan;
 use crate::served::ending;
+use bypass_member::OpenError;
 use event_graph::Stack;
 use file_jobs::fetch_stack;
+use group_open::{Opened, open};
 use job_ends::Ending;
 use job_text::Node;
 use node_loop::{Course, serve};
 use outside::{Clock, Links, Shelf, Sink};
 use script_mean::NodePlan;
-use stack_play::{Opened, PlayError, open};
 use std::alloc::{AllocError, Global};
 
 /// Runs own members of a plan's group over a network, and writes what they do and what it comes to.
@@ -86,8 +87,7 @@ fn serve_plan<O: Sink, N: Links, C: Clock>(
             run.close();
             ending(served)
         }
-        Err(PlayError::TooManyRows) => Ending::TooManyRows,
-        Err(PlayError::Failed) => unreachable!(),
-        Err(PlayError::Memory) => Ending::Memory,
+        Err(OpenError::TooLarge) => Ending::TooManyRows,
+        Err(OpenError::Memory) => Ending::Memory,
     }
 }

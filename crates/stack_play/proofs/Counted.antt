@@ -18,8 +18,9 @@ use Rattle.view_core.specs.declared.step.Did.{Did}
 use Rattle.report_text.specs.Counts.{counted, counts_of, no_counts}
 use Rattle.report_text.specs.declared.counts.Counts.{Counts}
 use Rattle.report_text.proofs.Gained.{counted_moment}
-use Rattle.stack_play.specs.Turns.{IsAtFirst, Keeps, moment_at, IsCounted}
-use Rattle.stack_play.specs.declared.run.Run.{Run}
+use Rattle.group_open.specs.Ready.{IsAtFirst}
+use Rattle.stack_play.specs.Turns.{Keeps, moment_at, IsCounted}
+use Rattle.group_open.specs.declared.run.Run.{Run}
 use Rattle.stack_play.proofs.Events.{Happened}
 use Rattle.stack_play.proofs.Held.{StandsAt, stands_first, stands_next}
 use Rattle.stack_play.proofs.Moments.{stands_at, front, front_more, moments_length}

@@ -27,7 +27,7 @@ use Rattle.report_text.proofs.Moments.{told_is_moment}
 use Rattle.group_feed.specs.Feeding.{IsFed}
 use Rattle.group_feed.specs.Standing.{Peopled, Stands}
 use Rattle.stack_play.specs.Turns.{moment_at, TellsEvent}
-use Rattle.stack_play.specs.declared.run.Run.{Run}
+use Rattle.group_open.specs.declared.run.Run.{Run}
 
 -- An event happened: the world behind it, and what is told of it.
 pub record Happened (mode : Mode) (stack : List LayerTree) (plans : List Plan) (w : World) (event : ScriptEvent) (c : Peopled) (outs : List (Output × Option ℕ))

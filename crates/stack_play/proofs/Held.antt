@@ -18,8 +18,9 @@ use Rattle.outside.proofs.Gaining.{gains_none, gains_then, cut_short}
 use Rattle.run_mean.specs.World.{first_world, happens}
 use Rattle.run_mean.specs.Report.{moments}
 use Rattle.group_feed.specs.Standing.{Stands}
-use Rattle.stack_play.specs.Turns.{IsReady, IsAtFirst, Keeps, moment_at, IsTold}
-use Rattle.stack_play.specs.declared.run.Run.{Run}
+use Rattle.group_open.specs.Ready.{IsReady, IsAtFirst}
+use Rattle.stack_play.specs.Turns.{Keeps, moment_at, IsTold}
+use Rattle.group_open.specs.declared.run.Run.{Run}
 use Rattle.stack_play.proofs.Moments.{stands_at, front, front_more, stands_more, rest, whole}
 
 -- The lines of a moment, and its visits.

@@ -3,4 +3,4 @@ pub mod Events
 pub mod Held
 pub mod Counted
 pub mod Outputs
-pub mod Running
+mod Explained

@@ -8,6 +8,8 @@ use Rattle.outside.specs.Tells.{Tells}
 use Rattle.outside.specs.Lines.{Begins, Gains, Fails}
 use Rattle.outside.specs.declared.sink.SinkError.{SinkError}
 use Rattle.outside.specs.declared.sink.SinkError.TheVariants as sink
+use Rattle.bypass_member.specs.declared.error.OpenError.{OpenError}
+use Rattle.bypass_member.specs.declared.error.OpenError.TheVariants as opening
 use Rattle.stack_play.specs.declared.error.PlayError.{PlayError}
 use Rattle.stack_play.specs.declared.error.PlayError.TheVariants.{TooManyRows, Failed, Memory}
 use Rattle.script_mean.specs.Lines.{most_lines}
@@ -23,6 +25,11 @@ Plays stack members lines old new (Ok run) = HasRoom stack members × Gains old 
 Plays stack members lines old new (Err TooManyRows) = (most_rows < rows_of stack members) × (new ≡ old)
 Plays stack members lines old new (Err Failed) = HasRoom stack members × Fails old new lines
 Plays stack members lines old new (Err Memory) = (new ≡ old) ⊎ (HasRoom stack members × Begins old new (concat lines))
+
+-- What a group came to that wasn't opened, as a run's.
+abbrev pub not_opened : OpenError → PlayError
+not_opened opening.TooLarge = TooManyRows
+not_opened opening.Memory = Memory
 
 -- What lines came to, as a run's.
 abbrev pub cut_short : Result (Unit {0}) SinkError → Result (Unit {0}) PlayError

@@ -4,36 +4,17 @@ use Rattle.outside.specs.declared.sink.SinkError.{SinkError}
 use Rattle.msg_core.specs.declared.message.Memory.{Memory}
 use Rattle.layer_mean.specs.Tree.{LayerTree}
 use Rattle.script_mean.specs.declared.event.ScriptEvent.{ScriptEvent}
-use Rattle.stack_mean.specs.Acceptance.{largest_weight}
 use Rattle.stack_mean.specs.Plan.{Plan}
 use Rattle.job_mean.specs.Job.{Mode}
 use Rattle.run_mean.specs.Report.{Moment, mode_if, moment_lines, visits_in, visits_line}
-use Rattle.run_mean.specs.World.{World, first_world, happens}
+use Rattle.run_mean.specs.World.{World, happens}
 use Rattle.outside.specs.Lines.{Gains, Wrote}
 use Rattle.outside.specs.Tells.{Tells}
 use Rattle.report_text.specs.Counts.{counts_of}
 use Rattle.report_text.specs.declared.counts.Counts.{Counts}
 use Rattle.group_feed.specs.Standing.{Stands}
-use Rattle.stack_play.specs.declared.run.Run.{Run}
-
--- A run in a mode is over this stack with these plans, and has room for the outputs of a step.
-pub record IsReady (mode : Mode) (stack : List LayerTree) (plans : List Plan) (r : Run) : Type 0 where
-  pub mode_is : r.world.mode ≡ mode
-  pub stack_is : r.world.stack ≡ stack
-  pub plans_are : r.world.plans ≡ plans
-  pub places : r.outputs.places ≡ largest_weight stack
-
--- It stands where a world of the definitions does.
-pub record SomeWorld (r : Run) : Type 0 where
-  pub world : World
-  pub stands : Stands r.world world
-
--- It is where a group of so many members begins in a mode.
-pub record IsAtFirst (mode : Mode) (stack : List LayerTree) (plans : List Plan) (group stamp members : ℕ) (r : Run) : Type 0 where
-  pub ready : IsReady mode stack plans r
-  pub world : Stands r.world (first_world stack group stamp members)
-  pub count : length r.world.members ≡ members
-  pub visits : r.visits ≡ 0
+use Rattle.group_open.specs.Ready.{IsReady}
+use Rattle.group_open.specs.declared.run.Run.{Run}
 
 -- An event leaves a run ready, with as many members, and adds few visits.
 pub record Keeps (mode : Mode) (stack : List LayerTree) (plans : List Plan) (old new : Run) : Type 0 where

@@ -15,15 +15,15 @@ ghost use Rattle.outside.specs.Lines.{Wrote};
 ghost use Rattle.outside.specs.Tells.{tells_of};
 ghost use Rattle.report_text.specs.Counts.{counts_of, no_counts};
 ghost use Rattle.group_feed.specs.Standing.{Stands};
-ghost use Rattle.stack_play.specs.Opening.{CanRun};
+ghost use Rattle.group_open.specs.Opening.{CanRun};
 ghost use Rattle.stack_play.specs.Play.{Plays, most_events};
-ghost use Rattle.stack_play.specs.Turns.{CountsEvent, IsAtFirst, IsReady, Keeps};
+ghost use Rattle.group_open.specs.Ready.{IsAtFirst, IsReady};
+ghost use Rattle.stack_play.specs.Turns.{CountsEvent, Keeps};
 
-use crate::error::{PlayError, with_room};
-use crate::opening::open;
-use crate::run::{Opened, Run};
+use crate::error::{PlayError, unopened, with_room};
 use event_graph::Stack;
 use group_feed::Feed;
+use group_open::{Opened, Run, open};
 use job_text::Mode;
 use msg_core::Memory;
 use outside::{Sink, SinkError};
@@ -66,7 +66,7 @@ pub fn play_load<O: Sink>(
             run.close();
             with_room(wrote)
         }
-        Err(error) => Err(error),
+        Err(error) => Err(unopened(error)),
     }
 }
 

@@ -1,8 +1,9 @@
 //! Why not all lines of a run were written.
 
 ghost use Rattle.std.specs.Prelude.{◌≡◌};
-ghost use Rattle.stack_play.specs.Play.{cut_short};
+ghost use Rattle.stack_play.specs.Play.{cut_short, not_opened};
 
+use bypass_member::OpenError;
 use outside::SinkError;
 use thiserror::Error;
 
@@ -18,6 +19,16 @@ pub enum PlayError {
     /// Memory ran out.
     #[error("no memory")]
     Memory,
+}
+
+/// What a group came to that wasn't opened.
+pub(crate) fn unopened(error: OpenError) -> PlayError
+    ensures { result ≡ not_opened error }
+{
+    match error {
+        OpenError::TooLarge => PlayError::TooManyRows,
+        OpenError::Memory => PlayError::Memory,
+    }
 }
 
 /// What lines came to whose members have room.

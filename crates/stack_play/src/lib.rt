@@ -1,15 +1,13 @@
-//! A script played over a stack, layer by layer or by bypasses: its report on a sink, or in place of it how many lines of each kind it has.
+//! A script played over a stack, layer by layer or by bypasses: its report on a sink, or in place of it how many lines of each kind it has, or why its
+//! steps weren't common.
 #![tactic(auto)]
 
-mod codes;
 mod counting;
 mod error;
-mod opening;
+mod explaining;
 mod reporting;
-mod run;
 
 pub use counting::play_load;
 pub use error::PlayError;
-pub use opening::open;
+pub use explaining::explain_steps;
 pub use reporting::play;
-pub use run::{Opened, Run};

@@ -13,15 +13,15 @@ ghost use Rattle.run_mean.specs.World as mean;
 ghost use Rattle.outside.specs.Lines.{Wrote};
 ghost use Rattle.outside.specs.Tells.{tells_of};
 ghost use Rattle.group_feed.specs.Standing.{Stands};
-ghost use Rattle.stack_play.specs.Opening.{CanRun};
+ghost use Rattle.group_open.specs.Opening.{CanRun};
 ghost use Rattle.stack_play.specs.Play.{Plays, most_events};
-ghost use Rattle.stack_play.specs.Turns.{IsAtFirst, IsReady, Keeps, SomeWorld, TellsEvent, visits_if};
+ghost use Rattle.group_open.specs.Ready.{IsAtFirst, IsReady, SomeWorld};
+ghost use Rattle.stack_play.specs.Turns.{Keeps, TellsEvent, visits_if};
 
-use crate::error::{PlayError, with_room};
-use crate::opening::open;
-use crate::run::{Opened, Run};
+use crate::error::{PlayError, unopened, with_room};
 use event_graph::Stack;
 use group_feed::Feed;
+use group_open::{Opened, Run, open};
 use job_text::Mode;
 use msg_core::Memory;
 use outside::{Sink, SinkError};
@@ -70,7 +70,7 @@ pub fn play<O: Sink>(
             run.close();
             with_room(wrote)
         }
-        Err(error) => Err(error),
+        Err(error) => Err(unopened(error)),
     }
 }
 

@@ -5,7 +5,7 @@ use Rattle.job_text.specs.Shown.{shown_mode}
 use Rattle.node_loop.specs.Around.{around}
 use Rattle.node_loop.specs.Serve.{whereabouts}
 use Rattle.node_jobs.specs.Plan.{words_of}
-use Rattle.stack_play.proofs.Running.{can_run}
+use Rattle.group_open.proofs.Running.{can_run}
 use Rattle.node_jobs.proofs.Below.{each_below}
 use Rattle.node_jobs.proofs.Runs.{ready, run}
 use Rattle.node_jobs.proofs.node.serve_plan.Goals as goal

@@ -2,7 +2,7 @@ use Rattle.event_graph.specs.Answer.{stack_tree}
 use Rattle.stack_shapes.specs.Trees.{plans_tree}
 use Rattle.stack_play.proofs.Counted.{counted_event}
 use Rattle.stack_play.proofs.Events.{happened}
-use Rattle.stack_play.specs.declared.run.Run.{Run}
+use Rattle.group_open.specs.declared.run.Run.{Run}
 use Rattle.stack_play.proofs.counting.count_event.Goals as goal
 
 pub returns-clause-counted : goal.returns-clause-counted

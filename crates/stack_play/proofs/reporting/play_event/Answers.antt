@@ -4,7 +4,7 @@ use Rattle.run_mean.specs.Member.{out}
 use Rattle.stack_play.proofs.Events.{happened, told_event}
 use Rattle.event_graph.specs.Answer.{stack_tree}
 use Rattle.stack_shapes.specs.Trees.{plans_tree}
-use Rattle.stack_play.specs.declared.run.Run.{Run}
+use Rattle.group_open.specs.declared.run.Run.{Run}
 use Rattle.stack_play.proofs.reporting.play_event.Goals as goal
 
 pub returns-in-Ok-clause-told : goal.returns-in-Ok-clause-told

@@ -3,7 +3,7 @@ use Rattle.std.specs.Prelude.{List}
 use Rattle.bypass_laws.specs.Making.{IsSound}
 use Rattle.job_mean.specs.Job.{Mode, layered, bypass}
 use Rattle.layer_mean.specs.Tree.{LayerTree}
-use Rattle.stack_play.specs.Opening.{CanRun}
+use Rattle.group_open.specs.Opening.{CanRun}
 
 pub can_run : (mode : Mode) (stack : List LayerTree) → IsSound stack → CanRun mode stack
 can_run layered stack sound = sound.typed

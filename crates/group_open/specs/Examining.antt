@@ -1,0 +1,30 @@
+-- What opening a group comes to that is examined.
+use Rattle.std.specs.Prelude.{◌≡◌, ℕ, ◌<◌, List, Result, Ok, Err}
+use Rattle.std.specs.Rc.{rc_value}
+use Rattle.job_mean.specs.Job.{bypass}
+use Rattle.layer_mean.specs.Tree.{LayerTree}
+use Rattle.stack_mean.specs.Acceptance.{rows_of, largest_weight, most_rows}
+use Rattle.stack_mean.specs.Plans.{plans_of}
+use Rattle.event_graph.specs.Answer.{stack_tree}
+use Rattle.stack_shapes.specs.Trees.{plans_tree}
+use Rattle.stack_shapes.specs.Shapes.{short_shapes}
+use Rattle.program_mean.specs.Output.{HasRoom}
+use Rattle.bypass_member.specs.declared.error.OpenError.{OpenError}
+use Rattle.bypass_member.specs.declared.error.OpenError.TheVariants.{TooLarge, Memory}
+use Rattle.group_open.specs.Ready.{Starts}
+use Rattle.group_open.specs.declared.run.Examination.{Examination}
+
+-- A group is where it begins by bypasses, and its members have room; the shapes of its stack's entries are those that aren't too long.
+pub record IsExamination (stack : List LayerTree) (group stamp members : ℕ) (e : Examination) : Type 0 where
+  pub stack_is : stack_tree e.stack ≡ stack
+  pub plans_are : plans_tree (rc_value e.plans) ≡ plans_of stack
+  pub entries_are : rc_value e.entries ≡ short_shapes stack (plans_of stack)
+  pub places : e.outputs.places ≡ largest_weight stack
+  pub starts : Starts bypass stack (plans_of stack) group stamp members e.group
+  pub room : HasRoom stack members
+
+-- It is open, or its members would keep too many rows, or memory ran out.
+abbrev pub OpensExamined : List LayerTree → (group stamp members : ℕ) → Result Examination OpenError → Type 0
+OpensExamined stack group stamp members (Ok e) = IsExamination stack group stamp members e
+OpensExamined stack group stamp members (Err TooLarge) = most_rows < rows_of stack members
+OpensExamined stack group stamp members (Err Memory) = Unit {0}

@@ -1,0 +1,12 @@
+//! Groups that are opened over a stack: to be played layer by layer or by bypasses, or to be examined by the checks of the bypasses.
+#![tactic(auto)]
+
+mod codes;
+mod examining;
+mod opening;
+mod preparing;
+mod run;
+
+pub use examining::open_examined;
+pub use opening::open;
+pub use run::{Examination, Opened, Run};

@@ -1,0 +1,105 @@
+//! Groups that begin.
+
+ghost use Rattle.std.specs.Prelude.{◌≤◌};
+ghost use Rattle.std.specs.Option.{option_map};
+ghost use Rattle.std.specs.Rc.{rc_value};
+ghost use Rattle.bypass_member.specs.Modes.{mode_with};
+ghost use Rattle.chain_laws.specs.Runs.{TypedStack};
+ghost use Rattle.event_graph.specs.Answer.{stack_tree};
+ghost use Rattle.job_text.specs.Shown.{shown_mode};
+ghost use Rattle.group_open.specs.Opening.{Begins, CanRun, IsPrepared, Opens};
+ghost use Rattle.msg_core.specs.View.{most_members};
+
+use crate::preparing::prepare;
+use crate::run::{Begun, Opened, Parts, Run};
+use bypass_member::{OpenError, Opening};
+use event_graph::Stack;
+use job_text::Mode;
+use msg_core::Memory;
+use report_text::Pen;
+use std::alloc::Global;
+use world_core::World;
+
+/// Begins a group of so many members with what it is made of.
+pub(crate) fn begin(
+    alloc: Global,
+    parts: Parts,
+    group: u32,
+    stamp: u32,
+    members: u8,
+) -> Result<Begun, OpenError>
+    requires typed { TypedStack (stack_tree parts.stack) }
+    requires prepared { IsPrepared (mode_with (option_map rc_value parts.codes)) (stack_tree parts.stack) parts }
+    requires members { (1 ≤ members) × (members ≤ most_members) }
+    ensures { Begins (mode_with (option_map rc_value parts.codes)) (stack_tree parts.stack) group stamp members result }
+{
+    let Parts {
+        mut maker,
+        stack,
+        plans,
+        entries,
+        starts,
+        codes,
+        outputs,
+    } = parts;
+    let opening = Opening {
+        stack: stack.stack(),
+        plans: &plans,
+        entries: &entries,
+        starts,
+        codes: codes.as_ref(),
+        group,
+        stamp,
+    };
+    match World::begin(alloc, &mut maker, opening, members) {
+        Ok(world) => Ok(Begun {
+            stack,
+            plans,
+            entries,
+            outputs,
+            world,
+        }),
+        Err(error) => Err(error),
+    }
+}
+
+/// Opens a group of so many members over a stack, which run it in a mode.
+pub fn open(
+    alloc: Global,
+    mode: Mode,
+    stack: Stack,
+    group: u32,
+    stamp: u32,
+    members: u8,
+) -> Result<Opened, OpenError>
+    requires runs { CanRun (shown_mode mode) (stack_tree stack) }
+    requires members { (1 ≤ members) × (members ≤ most_members) }
+    ensures { Opens (shown_mode mode) (stack_tree stack) group stamp members result }
+{
+    let parts = match prepare(alloc, mode, stack) {
+        Ok(parts) => parts,
+        Err(Memory) => return Err(OpenError::Memory),
+    };
+    match begin(alloc, parts, group, stamp, members) {
+        Ok(begun) => {
+            let Begun {
+                stack,
+                plans,
+                entries: _,
+                outputs,
+                world,
+            } = begun;
+            Ok(Opened {
+                stack,
+                plans,
+                run: Run {
+                    world,
+                    outputs,
+                    visits: 0,
+                    pen: Pen::new(alloc),
+                },
+            })
+        }
+        Err(error) => Err(error),
+    }
+}

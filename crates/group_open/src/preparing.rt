@@ -1,0 +1,89 @@
+//! What runs begin with.
+
+ghost use Rattle.std.specs.Prelude.{IfOk};
+ghost use Rattle.std.specs.Option.{option_map};
+ghost use Rattle.std.specs.Rc.{rc_value};
+ghost use Rattle.bypass_laws.specs.Making.{IsSound};
+ghost use Rattle.event_graph.specs.Answer.{stack_tree};
+ghost use Rattle.job_text.specs.Shown.{shown_mode};
+ghost use Rattle.group_open.specs.Opening.{ArePartsOf, CanRun, IsDrawn, IsExaminable, IsPrepared};
+
+use crate::codes::{codes_for, examining_codes};
+use crate::run::{Drawn, Parts};
+use bypass_codes::Codes;
+use event_graph::Stack;
+use file_layer::Maker;
+use job_text::Mode;
+use msg_core::Memory;
+use report_lines::NamedStack;
+use stack_checks::StackChecks;
+use stack_shapes::StackShapes;
+use std::alloc::Global;
+use std::rc::Rc;
+use step_outputs::Outputs;
+
+/// Draws the plans of a stack and the shapes of its entries.
+fn draw(alloc: Global, stack: Stack) -> Result<Drawn, Memory>
+    ensures { IfOk result (IsDrawn (stack_tree stack)) }
+{
+    let (maker, stack) = Maker::of(alloc, stack)?;
+    let stack = NamedStack::of(alloc, stack)?;
+    let shapes = StackShapes::of(alloc, stack.stack())?;
+    Ok(Drawn {
+        maker,
+        stack,
+        shapes,
+    })
+}
+
+/// What a run is made of over a stack that is drawn.
+fn parts_of(alloc: Global, drawn: Drawn, codes: Option<Rc<Codes>>) -> Result<Parts, Memory>
+    ensures { IfOk result (ArePartsOf drawn (option_map rc_value codes)) }
+{
+    let Drawn {
+        maker,
+        stack,
+        shapes,
+    } = drawn;
+    let StackShapes {
+        plans,
+        starts,
+        entries,
+    } = shapes;
+    let outputs = Outputs::fresh(alloc, stack.stack())?;
+    Ok(Parts {
+        maker,
+        stack,
+        plans: Rc::new(alloc, plans)?,
+        entries: Rc::new(alloc, entries)?,
+        starts,
+        codes,
+        outputs,
+    })
+}
+
+/// What a run over a stack in a mode is made of.
+pub(crate) fn prepare(alloc: Global, mode: Mode, stack: Stack) -> Result<Parts, Memory>
+    requires { CanRun (shown_mode mode) (stack_tree stack) }
+    ensures { IfOk result (IsPrepared (shown_mode mode) (stack_tree stack)) }
+{
+    let drawn = draw(alloc, stack)?;
+    let codes = codes_for(alloc, mode, drawn.stack.stack(), &drawn.shapes)?;
+    parts_of(alloc, drawn, codes)
+}
+
+/// What a group is made of that is examined.
+pub(crate) fn prepare_examined(alloc: Global, stack: Stack) -> Result<(Parts, StackChecks), Memory>
+    requires { IsSound (stack_tree stack) }
+    ensures { IfOk result (λ made. IsExaminable (stack_tree stack) made.0 made.1) }
+{
+    let drawn = draw(alloc, stack)?;
+    let (codes, checks) = examining_codes(alloc, drawn.stack.stack(), &drawn.shapes)?;
+    match parts_of(alloc, drawn, Some(codes)) {
+        Ok(parts) => Ok((parts, checks)),
+        Err(memory) => {
+            checks.close();
+            Err(memory)
+        }
+    }
+}

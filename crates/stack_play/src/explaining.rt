@@ -1,0 +1,58 @@
+//! Why the steps of a script weren't common.
+
+ghost use Rattle.std.specs.Prelude.{◌≤◌, length};
+ghost use Rattle.bypass_laws.specs.Making.{IsSound};
+ghost use Rattle.event_graph.specs.Answer.{stack_tree};
+ghost use Rattle.layer_ast.specs.View.{file_tree};
+ghost use Rattle.miss_mean.specs.Text.{explained_lines};
+ghost use Rattle.outside.specs.Tells.{tells_of};
+ghost use Rattle.script_mean.specs.Script.{IsRunnable};
+ghost use Rattle.stack_mean.specs.Plans.{plans_of};
+ghost use Rattle.stack_play.specs.Play.{Plays, most_events};
+
+use crate::error::{PlayError, unopened, with_room};
+use event_graph::Stack;
+use group_open::{Examination, open_examined};
+use layer_ast::File;
+use miss_explain::{Texts, explain};
+use outside::Sink;
+use script_mean::Script;
+use std::alloc::Global;
+
+/// Plays a script by bypasses in the world in which it begins, and writes why its steps weren't common: a line for each, with lines of the file that
+/// the stack is of.
+pub fn explain_steps<O: Sink>(
+    alloc: Global,
+    file: &File,
+    stack: Stack,
+    script: &Script,
+    out: &mut O,
+) -> Result<(), PlayError>
+    requires sound { IsSound (stack_tree stack) }
+    requires runs { IsRunnable script.now }
+    requires few { length script.now.events ≤ most_events }
+    ensures { Plays (stack_tree stack) script.now.members (explained_lines (file_tree file.now) (stack_tree stack) (plans_of (stack_tree stack)) script.now)
+        (tells_of O.Sink out.old) (tells_of O.Sink out.new) result }
+{
+    match open_examined(alloc, stack, script.group, script.stamp, script.members) {
+        Ok(examination) => {
+            let Examination {
+                stack,
+                plans,
+                entries,
+                mut outputs,
+                mut group,
+            } = examination;
+            let texts = Texts {
+                file,
+                stack: &stack,
+                plans: &plans,
+                entries: &entries,
+            };
+            let wrote = explain(alloc, &mut group, texts, script, &mut outputs, out);
+            group.close();
+            with_room(wrote)
+        }
+        Err(error) => Err(unopened(error)),
+    }
+}
