@@ -1,23 +1,27 @@
 -- What a replay and a load come to whose run came to something.
-use Rattle.std.proofs.Common.{◌≡◌, refl, ◌∙◌, ap, ℕ, ◌<◌, List, [], Some, inl, inr, Bool, true, false, arith}
+use Rattle.std.proofs.Common.{◌≡◌, refl, sym, ◌∙◌, ap, ℕ, ◌<◌, List, [], Some, inl, inr, Bool, true, false, arith}
 use Rattle.std.specs.Prelude.{Result, Ok, Err, None, nat_le, if◌then◌else◌}
 use Rattle.std.specs.Option.{option_map}
 use Rattle.std.proofs.lemmas.Bool.{leb-true}
 use Rattle.clap.specs.Walk.{Text}
 use Rattle.outside.specs.Shelf.{after_read}
+use Rattle.layer_ast.specs.Tree.{FileTree}
 use Rattle.layer_mean.specs.Tree.{LayerTree}
 use Rattle.script_mean.specs.Generate.{generate}
 use Rattle.script_mean.specs.Script.{IsRunnable, script_of}
 use Rattle.script_mean.specs.declared.script.Script.{Script}
 use Rattle.stack_mean.specs.Acceptance.{rows_of, most_rows}
 use Rattle.stack_mean.specs.Plans.{plans_of}
-use Rattle.job_mean.specs.Job.{Mode, replay, load}
+use Rattle.job_mean.specs.Job.{Mode, Job, replay, explain, load}
 use Rattle.job_mean.specs.Status.{done, write_failed, no_memory, too_many_rows}
 use Rattle.run_mean.specs.Report.{output_in}
 use Rattle.run_mean.specs.Tally.{tally}
 use Rattle.program_mean.specs.Output.{HasRoom}
-use Rattle.program_mean.specs.Second.{crowded, after_script}
-use Rattle.job_ends.specs.Comes.{Around, Good, Comes}
+use Rattle.miss_mean.specs.Text.{explained_lines}
+use Rattle.program_mean.specs.Headline.{whole_end}
+use Rattle.program_mean.specs.Judged.{Means}
+use Rattle.program_mean.specs.Second.{crowded, after_script, second_fault}
+use Rattle.job_ends.specs.Comes.{Around, Beside, Finds, IsOutput, Good, Comes}
 use Rattle.job_ends.proofs.Comes.{written}
 use Rattle.file_jobs.specs.Stack.{IsStack}
 use Rattle.file_jobs.specs.Second.{IsSpelled}
@@ -33,73 +37,62 @@ too_many stack members more = go (nat_le (rows_of stack members) most_rows) refl
   go true is = let few = leb-true (rows_of stack members) most_rows is in absurd (omega (arith, few, more))
   go false is = refl
 
-module _ (name script : Text) (mode : Mode) (wire count : Bool) (a : Around) (between : ℕ) (stack : List LayerTree) (s : Script)
-    (f : IsStack name a.told a.reads between stack) (t : IsSpelled script_of IsRunnable script (option_map after_read a.told) between a.reads_after s) where
-  abbrev lines : List (List ℕ)
-  lines = output_in stack (plans_of stack) s mode wire count
+-- A job that plays over a stack whose file was found, beside its second file: its members have room or too many rows, and it came to what the run came to.
+module _ (job : Job) (a : Around) (stack : List LayerTree) (members : ℕ) (file second : List ℕ) (found : Finds job a.told (Some file))
+    (beside : Beside job a.told (Some second)) (means : Means file stack) (lines : List (List ℕ)) (output : HasRoom stack members → IsOutput job file second lines)
+    (whole : whole_end job file ≡ done) (judged : second_fault job stack second ≡ crowded stack members) (sound : a.reads_after ≡ a.reads) where
+  abbrev good : HasRoom stack members → Good job a.told
+  good room = record { file = file; second = second; found = found; beside = beside; lines = lines; output = output room }
 
-  abbrev good : HasRoom stack s.members → Good (replay name script mode wire count) a.told
-  good room = record {
-    file = f.file;
-    second = t.text;
-    found = f.found;
-    beside = t.found;
-    lines = lines;
-    output = record { stack = stack; means = f.means; script = s; spelled = t.spells; room = room; written = refl };
+  played : (run : Result (Unit {0}) PlayError) → Plays stack members lines a.output a.output_after run → Comes job a (end_of run)
+  played (Ok run) p = written job a (good p.0) done sound (whole, p.1)
+  played (Err TooManyRows) p = record {
+    cause = record {
+      file = file;
+      second = second;
+      found = found;
+      beside = beside;
+      stack = stack;
+      means = means;
+      refused = judged ∙ too_many stack members p.0;
+    };
+    sound = sound;
+    untouched = p.1;
   }
+  played (Err Failed) p = written job a (good p.0) write_failed sound p.1
+  played (Err Memory) (inl same) = inl same
+  played (Err Memory) (inr p) = written job a (good p.0) no_memory sound p.1
 
-  pub replay_comes : (run : Result (Unit {0}) PlayError) → Plays stack s.members lines a.output a.output_after run →
+module _ (name script : Text) (a : Around) (between : ℕ) (stack : List LayerTree) (s : Script)
+    (t : IsSpelled script_of IsRunnable script (option_map after_read a.told) between a.reads_after s) where
+  pub replay_comes : (mode : Mode) (wire count : Bool) → IsStack name a.told a.reads between stack → (run : Result (Unit {0}) PlayError) →
+      Plays stack s.members (output_in stack (plans_of stack) s mode wire count) a.output a.output_after run →
       Comes (replay name script mode wire count) a (end_of run)
   unfolding output_in
-  replay_comes (Ok run) p = written _ a (good p.0) done (t.sound ∙ f.sound) (refl, p.1)
-  replay_comes (Err TooManyRows) p = record {
-    cause = record {
-      file = f.file;
-      second = t.text;
-      found = f.found;
-      beside = t.found;
-      stack = stack;
-      means = f.means;
-      refused = ap (after_script stack) t.spells ∙ too_many stack s.members p.0;
-    };
-    sound = t.sound ∙ f.sound;
-    untouched = p.1;
-  }
-  replay_comes (Err Failed) p = written _ a (good p.0) write_failed (t.sound ∙ f.sound) p.1
-  replay_comes (Err Memory) (inl same) = inl same
-  replay_comes (Err Memory) (inr p) = written _ a (good p.0) no_memory (t.sound ∙ f.sound) p.1
+  replay_comes mode wire count f = played (replay name script mode wire count) a stack s.members f.file t.text f.found t.found f.means
+      (output_in stack (plans_of stack) s mode wire count)
+      (λ room. record { stack = stack; means = f.means; script = s; spelled = t.spells; room = room; written = refl })
+      refl (ap (after_script stack) t.spells) (t.sound ∙ f.sound)
 
-module _ (name : Text) (seed events members : ℕ) (raw : Bool) (mode : Mode) (a : Around) (stack : List LayerTree)
-    (f : IsStack name a.told a.reads a.reads_after stack) where
-  abbrev load_lines : List (List ℕ)
-  load_lines = tally stack (plans_of stack) mode (generate seed events members raw)
+  pub explain_comes : (tree : FileTree) (f : IsStack name a.told a.reads between stack) → f.means.file ≡ tree → (run : Result (Unit {0}) PlayError) →
+      Plays stack s.members (explained_lines tree stack (plans_of stack) s) a.output a.output_after run → Comes (explain name script) a (end_of run)
+  explain_comes tree f is = played (explain name script) a stack s.members f.file t.text f.found t.found f.means
+      (explained_lines tree stack (plans_of stack) s)
+      (λ room. record {
+        stack = stack;
+        means = f.means;
+        script = s;
+        spelled = t.spells;
+        room = room;
+        written = ap (λ file. explained_lines file stack (plans_of stack) s) (sym is);
+      })
+      refl (ap (after_script stack) t.spells) (t.sound ∙ f.sound)
 
-  abbrev load_good : HasRoom stack members → Good (load name seed events members raw mode) a.told
-  load_good room = record {
-    file = f.file;
-    second = [];
-    found = f.found;
-    beside = refl;
-    lines = load_lines;
-    output = record { stack = stack; means = f.means; room = room; written = refl };
-  }
-
-  pub load_comes : (run : Result (Unit {0}) PlayError) → Plays stack members load_lines a.output a.output_after run →
-      Comes (load name seed events members raw mode) a (end_of run)
-  load_comes (Ok run) p = written _ a (load_good p.0) done f.sound (refl, p.1)
-  load_comes (Err TooManyRows) p = record {
-    cause = record {
-      file = f.file;
-      second = [];
-      found = f.found;
-      beside = refl;
-      stack = stack;
-      means = f.means;
-      refused = too_many stack members p.0;
-    };
-    sound = f.sound;
-    untouched = p.1;
-  }
-  load_comes (Err Failed) p = written _ a (load_good p.0) write_failed f.sound p.1
-  load_comes (Err Memory) (inl same) = inl same
-  load_comes (Err Memory) (inr p) = written _ a (load_good p.0) no_memory f.sound p.1
+pub load_comes : (name : Text) (seed events members : ℕ) (raw : Bool) (mode : Mode) (a : Around) (stack : List LayerTree) →
+    IsStack name a.told a.reads a.reads_after stack → (run : Result (Unit {0}) PlayError) →
+    Plays stack members (tally stack (plans_of stack) mode (generate seed events members raw)) a.output a.output_after run →
+    Comes (load name seed events members raw mode) a (end_of run)
+load_comes name seed events members raw mode a stack f = played (load name seed events members raw mode) a stack members f.file [] f.found refl f.means
+    (tally stack (plans_of stack) mode (generate seed events members raw))
+    (λ room. record { stack = stack; means = f.means; room = room; written = refl })
+    refl refl f.sound

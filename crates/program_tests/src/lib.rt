@@ -3,6 +3,8 @@
 #![tactic(auto)]
 
 #[cfg(test)]
+mod explains;
+#[cfg(test)]
 mod fragments;
 #[cfg(test)]
 mod jobs;

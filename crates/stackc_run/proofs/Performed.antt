@@ -3,7 +3,7 @@ use Rattle.std.proofs.Common.{◌≡◌, ◌∙◌, refl, ap, inl, ℕ, List, Op
 use Rattle.clap.specs.Walk.{Text}
 use Rattle.outside.specs.Links.{Network}
 use Rattle.outside.specs.Shelf.{Shelved}
-use Rattle.job_mean.specs.Job.{Job, check, synth, replay, load, node, audit, job_of_words}
+use Rattle.job_mean.specs.Job.{Job, check, synth, replay, explain, load, node, audit, job_of_words}
 use Rattle.job_mean.specs.Status.{Ended, no_memory}
 use Rattle.program_laws.specs.OneEnd.{IsAlone}
 use Rattle.outside.specs.Said.{Errors}
@@ -22,6 +22,7 @@ alone : (job : Job) → way_of job ≡ over_files → IsAlone job
 alone (check file) is = tt
 alone (synth file) is = tt
 alone (replay file script mode wire count) is = tt
+alone (explain file script) is = tt
 alone (load file seed events members raw mode) is = tt
 alone (node file plan turns me patience mode) is = absurd (cc is)
 alone (audit file law) is = tt
@@ -31,6 +32,7 @@ node_is : (job : Job) (w : Node) → way_of job ≡ over_network w → job ≡ j
 node_is (check file) w is = absurd (cc is)
 node_is (synth file) w is = absurd (cc is)
 node_is (replay file script mode wire count) w is = absurd (cc is)
+node_is (explain file script) w is = absurd (cc is)
 node_is (load file seed events members raw mode) w is = absurd (cc is)
 node_is (node file plan turns me patience mode) w is =
     let own : Node = record { file = file; plan = plan; turns = turns; me = me; patience = patience; mode = mode } in

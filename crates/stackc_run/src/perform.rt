@@ -15,7 +15,7 @@ use job_ends::Ending;
 use job_text::{Job, job};
 use node_jobs::run_node;
 use outside::{Clock, Links, Shelf, Sink};
-use play_jobs::{load_stack, replay_script};
+use play_jobs::{explain_script, load_stack, replay_script};
 use std::alloc::Global;
 
 /// Does the job that the words name, and answers how it ended.
@@ -54,6 +54,7 @@ fn perform_job<S: Shelf, O: Sink, N: Links, C: Clock>(
         Job::Synth(file) => synthesize(alloc, *file, shelf, out),
         Job::Audit(audit) => audit_report(alloc, audit.file, audit.law, shelf, out),
         Job::Replay(replay) => replay_script(alloc, replay, shelf, out),
+        Job::Explain(explain) => explain_script(alloc, explain, shelf, out),
         Job::Load(load) => load_stack(alloc, load, shelf, out),
         Job::Node(node) => run_node(alloc, node, shelf, out, links, clock),
     }

@@ -5,7 +5,7 @@ use Rattle.job_ends.specs.Comes.{around, Comes}
 use Rattle.play_jobs.proofs.Plays.{load_comes}
 use Rattle.file_jobs.proofs.Sound.{means_sound}
 use Rattle.job_text.specs.Shown.{shown_mode}
-use Rattle.stack_play.proofs.Running.{can_run}
+use Rattle.group_open.proofs.Running.{can_run}
 use Rattle.play_jobs.proofs.load.load_stack.Goals as goal
 
 pub play_load-requires-clause-runs : goal.play_load-requires-clause-runs

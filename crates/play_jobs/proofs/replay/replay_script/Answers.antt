@@ -8,7 +8,7 @@ use Rattle.play_jobs.proofs.Plays.{replay_comes}
 use Rattle.file_jobs.proofs.SecondStops.{stops}
 use Rattle.file_jobs.proofs.Sound.{means_sound}
 use Rattle.job_text.specs.Shown.{shown_mode}
-use Rattle.stack_play.proofs.Running.{can_run}
+use Rattle.group_open.proofs.Running.{can_run}
 use Rattle.play_jobs.proofs.replay.replay_script.Goals as goal
 
 pub play-requires-clause-runs_stack : goal.play-requires-clause-runs_stack
@@ -19,8 +19,8 @@ returns-in-Ok-fetch_script g c =
     let job = c.args.replay.now in
     let a = around g.S.Shelf g.O.Sink c.args.shelf.now c.fetch_script.new.shelf c.args.out.now c.play.new.out in
     subst (Comes (replay job.file.now job.script.now (shown_mode job.mode) job.wire job.count) a) (sym c.ending.ensures)
-    (replay_comes job.file.now job.script.now (shown_mode job.mode) job.wire job.count a (g.S.Shelf.faults c.fetch_stack.new.shelf) (stack_tree c.in-Ok.stack)
-    c.in-Ok-fetch_script.script c.in-Ok.ensures.read (rw c.in-Ok.ensures.kept at c.in-Ok-fetch_script.ensures) c.play.result c.play.ensures)
+    (replay_comes job.file.now job.script.now a (g.S.Shelf.faults c.fetch_stack.new.shelf) (stack_tree c.in-Ok.stack) c.in-Ok-fetch_script.script
+    (rw c.in-Ok.ensures.kept at c.in-Ok-fetch_script.ensures) (shown_mode job.mode) job.wire job.count c.in-Ok.ensures.read c.play.result c.play.ensures)
 
 pub returns-in-Err-fetch_script : goal.returns-in-Err-fetch_script
 returns-in-Err-fetch_script g c = stops c.args.replay.now.file.now c.args.replay.now.script.now (shown_mode c.args.replay.now.mode) c.args.replay.now.wire c.args.replay.now.count
