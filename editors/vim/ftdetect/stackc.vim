@@ -1,0 +1,4 @@
+" Layer files, scripts and plans, and reports of stackc.
+autocmd BufRead,BufNewFile *.layers setfiletype layers
+autocmd BufRead,BufNewFile *.script,*.plan setfiletype stackscript
+autocmd BufRead,BufNewFile *.report setfiletype stackreport

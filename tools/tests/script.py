@@ -1,0 +1,186 @@
+#!/usr/bin/env python3
+"""Tries what ./stackc does around the program: its own words, its streams, how it is ended, its completions, and that made files aren't stale."""
+import os
+import shutil
+import signal
+import subprocess
+import sys
+import time
+
+from tree import TOP, apart, at_terminal, tree
+
+FAILED = []
+KIT = """#!/usr/bin/env bash
+# In the kit's place: `version` is answered, and all else runs until it is ended.
+[ "$1" != version ] || { echo "kit of this test"; exit 0; }
+echo $$ >>"$STARTED"
+exec sleep 600
+"""
+TRIES = """#!/usr/bin/env bash
+# In the kit's place: a trial runs the program in $STACKC, and says something of its own.
+while [ "$1" != -- ]; do shift; done
+shift
+"$STACKC" "$@"
+status=$?
+echo "run=ended status=$status" >&2
+exit "$status"
+"""
+SLOW = """#!/usr/bin/env bash
+# In the program's place: says at once that it runs, and then runs until it is ended.
+echo "read fault" >&2
+echo $$ >>"$STARTED"
+exec sleep 600
+"""
+
+
+def wants(what, is_so):
+    if not is_so:
+        FAILED.append(what)
+        print(f"not so: {what}")
+
+
+def executable(path, text):
+    with open(path, "w", encoding="utf-8") as file:
+        file.write(text)
+    os.chmod(path, 0o755)
+
+
+def started_in(path, count):
+    """The processes that a file names, once it names so many."""
+    for _ in range(600):
+        if os.path.exists(path):
+            with open(path, encoding="utf-8") as file:
+                pids = [int(line) for line in file]
+            if len(pids) >= count:
+                return pids
+        time.sleep(0.1)
+    return []
+
+
+def lives(pid):
+    try:
+        os.kill(pid, 0)
+    except OSError:
+        return False
+    with open(f"/proc/{pid}/stat", encoding="utf-8") as file:
+        return file.read().rsplit(")", 1)[1].split()[0] != "Z"
+
+
+def own_words(top):
+    """--help and --version, in a tree that isn't built."""
+    script = os.path.join(top, "stackc")
+    with open(os.path.join(TOP, "tools", "help.txt"), "rb") as file:
+        text = file.read()
+    for words in (["--help"], ["replay", "--help"], ["--trial", "--help"]):
+        wants(f"{words} prints help.txt", apart([script, *words], top) == (0, text, b""))
+    with open(os.path.join(TOP, "README.md"), encoding="utf-8") as file:
+        kit = file.read().rstrip().splitlines()[-1].split("`")[1]
+    away = {**os.environ, "PATH": os.pathsep.join(("/usr/bin", "/bin"))}
+    wants("--version names README's kit where there is none", apart([script, "--version"], top, env=away)[1].decode().endswith(f"\nkit {kit}\n"))
+    executable(os.path.join(top, "rt"), KIT)
+    near = {**os.environ, "PATH": top + os.pathsep + os.environ["PATH"]}
+    wants("--version names the kit that is there", apart([script, "--version"], top, env=near)[1] == b"stackc, commit unknown\nkit kit of this test\n")
+
+
+def ended(what, words, top, number, count, **how):
+    """Ends a run by a signal: it ends by this very signal, and all that it started has ended."""
+    path = os.path.join(top, f"started-{what}-{number}".replace(" ", "-"))
+    env = {**os.environ, "STARTED": path, "PATH": top + os.pathsep + os.environ["PATH"]}
+    with subprocess.Popen(words, cwd=top, env=env, stdin=subprocess.DEVNULL, stdout=subprocess.DEVNULL, **how) as run:
+        pids = started_in(path, count)
+        wants(f"{what} starts {count}", len(pids) >= count)
+        run.send_signal(number)
+        status = run.wait(60)
+    wants(f"{what} ends by {number}, and not with {status}", status == -number)
+    time.sleep(0.2)
+    for pid in filter(lives, pids):
+        wants(f"{what} ends what it runs by {number}", False)
+        os.kill(pid, signal.SIGKILL)
+
+
+def is_ended(top):
+    """A build, a trial and a run, each ended."""
+    os.mkdir(os.path.join(top, "crates", "one"))
+    os.mkdir(os.path.join(top, "crates", "two"))
+    os.remove(os.path.join(top, "crates.txt"))
+    with open(os.path.join(top, "crates.txt"), "w", encoding="utf-8") as file:
+        file.write("one:\ntwo:\nstackc: one two\n")
+    executable(os.path.join(top, "rt"), KIT)
+    script = os.path.join(top, "stackc")
+    for number in (signal.SIGINT, signal.SIGTERM):
+        ended("a build", [script, "check", "a"], top, number, 2, stderr=subprocess.DEVNULL)
+        ended("a trial", [script, "--trial", "check", "a"], top, number, 1, stderr=subprocess.DEVNULL)
+    executable(os.path.join(top, "crates", "stackc", "out", "stackc"), SLOW)
+    for number in (signal.SIGINT, signal.SIGTERM):
+        ended("a run", [script, "check", "a"], top, number, 1, stderr=subprocess.DEVNULL)
+        mine, its = os.openpty()
+        ended("a run at a terminal", [script, "check", "a"], top, number, 1, stderr=its)
+        os.close(its)
+        wants("a terminal gets what is said at once, and nothing else of a run that is ended", os.read(mine, 4096) == b"read fault\r\n")
+        os.close(mine)
+
+
+def trial_tells(top):
+    """What a trial says at a terminal, and without one."""
+    executable(os.path.join(top, "rt"), TRIES)
+    with open(os.path.join(top, "work", "a.layers"), "w", encoding="utf-8") as file:
+        file.write("stack { botom; }\n")
+    words = ["env", f"PATH={top}{os.pathsep}{os.environ['PATH']}", os.path.join(top, "stackc"), "--trial", "check", "a.layers"]
+    plain, shown = apart(words, os.path.join(top, "work")), at_terminal(words, os.path.join(top, "work"))
+    said = b"stackc: a trial, of a build that is not proved\nfile: unknown 1:9\n"
+    wants("a trial says what the program says", plain == (1, b"", said))
+    wants("at a terminal a trial says more", shown[:2] == (1, b"") and shown[2].startswith(said + b"a.layers:1:9: there is no layer"))
+
+
+def passes_on(top):
+    """Streams and statuses of a run in which nothing is refused."""
+    script, work = os.path.join(top, "stackc"), os.path.join(top, "examples")
+    words = ["replay", "order.layers", "order.script", "--count"]
+    ran = apart([script, *words], work)
+    wants("a run writes what the program writes", ran == apart([os.environ["STACKC"], *words], work) and ran[0] == 0)
+    piped = subprocess.run(["bash", "-c", f"cat order.layers | {script} check /dev/stdin"], cwd=work, stdout=subprocess.PIPE, check=False)
+    wants("the standard input is the program's", piped.stdout == b"accepted 4\n")
+
+
+def completes(line, *wanted):
+    """What bash offers behind words, of which the last is to be completed."""
+    words = " ".join(f"'{word}'" for word in line)
+    told = f"source {TOP}/tools/completions/stackc.bash; COMP_WORDS=({words}); COMP_CWORD={len(line) - 1}; _stackc; printf '%s\\n' \"${{COMPREPLY[@]}}\""
+    got = apart(["bash", "-c", told], os.path.join(TOP, "examples"))[1].decode().split()
+    wants(f"{line} is completed by {wanted}, and not by {got}", sorted(got) == sorted(wanted))
+
+
+def completions():
+    completes(["stackc", "re"], "replay")
+    completes(["stackc", "--trial", "ch"], "check")
+    completes(["stackc", "--v"], "--version")
+    completes(["stackc", "replay", "c"], "counter.layers")
+    completes(["stackc", "replay", "order.layers", "o"], "order.script")
+    completes(["stackc", "node", "--turns", "9", "counter.layers", "p"], "pair.plan")
+    completes(["stackc", "replay", "order.layers", "order.script", "--"], "--run", "--wire", "--count")
+    completes(["stackc", "load", "order.layers", "--run", "=", "l"], "layered")
+    completes(["stackc", "audit", "--law", "t"], "total")
+    completes(["stackc", "check", "order.layers", ""])
+
+
+def main():
+    with tree() as top:
+        own_words(top)
+    with tree() as top:
+        is_ended(top)
+    with tree() as top:
+        trial_tells(top)
+    with tree(os.environ["STACKC"]) as top:
+        passes_on(top)
+    completions()
+    if shutil.which("zsh"):
+        wants("zsh reads its completions", apart(["zsh", "-fn", os.path.join(TOP, "tools", "completions", "_stackc")], TOP) == (0, b"", b""))
+    if shutil.which("man"):
+        wants("man reads the page", apart(["man", "--warnings", "-l", os.path.join(TOP, "tools", "stackc.1")], TOP)[::2] == (0, b""))
+    wants("what tools/make.py writes is fresh", subprocess.run([sys.executable, os.path.join(TOP, "tools", "make.py"), "--check"], check=False).returncode == 0)
+    print(f"script: {len(FAILED)} not so")
+    sys.exit(bool(FAILED))
+
+
+if __name__ == "__main__":
+    main()

@@ -1,0 +1,156 @@
+"""The jobs of stackc as the table jobs.tsv has them, and why words are no job."""
+import difflib
+import os
+
+HERE = os.path.dirname(os.path.abspath(__file__))
+
+
+class NoJob(Exception):
+    """Why words are no job."""
+
+
+class Job:
+    """A job: the words at its places, its options with the words for their values, and those of them that it needs."""
+
+    def __init__(self, name, form, says):
+        self.name, self.form, self.says = name, form, says
+        self.places, self.options, self.needed = [], {}, []
+        words = form.split()
+        while words:
+            word = words.pop(0)
+            if not word.startswith(("--", "[--")):
+                self.places.append(word)
+                continue
+            option = word.strip("[]")
+            self.options[option] = None if word.endswith("]") else words.pop(0).rstrip("]")
+            if not word.startswith("["):
+                self.needed.append(option)
+
+    def usage(self):
+        return f"stackc {self.name} {self.form}"
+
+
+class Table:
+    """The jobs by name, the words by name with their forms and what they are, and the statuses."""
+
+    def __init__(self):
+        self.jobs, self.words, self.statuses = {}, {}, []
+        with open(os.path.join(HERE, "jobs.tsv"), encoding="utf-8") as file:
+            for line in file:
+                if line.startswith("#"):
+                    continue
+                what, name, form, says = line.rstrip("\n").split("\t")
+                if what == "job":
+                    self.jobs[name] = Job(name, form, says)
+                elif what == "word":
+                    self.words[name] = (form.split(), says)
+                else:
+                    self.statuses.append((name, form, says))
+
+    def options(self):
+        """All options of any job, each with the word for its value."""
+        return {option: value for job in self.jobs.values() for option, value in job.options.items()}
+
+    def read(self, words):
+        """The job of words with the words at its places and its options; raises NoJob where they are none."""
+        places, given = cut(words, self.options())
+        if not places:
+            raise NoJob("no job is named")
+        job = self.jobs.get(places[0])
+        if job is None:
+            raise NoJob(f"`{places[0]}` is no job" + nearest(places[0], self.jobs))
+        for option in given:
+            if option not in job.options:
+                raise NoJob(f"`{job.name}` has no `{option}`")
+        places = places[1:]
+        if len(places) > len(job.places):
+            raise NoJob(f"`{places[len(job.places)]}` is a word too many")
+        if len(places) < len(job.places):
+            name = job.places[len(places)]
+            raise NoJob(f"{name} is missing: {self.words[name][1]}")
+        for option in job.needed:
+            if option not in given:
+                raise NoJob(f"`{option} {job.options[option]}` is missing: {self.words[job.options[option]][1]}")
+        for option, value in given.items():
+            if job.options[option]:
+                fits(option, value, self.words[job.options[option]][0])
+        return job, dict(zip(job.places, places)), given
+
+    def fault(self, words):
+        """Why words are no job; None where they are one."""
+        try:
+            self.read(words)
+        except NoJob as fault:
+            return str(fault)
+        return None
+
+
+def nearest(word, known):
+    """A word of those known that is much like this one, as a question."""
+    found = difflib.get_close_matches(word, list(known), 1)
+    return f"; is `{found[0]}` meant?" if found else ""
+
+
+def cut(words, options):
+    """The words at their places, and the options with their values."""
+    places, given, left = [], {}, list(words)
+    while left:
+        word = left.pop(0)
+        if not is_text(word):
+            raise NoJob("a word isn't UTF-8")
+        if word == "--":
+            return places + left, given
+        if not word.startswith("-") or word == "-":
+            places.append(word)
+            continue
+        option, sign, value = word.partition("=")
+        if option in ("--trial", "--help", "--version"):
+            raise NoJob(f"`{option}` stands in front of the job")
+        if option not in options:
+            raise NoJob(f"there is no option `{option}`" + nearest(option, options))
+        if option in given:
+            raise NoJob(f"`{option}` is given twice")
+        given[option] = value_of(option, value if sign else None, options[option], left)
+    return places, given
+
+
+def value_of(option, value, wanted, left):
+    """The value of an option: behind `=`, or the next word."""
+    if wanted is None:
+        if value is not None:
+            raise NoJob(f"`{option}` has no value")
+        return None
+    if value is not None:
+        return value
+    if not left or (left[0].startswith("-") and left[0] != "-"):
+        raise NoJob(f"`{option}` needs a value behind it: `{option} {wanted}`")
+    return left.pop(0)
+
+
+def is_text(word):
+    """Whether a word is UTF-8."""
+    return not any("\udc80" <= letter <= "\udcff" for letter in word)
+
+
+def is_plain(word, low, high):
+    """Whether a word is a number without a sign or zeros in front, within bounds."""
+    digits = word.isascii() and word.isdigit() and (word == "0" or word[0] != "0")
+    return digits and len(word) <= 20 and low <= int(word) <= high
+
+
+def fits(option, value, form):
+    """Raises NoJob where a value doesn't have the form of its word."""
+    if form[0] == "one":
+        if value not in form[1:]:
+            raise NoJob(f"`{option}` is " + " or ".join(f"`{word}`" for word in form[1:]) + f", and not `{value}`")
+        return
+    low, high = int(form[1]), int(form[2])
+    if form[0] == "number":
+        if not is_plain(value, low, high):
+            raise NoJob(f"`{option}` is a number from {low} to {high} in plain digits, and not `{value}`")
+        return
+    members = value.split(",")
+    if not all(is_plain(member, low, high) for member in members):
+        raise NoJob(f"`{option}` is numbers from {low} to {high} with commas between, and not `{value}`")
+    if any(int(left) >= int(right) for left, right in zip(members, members[1:])):
+        raise NoJob(f"the numbers of `{option}` ascend, and those of `{value}` don't")
