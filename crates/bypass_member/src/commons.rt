@@ -168,6 +168,7 @@ fn try_cases(
 }
 
 /// Makes a common step by its code, and tells its case; where there is no code, or none passes, nothing has changed.
+#[inline(always)]
 pub(crate) fn make_common<'x>(
     works: &mut Works,
     scratch: &'x mut Scratch,

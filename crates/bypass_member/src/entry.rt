@@ -57,6 +57,7 @@ fn read(
 }
 
 /// What a member in a view makes of an input, or why it refuses it. A datagram is read into `scan`.
+#[inline(always)]
 pub(crate) fn judge<'b>(
     stack: &Stack,
     plans: &Plans,
@@ -91,6 +92,7 @@ pub(crate) fn judge<'b>(
 }
 
 /// The entry by which it is told whether a step is common.
+#[inline(always)]
 pub(crate) fn entry_of(plans: &Plans, entry: &Entry<'_>) -> EntryOf
     ensures { (here : Here) → result ≡ entry_for (plans_tree plans.now) (entry_meant here entry.now) }
 {

@@ -75,6 +75,7 @@ fn send_short(ground: &Ground<'_>, what: EntryOf, case: Case, out: &mut Outputs)
 
 /// Makes a common step by its code, its outputs sent short where they are, and tells whether it did; where there is no code, or none passes, nothing
 /// has changed.
+#[inline(always)]
 pub(crate) fn make_by_code<'x>(
     works: &mut Works,
     scratch: &'x mut Scratch,
