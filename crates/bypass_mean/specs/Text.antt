@@ -11,7 +11,7 @@ use Rattle.layer_ast.specs.Printed.{direction_sign, function_sign, operator_sign
 use Rattle.layer_ast.specs.Spelling.{reserved, symbols}
 use Rattle.layer_mean.specs.Headers.{declared}
 use Rattle.layer_mean.specs.Tree.{Form, numbers, queue, queues, CellTree, LayerTree, no_layer}
-use Rattle.job_mean.specs.Status.{kind_word}
+use Rattle.layer_ast.specs.Spelling.{kind_word}
 use Rattle.trace_mean.specs.Trace.{Atom, number, peer, field, bound, taken_number, value, Core, body, noted, taken_message, nothing, TraceNumber, atom, me, count, ltime, element, square, rows, item, size, binary, apply, pick, TraceMessage, core, held, cut, tail, join, Link, Chained, Operation, bind, note, check, set, set_square, push, take, output}
 use Rattle.trace_mean.specs.Fuse.{form_at}
 

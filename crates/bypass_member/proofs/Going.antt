@@ -5,7 +5,7 @@ use Rattle.std.specs.Option.{option_and_then}
 use Rattle.layer_mean.specs.declared.run.Case.{Case}
 use Rattle.layer_mean.specs.State.{State}
 use Rattle.stack_mean.specs.Plan.{Plan}
-use Rattle.job_mean.specs.Job.{Mode, layered, bypass}
+use Rattle.run_mean.specs.Mode.{Mode, layered, bypass}
 use Rattle.run_mean.specs.Common.{is_common, case_of, first_plan, short_from, is_planned, with_plans, as_sent}
 use Rattle.run_mean.specs.Member.{Entered, Output, Step}
 use Rattle.run_mean.specs.Report.{counted}

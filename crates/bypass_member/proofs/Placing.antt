@@ -28,7 +28,7 @@ use Rattle.bypass_member.specs.declared.member.Member.TheInside.{Inside}
 use Rattle.msg_core.specs.declared.packet.View.{View}
 use Rattle.layer_mean.specs.State.{State}
 use Rattle.packet_mean.specs.declared.here.Here.{Here}
-use Rattle.job_mean.specs.Job.{Mode}
+use Rattle.run_mean.specs.Mode.{Mode}
 use Rattle.run_mean.specs.Common.{is_common, as_sent}
 use Rattle.run_mean.specs.Report.{counted}
 use Rattle.run_mean.specs.Member.{Member, inside, out, Input, Refusal, Entered, entered, first_task, Step, step_from, member_behind}

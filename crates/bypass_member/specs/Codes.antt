@@ -9,7 +9,7 @@ use Rattle.stack_mean.specs.Plan.{Plan}
 use Rattle.run_mean.specs.Member.{Member}
 use Rattle.layer_mean.specs.Codes.{stack_code}
 use Rattle.member_reads.specs.Codes.{member_code}
-use Rattle.job_mean.specs.Job.{Mode}
+use Rattle.run_mean.specs.Mode.{Mode}
 use Rattle.bypass_member.specs.Modes.{mode_code}
 use Rattle.bypass_member.specs.Placed.{Placed}
 

@@ -1,7 +1,7 @@
 -- The mode in which a member runs, and what a step in it leaves.
 use Rattle.std.specs.Prelude.{◌≡◌, ℕ, Bool, true, false, List, Option, Some, None, refl}
 use Rattle.std.specs.Coded.{Coded, code_by, coded_bool}
-use Rattle.job_mean.specs.Job.{Mode, layered, bypass}
+use Rattle.run_mean.specs.Mode.{Mode, layered, bypass}
 use Rattle.bypass_codes.specs.Codes.{CodesTree}
 
 -- With code of its bypasses it runs by these; without it runs layer by layer.

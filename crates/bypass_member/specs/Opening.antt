@@ -13,7 +13,7 @@ use Rattle.stack_shapes.specs.Trees.{plans_tree}
 use Rattle.stack_shapes.specs.Starts.{starts_of, starts_tree}
 use Rattle.stack_shapes.specs.Shapes.{short_shapes}
 use Rattle.run_mean.specs.Member.{opened}
-use Rattle.job_mean.specs.Job.{Mode}
+use Rattle.run_mean.specs.Mode.{Mode}
 use Rattle.file_layer.specs.Making.{Making}
 use Rattle.bypass_codes.specs.Codes.{CodesTree}
 use Rattle.bypass_member.specs.Making.{MadeAtMost}

@@ -6,7 +6,7 @@ use Rattle.layer_mean.specs.State.{State}
 use Rattle.layer_mean.specs.Tree.{LayerTree}
 use Rattle.stack_mean.specs.Plan.{Plan}
 use Rattle.packet_mean.specs.declared.here.Here.{Here}
-use Rattle.job_mean.specs.Job.{Mode}
+use Rattle.run_mean.specs.Mode.{Mode}
 use Rattle.run_mean.specs.Common.{is_common, as_sent}
 use Rattle.run_mean.specs.Report.{counted}
 use Rattle.run_mean.specs.Member.{Member, inside, out, Input, Refusal, is_out, Entered, entered, first_task, Output, Step, step_from, member_behind}

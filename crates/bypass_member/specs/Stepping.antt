@@ -4,7 +4,7 @@ use Rattle.layer_mean.specs.State.{State}
 use Rattle.layer_mean.specs.Tree.{LayerTree}
 use Rattle.stack_mean.specs.Plan.{Plan}
 use Rattle.stack_mean.specs.Plans.{plans_of}
-use Rattle.job_mean.specs.Job.{Mode}
+use Rattle.run_mean.specs.Mode.{Mode}
 use Rattle.run_mean.specs.Common.{is_common, as_sent}
 use Rattle.run_mean.specs.Report.{counted}
 use Rattle.run_mean.specs.Member.{Entered, Output, Step, first_task, step_from, member_behind}

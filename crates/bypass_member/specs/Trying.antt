@@ -7,7 +7,7 @@ use Rattle.layer_mean.specs.declared.run.Case.{Case}
 use Rattle.packet_mean.specs.Plan.{fields_of, variable}
 use Rattle.stack_mean.specs.Plan.{Plan}
 use Rattle.stack_mean.specs.Acceptance.{largest_weight}
-use Rattle.job_mean.specs.Job.{Mode, layered, bypass}
+use Rattle.run_mean.specs.Mode.{Mode, layered, bypass}
 use Rattle.run_mean.specs.Common.{is_common_in, case_of}
 use Rattle.run_mean.specs.Member.{Entered, from_peer}
 use Rattle.trace_step_laws.specs.Steps.{entry_fields}

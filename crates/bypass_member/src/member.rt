@@ -73,7 +73,7 @@ impl Member {
     ghost use Rattle.bypass_laws.specs.Making.{IsSound};
     ghost use Rattle.chain_laws.specs.Runs.{TypedStack};
     ghost use Rattle.file_layer.specs.Making.{making};
-    ghost use Rattle.job_mean.specs.Job.{bypass};
+    ghost use Rattle.run_mean.specs.Mode.{bypass};
     ghost use Rattle.member_laws.specs.Members.{IsChainedMember};
     ghost use Rattle.miss_laws.specs.Told.{AreChecksOf};
     ghost use Rattle.msg_core.specs.View.{rank};

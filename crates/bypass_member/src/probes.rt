@@ -3,7 +3,7 @@
 ghost use Rattle.std.specs.Prelude.{◌≡◌, ℕ, List, Option, is_some, vec_capacity};
 ghost use Rattle.std.specs.List.{AllByRecursion};
 ghost use Rattle.bypass_laws.specs.Making.{IsSound};
-ghost use Rattle.job_mean.specs.Job.{bypass};
+ghost use Rattle.run_mean.specs.Mode.{bypass};
 ghost use Rattle.member_laws.specs.Members.{IsEntered};
 ghost use Rattle.miss_laws.specs.Told.{AreChecksOf};
 ghost use Rattle.miss_mean.specs.Lacks.{entry_named};

@@ -12,7 +12,8 @@ use Rattle.script_mean.specs.Script.{ScriptFault, too_long, bad_line, no_member,
 use Rattle.script_text.specs.Answer.{Answers}
 use Rattle.script_text.specs.declared.error.ScriptError.{ScriptError}
 use Rattle.script_text.specs.declared.error.ScriptError.TheVariants.{TooLong, BadLine, NoMember, Memory}
-use Rattle.job_mean.specs.Job.{Mode, Job, replay, explain}
+use Rattle.run_mean.specs.Mode.{Mode}
+use Rattle.job_mean.specs.Job.{Job, replay, explain}
 use Rattle.std.proofs.Common.{Bool, true, subst}
 use Rattle.job_mean.specs.Status.{Ended, second_refused, read_failed, no_memory, misspelled, too_many_rows}
 use Rattle.program_mean.specs.Second.{after_script, second_fault}

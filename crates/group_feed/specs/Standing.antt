@@ -4,7 +4,7 @@ use Rattle.std.specs.List.{filter_map}
 use Rattle.layer_mean.specs.Tree.{LayerTree}
 use Rattle.packet_mean.specs.Spelling.{full_bytes}
 use Rattle.stack_mean.specs.Plan.{Plan}
-use Rattle.job_mean.specs.Job.{Mode}
+use Rattle.run_mean.specs.Mode.{Mode}
 use Rattle.run_mean.specs.Member.{Member, Output, packet_in}
 use Rattle.run_mean.specs.World.{World}
 

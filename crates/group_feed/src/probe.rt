@@ -2,7 +2,7 @@
 
 ghost use Rattle.std.specs.Prelude.{◌≡◌, ◌<◌, length};
 ghost use Rattle.stack_mean.specs.Acceptance.{largest_weight};
-ghost use Rattle.job_mean.specs.Job.{bypass};
+ghost use Rattle.run_mean.specs.Mode.{bypass};
 ghost use Rattle.script_mean.specs.Event.{member_of};
 ghost use Rattle.run_mean.specs.World as mean;
 ghost use Rattle.group_feed.specs.Probing.{Probes};

@@ -1,7 +1,7 @@
 -- A sound stack can be run in both modes.
 use Rattle.std.specs.Prelude.{List}
 use Rattle.bypass_laws.specs.Making.{IsSound}
-use Rattle.job_mean.specs.Job.{Mode, layered, bypass}
+use Rattle.run_mean.specs.Mode.{Mode, layered, bypass}
 use Rattle.layer_mean.specs.Tree.{LayerTree}
 use Rattle.group_open.specs.Opening.{CanRun}
 

@@ -1,7 +1,7 @@
 -- What opening a group comes to that is examined.
 use Rattle.std.specs.Prelude.{◌≡◌, ℕ, ◌<◌, List, Result, Ok, Err}
 use Rattle.std.specs.Rc.{rc_value}
-use Rattle.job_mean.specs.Job.{bypass}
+use Rattle.run_mean.specs.Mode.{bypass}
 use Rattle.layer_mean.specs.Tree.{LayerTree}
 use Rattle.stack_mean.specs.Acceptance.{rows_of, largest_weight, most_rows}
 use Rattle.stack_mean.specs.Plans.{plans_of}

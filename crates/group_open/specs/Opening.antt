@@ -6,7 +6,7 @@ use Rattle.bypass_laws.specs.Making.{IsSound}
 use Rattle.bypass_member.specs.Modes.{mode_with}
 use Rattle.bypass_member.specs.Serving.{AreCodes, AreCodesOf}
 use Rattle.chain_laws.specs.Runs.{TypedStack}
-use Rattle.job_mean.specs.Job.{Mode, layered, bypass}
+use Rattle.run_mean.specs.Mode.{Mode, layered, bypass}
 use Rattle.layer_mean.specs.Tree.{LayerTree}
 use Rattle.stack_mean.specs.Acceptance.{rows_of, largest_weight, most_rows}
 use Rattle.stack_mean.specs.Plans.{plans_of}

@@ -3,7 +3,7 @@ use Rattle.std.specs.Prelude.{◌≡◌, ℕ, List, length}
 use Rattle.layer_mean.specs.Tree.{LayerTree}
 use Rattle.stack_mean.specs.Acceptance.{largest_weight}
 use Rattle.stack_mean.specs.Plan.{Plan}
-use Rattle.job_mean.specs.Job.{Mode}
+use Rattle.run_mean.specs.Mode.{Mode}
 use Rattle.run_mean.specs.World.{World, first_world}
 use Rattle.group_feed.specs.Standing.{Peopled, Stands}
 use Rattle.group_open.specs.declared.run.Run.{Run}

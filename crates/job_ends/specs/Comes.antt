@@ -15,7 +15,8 @@ use Rattle.script_mean.specs.Generate.{generate}
 use Rattle.script_mean.specs.Script.{script_of}
 use Rattle.script_mean.specs.declared.script.Script.{Script}
 use Rattle.stack_mean.specs.Plans.{plans_of}
-use Rattle.job_mean.specs.Job.{Mode, Job, check, synth, replay, explain, load, node, audit}
+use Rattle.run_mean.specs.Mode.{Mode}
+use Rattle.job_mean.specs.Job.{Job, check, synth, replay, explain, load, node, audit}
 use Rattle.job_mean.specs.Status.{FileFault, SecondFault, Ended, done, breached, file_refused, report_refused, words_refused, second_refused, read_failed, write_failed, no_memory}
 use Rattle.run_mean.specs.Report.{output_in}
 use Rattle.run_mean.specs.Tally.{tally, accepted_lines}

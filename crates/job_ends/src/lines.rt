@@ -3,6 +3,7 @@
 ghost use Rattle.std.specs.Prelude.{◌≡◌, ◌++◌, IfOk, codes};
 ghost use Rattle.std.specs.String.{string_bytes};
 ghost use Rattle.std.specs.Fmt.{decimal};
+ghost use Rattle.layer_ast.specs.Spelling as spelling;
 ghost use Rattle.job_mean.specs.Status as status;
 ghost use Rattle.job_ends.specs.Shown.{file_end};
 
@@ -63,14 +64,14 @@ fn placed(alloc: Global, cause: &str, at: At) -> Result<String, AllocError>
 
 /// A cycle with its place and its kind.
 fn cycle(alloc: Global, place: u8, kind: Kind) -> Result<String, AllocError>
-    ensures { IfOk result (λ line. string_bytes line ≡ codes "file: cycle " ++ decimal place ++ codes " " ++ status.kind_word kind ++ codes "\n") }
+    ensures { IfOk result (λ line. string_bytes line ≡ codes "file: cycle " ++ decimal place ++ codes " " ++ spelling.kind_word kind ++ codes "\n") }
 {
     format!(in alloc; "file: cycle {place} {}\n", kind_word(kind))
 }
 
 /// The word of a kind of event.
 fn kind_word(kind: Kind) -> &'static str
-    ensures { result.now ≡ status.kind_word kind }
+    ensures { result.now ≡ spelling.kind_word kind }
 {
     match kind {
         Kind::Cast => "Cast",

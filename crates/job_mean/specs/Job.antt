@@ -8,11 +8,7 @@ use Rattle.audit_mean.specs.declared.law.Law.TheVariants.{Sender, Total, Same}
 use Rattle.script_mean.specs.Words.{◌>>=◌, number_within}
 use Rattle.job_mean.specs.Given.{Given, given_of}
 use Rattle.msg_core.specs.View.{most_members, last_member}
-
--- how members run a stack: layer by layer, or by its bypasses where they hold
-pub data Mode : Type 0 where
-  layered : Mode
-  bypass : Mode
+use Rattle.run_mean.specs.Mode.{Mode, layered, bypass}
 
 -- what the program is to do: judge a file; print its bypasses; replay a script, with the packets' bytes or
 -- the number of visits if wanted; tell why the steps of a script weren't common; replay a script that is made from a seed, with datagrams in it

@@ -1,12 +1,9 @@
 -- How the program ends: its status, and its line on the standard error.
-use Rattle.std.specs.Prelude.{ℕ, List, [], ◌++◌, codes, find}
-use Rattle.std.specs.Option.{option_map_or}
+use Rattle.std.specs.Prelude.{ℕ, List, [], ◌++◌, codes}
 use Rattle.std.specs.Fmt.{decimal}
-use denote.Enum.Bare.{sameb}
 use Rattle.layer_ast.specs.declared.names.At.{At}
 use Rattle.layer_ast.specs.declared.tokens.Kind.{Kind}
-use Rattle.layer_ast.specs.contracts.tokens.Kind.{the_type}
-use Rattle.layer_ast.specs.Spelling.{kinds}
+use Rattle.layer_ast.specs.Spelling.{kind_word}
 use Rattle.script_mean.specs.Script.{ScriptFault, too_long, bad_line, no_member}
 use Rattle.audit_mean.specs.Finding as finding
 use Rattle.audit_mean.specs.Finding.{AuditFault}
@@ -60,10 +57,6 @@ status_number write_failed = 5
 status_number link_failed = 6
 status_number no_memory = 7
 status_number breached = 8
-
--- the word of a kind of event
-abbrev pub kind_word : Kind → List ℕ
-kind_word kind = option_map_or (λ entry. entry.0) (find (λ entry. sameb the_type entry.1 kind) kinds) []
 
 -- a cause with its line and column
 abbrev pub placed : List ℕ → At → List ℕ

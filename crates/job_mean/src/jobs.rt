@@ -3,7 +3,8 @@ ghost use Rattle.std.specs.Prelude.{◌≡◌, [], ◌∷◌, Some, codes, true,
 ghost use Rattle.clap.specs.Faults.{is_simple_and_free};
 ghost use Rattle.job_mean.specs.Command.{command};
 ghost use Rattle.audit_mean.specs.declared.law.Law.TheVariants.{Sender, Total, Same};
-ghost use Rattle.job_mean.specs.Job.{job_of_words, check, synth, replay, explain, load, node, audit, layered, bypass};
+ghost use Rattle.run_mean.specs.Mode.{layered, bypass};
+ghost use Rattle.job_mean.specs.Job.{job_of_words, check, synth, replay, explain, load, node, audit};
 
 /// The command is one of which `clap` promises what it finds, and that it refuses just what the definition
 /// refuses.

@@ -2,6 +2,7 @@
 use Rattle.std.specs.Prelude.{ℕ, List, Option, Some, option_map}
 use Rattle.clap.specs.Walk.{Text}
 use Rattle.script_mean.specs.Words.{◌>>=◌}
+use Rattle.run_mean.specs.Mode as mode
 use Rattle.job_mean.specs.Given as given
 use Rattle.job_mean.specs.Job as job
 use Rattle.job_mean.specs.Job.{a_number, a_number_or_zero, mode_of, most_node_turns, most_patience}
@@ -12,9 +13,9 @@ use Rattle.job_text.specs.declared.named.Mode.{Mode}
 use Rattle.job_text.specs.declared.named.Mode.TheVariants.{Layered, Bypass}
 use denote.Ref.{Bor}
 
-abbrev pub shown_mode : Mode → job.Mode
-shown_mode Layered = job.layered
-shown_mode Bypass = job.bypass
+abbrev pub shown_mode : Mode → mode.Mode
+shown_mode Layered = mode.layered
+shown_mode Bypass = mode.bypass
 
 abbrev pub shown_job : Job → job.Job
 shown_job (Check file) = job.check file.now

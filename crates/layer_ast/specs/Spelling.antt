@@ -4,6 +4,8 @@ use Rattle.std.specs.Char.{is_ascii_alphanumeric}
 use Rattle.std.specs.List.{starts_with}
 use Rattle.std.specs.Option.{option_map, option_map_or}
 use Rattle.std.specs.Str.{bytes_eq}
+use denote.Enum.Bare.{sameb}
+use Rattle.layer_ast.specs.contracts.tokens.Kind.{the_type}
 use Rattle.layer_ast.specs.declared.tokens.Kind.{Kind}
 use Rattle.layer_ast.specs.declared.tokens.Kind.TheVariants as kind
 use Rattle.layer_ast.specs.declared.tokens.Sign.{Sign}
@@ -86,6 +88,10 @@ kinds =
     ∷ (codes "View", kind.View)
     ∷ (codes "Leave", kind.Leave)
     ∷ []
+
+-- the word of a kind of event
+abbrev pub kind_word : Kind → List ℕ
+kind_word kind = option_map_or (λ entry. entry.0) (find (λ entry. sameb the_type entry.1 kind) kinds) []
 
 -- what stands beside a spelling in a table
 abbrev pub beside : {X : Type 0} → List (List ℕ × X) → List ℕ → Option X

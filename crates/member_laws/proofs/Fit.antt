@@ -23,7 +23,7 @@ use Rattle.stack_mean.specs.Plans.{plans_limit, is_packet, plan_of, outs_of, Gro
 use Rattle.stack_mean.specs.Acceptance.{weight_limit}
 use Rattle.stack_mean.specs.Shape.{Known, ShapeOut, Shape, entry_task, shape}
 use Rattle.stack_mean.specs.Shape as entry
-use Rattle.job_mean.specs.Job.{layered, bypass}
+use Rattle.run_mean.specs.Mode.{layered, bypass}
 use Rattle.run_mean.specs.Common.{is_short, is_common_in, is_planned, first_plan, with_plans}
 use Rattle.run_mean.specs.Member.{Entered, app_cast, app_send, app_leave, clock_tick, from_peer, Output, packet, first_task, output_of, Step, step_from}
 use Rattle.shape_laws.specs.Bare.{BareRun}

@@ -9,7 +9,7 @@ use Rattle.packet_mean.specs.Spelling.{IsSpellable, SpellsPacket}
 use Rattle.packet_mean.specs.declared.here.Here.{Here}
 use Rattle.stack_mean.specs.Plan.{Plan}
 use Rattle.stack_mean.specs.Plans.{plans_of}
-use Rattle.job_mean.specs.Job.{Mode}
+use Rattle.run_mean.specs.Mode.{Mode}
 use Rattle.run_mean.specs.Common.{as_sent, wire}
 use Rattle.run_mean.specs.Member.{Entered, Output, packet, first_task, step_from}
 use Rattle.shape_laws.specs.Bare.{BareRun}

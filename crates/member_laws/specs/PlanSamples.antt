@@ -5,7 +5,7 @@ use Rattle.layer_mean.specs.Visit.{fresh}
 use Rattle.packet_mean.specs.declared.here.Here.{Here}
 use Rattle.stack_mean.specs.Plans.{plans_of}
 use Rattle.stack_mean.specs.Samples.{kept}
-use Rattle.job_mean.specs.Job.{layered, bypass}
+use Rattle.run_mean.specs.Mode.{layered, bypass}
 use Rattle.run_mean.specs.Common.{is_common, as_sent}
 use Rattle.run_mean.specs.Member.{app_cast, Step, step_from}
 

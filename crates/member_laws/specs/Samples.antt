@@ -10,7 +10,7 @@ use Rattle.layer_mean.specs.State.{State}
 use Rattle.layer_mean.specs.Visit.{fresh}
 use Rattle.stack_mean.specs.Acceptance.{accepted}
 use Rattle.stack_mean.specs.Plans.{plans_of}
-use Rattle.job_mean.specs.Job.{bypass}
+use Rattle.run_mean.specs.Mode.{bypass}
 use Rattle.script_mean.specs.declared.event.ScriptEvent.{ScriptEvent}
 use Rattle.script_mean.specs.declared.event.ScriptEvent.TheVariants as script
 use Rattle.file_mean.specs.CounterFile as counter

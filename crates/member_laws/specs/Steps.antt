@@ -12,7 +12,7 @@ use Rattle.stack_mean.specs.Acceptance.{joins_limit, accepted}
 use Rattle.stack_mean.specs.Graph.{first_on_cycle}
 use Rattle.stack_mean.specs.Plan.{Plan}
 use Rattle.stack_mean.specs.Plans.{plans_of}
-use Rattle.job_mean.specs.Job.{Mode}
+use Rattle.run_mean.specs.Mode.{Mode}
 use Rattle.run_mean.specs.Common.{as_sent, wire}
 use Rattle.run_mean.specs.Member.{Entered, Output, packet, first_task, most_turns, Step, step_from}
 use Rattle.shape_laws.specs.Bare.{BareRun}

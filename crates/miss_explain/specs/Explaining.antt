@@ -2,7 +2,7 @@
 use Rattle.std.specs.Prelude.{◌≡◌, ℕ, List, [], ◌∷◌, length, Result, Ok, Err}
 use Rattle.std.specs.List.{enumerate_from, flat_map}
 use Rattle.group_feed.specs.Standing.{Peopled, Stands}
-use Rattle.job_mean.specs.Job.{bypass}
+use Rattle.run_mean.specs.Mode.{bypass}
 use Rattle.layer_ast.specs.Tree.{FileTree}
 use Rattle.layer_mean.specs.Tree.{LayerTree}
 use Rattle.miss_mean.specs.Text.{event_misses, miss_line}

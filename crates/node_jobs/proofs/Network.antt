@@ -8,7 +8,7 @@ use Rattle.layer_mean.specs.Tree.{LayerTree}
 use Rattle.script_mean.specs.declared.plan.NodePlan.{NodePlan}
 use Rattle.stack_mean.specs.Plan.{Plan}
 use Rattle.stack_mean.specs.Plans.{plans_of}
-use Rattle.job_mean.specs.Job.{Mode}
+use Rattle.run_mean.specs.Mode.{Mode}
 use Rattle.run_mean.specs.Journal.{Heard, datagram, silence, failure, Handed, handed, journal}
 use Rattle.run_mean.specs.Report.{moments}
 use Rattle.run_mean.specs.World.{World, happens}

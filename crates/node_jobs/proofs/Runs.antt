@@ -8,7 +8,7 @@ use Rattle.outside.specs.Shelf.{after_read}
 use Rattle.layer_mean.specs.Tree.{LayerTree}
 use Rattle.script_mean.specs.NodePlan.{node_plan}
 use Rattle.script_mean.specs.declared.plan.NodePlan.{NodePlan}
-use Rattle.job_mean.specs.Job.{Mode}
+use Rattle.run_mean.specs.Mode.{Mode}
 use Rattle.job_mean.specs.Status.{Ended, done, second_refused, write_failed, link_failed, no_memory}
 use Rattle.program_mean.specs.Headline.{node_words}
 use Rattle.program_mean.specs.Output.{HasRoom}

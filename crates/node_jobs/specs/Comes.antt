@@ -7,7 +7,8 @@ use Rattle.outside.specs.declared.links.Links as networks
 use Rattle.outside.specs.Shelf.{Shelved}
 use Rattle.outside.specs.declared.sink.SinkError.{SinkError}
 use Rattle.outside.specs.declared.sink.SinkError.TheVariants.{Failed, Memory}
-use Rattle.job_mean.specs.Job.{Job, Mode, node}
+use Rattle.run_mean.specs.Mode.{Mode}
+use Rattle.job_mean.specs.Job.{Job, node}
 use Rattle.job_mean.specs.Status.{Ended, done, file_refused, second_refused, read_failed, write_failed, link_failed, no_memory}
 use Rattle.program_mean.specs.Headline.{node_words}
 use Rattle.program_mean.specs.Output.{IsNode}

@@ -7,7 +7,7 @@ use Rattle.layer_mean.specs.Tree.{LayerTree}
 use Rattle.script_mean.specs.Event.{member_of}
 use Rattle.script_mean.specs.declared.event.ScriptEvent.{ScriptEvent}
 use Rattle.stack_mean.specs.Plan.{Plan}
-use Rattle.job_mean.specs.Job.{Mode}
+use Rattle.run_mean.specs.Mode.{Mode}
 use Rattle.run_mean.specs.Common.{as_sent, plan_behind, short_from, with_plans}
 use Rattle.run_mean.specs.Journal.{handed_in, handed_output, receivers}
 use Rattle.run_mean.specs.Member.{Output, deliver_cast, deliver_send, block, announce, packet, nowhere, timer, quiet}

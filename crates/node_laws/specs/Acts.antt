@@ -6,7 +6,7 @@ use Rattle.layer_mean.specs.Tree.{LayerTree}
 use Rattle.script_mean.specs.Event.{member_of}
 use Rattle.script_mean.specs.declared.event.ScriptEvent.{ScriptEvent}
 use Rattle.stack_mean.specs.Plan.{Plan}
-use Rattle.job_mean.specs.Job.{Mode}
+use Rattle.run_mean.specs.Mode.{Mode}
 use Rattle.run_mean.specs.Common.{as_sent}
 use Rattle.run_mean.specs.Journal.{Handed, handed_output}
 use Rattle.run_mean.specs.Lines.{absent_line, refused_line}

@@ -8,7 +8,7 @@ use Rattle.member_laws.specs.Members.{IsChainedWorld}
 use Rattle.script_mean.specs.Event.{member_of}
 use Rattle.script_mean.specs.declared.event.ScriptEvent.{ScriptEvent}
 use Rattle.stack_mean.specs.Plan.{Plan}
-use Rattle.job_mean.specs.Job.{Mode}
+use Rattle.run_mean.specs.Mode.{Mode}
 use Rattle.run_mean.specs.Journal.{Handed}
 use Rattle.run_mean.specs.Member.{Member, inside, out}
 use Rattle.run_mean.specs.World.{World, first_world, happens}

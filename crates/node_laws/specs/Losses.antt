@@ -7,7 +7,7 @@ use Rattle.script_mean.specs.Event.{member_of}
 use Rattle.script_mean.specs.EventText.{event_text}
 use Rattle.script_mean.specs.declared.event.ScriptEvent.{ScriptEvent}
 use Rattle.stack_mean.specs.Plan.{Plan}
-use Rattle.job_mean.specs.Job.{Mode}
+use Rattle.run_mean.specs.Mode.{Mode}
 use Rattle.run_mean.specs.Common.{with_plans}
 use Rattle.run_mean.specs.Journal.{Handed, receivers, handed, handed_in, journal, note_lines}
 use Rattle.run_mean.specs.Lines.{line}

@@ -4,7 +4,7 @@ use Rattle.outside.specs.Links.{Network, Sent, Met, Came, Quiet, Broke, next_fat
 use Rattle.outside.specs.declared.links.Fate.{Fate}
 use Rattle.layer_mean.specs.Tree.{LayerTree}
 use Rattle.stack_mean.specs.Plan.{Plan}
-use Rattle.job_mean.specs.Job.{Mode}
+use Rattle.run_mean.specs.Mode.{Mode}
 use Rattle.run_mean.specs.Journal.{Handed, Heard, datagram, silence, failure}
 use Rattle.run_mean.specs.World.{World, happens}
 use Rattle.node_laws.specs.Doings.{Doing, does, asks, bears}

@@ -9,7 +9,7 @@ use Rattle.outside.specs.Links.{Network}
 use Rattle.outside.specs.declared.links.Peer.{Peer}
 use Rattle.outside.specs.declared.sink.SinkError.{SinkError}
 use Rattle.outside.specs.declared.sink.SinkError.TheVariants as sink
-use Rattle.job_mean.specs.Job.{Mode}
+use Rattle.run_mean.specs.Mode.{Mode}
 use Rattle.layer_mean.specs.Tree.{LayerTree}
 use Rattle.packet_mean.specs.ChainedState.{IsNumber}
 use Rattle.chain_laws.specs.Runs.{TypedStack}

@@ -5,7 +5,7 @@ use Rattle.outside.specs.declared.sink.SinkError.{SinkError}
 use Rattle.layer_mean.specs.Tree.{LayerTree}
 use Rattle.script_mean.specs.declared.event.ScriptEvent.{ScriptEvent}
 use Rattle.stack_mean.specs.Plan.{Plan}
-use Rattle.job_mean.specs.Job.{Mode}
+use Rattle.run_mean.specs.Mode.{Mode}
 use Rattle.run_mean.specs.World.{World, happens}
 use Rattle.group_feed.specs.Standing.{Peopled}
 use Rattle.node_loop.specs.Around.{Around}

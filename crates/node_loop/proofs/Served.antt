@@ -13,7 +13,7 @@ use Rattle.script_mean.specs.declared.event.ScriptEvent.{ScriptEvent}
 use Rattle.script_mean.specs.declared.plan.NodePlan.{NodePlan}
 use Rattle.stack_mean.specs.Plan.{Plan}
 use Rattle.stack_mean.specs.Plans.{plans_of}
-use Rattle.job_mean.specs.Job.{Mode}
+use Rattle.run_mean.specs.Mode.{Mode}
 use Rattle.run_mean.specs.Journal.{failure, handed, node_lines, node_run, note_lines}
 use Rattle.run_mean.specs.Report.{end_line, moments}
 use Rattle.run_mean.specs.World.{World, happens}

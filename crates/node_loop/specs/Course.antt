@@ -6,7 +6,7 @@ use Rattle.layer_mean.specs.Tree.{LayerTree}
 use Rattle.event_graph.specs.Answer.{stack_tree}
 use Rattle.stack_shapes.specs.Trees.{plans_tree}
 use Rattle.stack_mean.specs.Plan.{Plan}
-use Rattle.job_mean.specs.Job.{Mode}
+use Rattle.run_mean.specs.Mode.{Mode}
 use Rattle.script_mean.specs.declared.event.ScriptEvent.{ScriptEvent}
 use Rattle.run_mean.specs.Journal.{Heard, failure}
 use Rattle.run_mean.specs.Report.{end_line}

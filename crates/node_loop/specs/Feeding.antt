@@ -3,7 +3,7 @@ use Rattle.std.specs.Prelude.{◌≡◌, ℕ, ◌+◌, ◌<◌, List, length, Op
 use Rattle.std.specs.List.{AllByRecursion}
 use Rattle.outside.specs.declared.sink.SinkError.{SinkError}
 use Rattle.layer_mean.specs.Tree.{LayerTree}
-use Rattle.job_mean.specs.Job.{Mode}
+use Rattle.run_mean.specs.Mode.{Mode}
 use Rattle.chain_laws.specs.Runs.{TypedStack}
 use Rattle.packet_laws.specs.Strays.{AreNumbered}
 use Rattle.member_laws.specs.Members.{IsChainedWorld}

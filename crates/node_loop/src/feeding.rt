@@ -5,7 +5,7 @@ ghost use Rattle.packet_mean.specs.ChainedState.{IsNumber};
 ghost use Rattle.packet_mean.specs.Spelling.{AreBytes};
 ghost use Rattle.member_laws.specs.Members.{IsGivenEvent};
 ghost use Rattle.script_mean.specs.Event.{member_of};
-ghost use Rattle.job_mean.specs.Job.{Mode};
+ghost use Rattle.run_mean.specs.Mode.{Mode};
 ghost use Rattle.run_mean.specs.World.{World};
 ghost use Rattle.outside.specs.Lines.{Wrote};
 ghost use Rattle.outside.specs.Tells.{tells_of};

@@ -12,7 +12,8 @@ use Rattle.script_mean.specs.Script.{IsRunnable, script_of}
 use Rattle.script_mean.specs.declared.script.Script.{Script}
 use Rattle.stack_mean.specs.Acceptance.{rows_of, most_rows}
 use Rattle.stack_mean.specs.Plans.{plans_of}
-use Rattle.job_mean.specs.Job.{Mode, Job, replay, explain, load}
+use Rattle.run_mean.specs.Mode.{Mode}
+use Rattle.job_mean.specs.Job.{Job, replay, explain, load}
 use Rattle.job_mean.specs.Status.{done, write_failed, no_memory, too_many_rows}
 use Rattle.run_mean.specs.Report.{output_in}
 use Rattle.run_mean.specs.Tally.{tally}

@@ -8,7 +8,8 @@ use Rattle.script_mean.specs.declared.script.Script.{Script}
 use Rattle.audit_mean.specs.Finding.{AuditFault, audit_of}
 use Rattle.audit_mean.specs.declared.law.Finding.{Finding}
 use Rattle.audit_mean.specs.declared.law.Finding.TheVariants.{Breach}
-use Rattle.job_mean.specs.Job.{Mode, layered, bypass, Job, check, synth, replay, explain, load, node, audit, job_of_words}
+use Rattle.run_mean.specs.Mode.{Mode, layered, bypass}
+use Rattle.job_mean.specs.Job.{Job, check, synth, replay, explain, load, node, audit, job_of_words}
 use Rattle.job_mean.specs.Status.{FileFault, SecondFault, Ended, done, breached, file_refused, report_refused, words_refused, second_refused, read_failed, write_failed, link_failed, no_memory, status_number, error_line}
 use Rattle.run_mean.specs.Journal.{Heard, Handed}
 use Rattle.run_mean.specs.Report.{report_lines, output_in}

@@ -14,7 +14,7 @@ use Rattle.script_mean.specs.declared.plan.NodePlan.{NodePlan}
 use Rattle.script_mean.specs.declared.script.Script.{Script}
 use Rattle.stack_mean.specs.Acceptance.{rows_of, most_rows}
 use Rattle.stack_mean.specs.Plans.{plans_of}
-use Rattle.job_mean.specs.Job.{Mode}
+use Rattle.run_mean.specs.Mode.{Mode}
 use Rattle.run_mean.specs.Journal.{Heard, failure, Note, notes_of, node_run, note_lines, node_lines, Handed, handed}
 use Rattle.run_mean.specs.Report.{Moment, output_in}
 use Rattle.run_mean.specs.Tally.{tally, accepted_lines}

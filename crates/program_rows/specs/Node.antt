@@ -1,6 +1,6 @@
 -- A node of all three members of the counter stack through two turns, the fourth receive of which fails.
 use Rattle.std.specs.Prelude.{ℕ, List, [], ◌∷◌, ◌++◌, codes}
-use Rattle.job_mean.specs.Job.{bypass}
+use Rattle.run_mean.specs.Mode.{bypass}
 use Rattle.run_mean.specs.Journal.{Heard, silence, failure}
 use Rattle.file_mean.specs.CounterFile as counter
 use Rattle.program_mean.specs.Output.{Surroundings, NodeWords, Serves, GoesDeaf}

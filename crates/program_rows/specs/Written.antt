@@ -1,6 +1,6 @@
 -- Whole runs, from the bytes of both files to the bytes that are written.
 use Rattle.std.specs.Prelude.{ℕ, List, ◌++◌, codes, true, false}
-use Rattle.job_mean.specs.Job.{layered, bypass}
+use Rattle.run_mean.specs.Mode.{layered, bypass}
 use Rattle.file_mean.specs.CounterFile as counter
 use Rattle.library_rows.specs.WholeStack as whole
 use Rattle.audit_mean.specs.declared.law.Law.TheVariants.{Sender, Total}

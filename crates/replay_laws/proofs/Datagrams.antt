@@ -14,7 +14,7 @@ use Rattle.stack_mean.specs.Plan.{Plan}
 use Rattle.script_mean.specs.Event.{member_of}
 use Rattle.script_mean.specs.declared.event.ScriptEvent.{ScriptEvent}
 use Rattle.script_mean.specs.declared.event.ScriptEvent.TheVariants as script
-use Rattle.job_mean.specs.Job.{Mode}
+use Rattle.run_mean.specs.Mode.{Mode}
 use Rattle.run_mean.specs.Common.{plan_for, plan_behind, with_plans, short_from, as_sent, wire}
 use Rattle.run_mean.specs.Lines.{packet_line, wire_line}
 use Rattle.run_mean.specs.Member.{Member, inside, out, Input, cast, send, leave, tick, datagram, Refusal, Entered, entered, Output, deliver_cast, deliver_send, block, announce, packet, nowhere, timer, quiet, packet_in, step_from}

@@ -10,7 +10,7 @@ use Rattle.stack_mean.specs.Plans.{plans_of}
 use Rattle.script_mean.specs.Event.{member_of}
 use Rattle.script_mean.specs.declared.event.ScriptEvent.{ScriptEvent}
 use Rattle.script_mean.specs.declared.script.Script.{Script}
-use Rattle.job_mean.specs.Job.{Mode}
+use Rattle.run_mean.specs.Mode.{Mode}
 use Rattle.run_mean.specs.Common.{as_sent, first_missed, wire}
 use Rattle.run_mean.specs.Member.{Output, deliver_cast, deliver_send, block, announce, packet, nowhere, timer, quiet, Step, step_from}
 use Rattle.run_mean.specs.World.{World, Did, taken, refused, absent, shown, here_of, packet_number}

@@ -7,7 +7,7 @@ use Rattle.stack_mean.specs.Plan.{Plan}
 use Rattle.script_mean.specs.Event.{member_of}
 use Rattle.script_mean.specs.declared.event.ScriptEvent.{ScriptEvent}
 use Rattle.script_mean.specs.declared.script.Script.{Script}
-use Rattle.job_mean.specs.Job.{Mode}
+use Rattle.run_mean.specs.Mode.{Mode}
 use Rattle.run_mean.specs.Common.{as_sent, wire}
 use Rattle.run_mean.specs.Lines.{packet_line, wire_line}
 use Rattle.run_mean.specs.Member.{Output, packet}

@@ -10,7 +10,7 @@ use Rattle.stack_mean.specs.Shape.{Known, Shape, shape}
 use Rattle.script_mean.specs.Event.{member_of}
 use Rattle.script_mean.specs.declared.event.ScriptEvent.{ScriptEvent}
 use Rattle.script_mean.specs.declared.script.Script.{Script}
-use Rattle.job_mean.specs.Job.{Mode}
+use Rattle.run_mean.specs.Mode.{Mode}
 use Rattle.run_mean.specs.Common.{as_sent, entry_of, first_missed, wire}
 use Rattle.run_mean.specs.Member.{packet, Step}
 use Rattle.run_mean.specs.World.{World, first_world, packet_number, Did, taken}

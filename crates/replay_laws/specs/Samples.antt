@@ -8,7 +8,7 @@ use Rattle.stack_mean.specs.Plans.{plans_of}
 use Rattle.stack_mean.specs.Shape.{app_cast, packet_entry, Shape, shape}
 use Rattle.script_mean.specs.declared.event.ScriptEvent.{ScriptEvent}
 use Rattle.script_mean.specs.declared.event.ScriptEvent.TheVariants as script
-use Rattle.job_mean.specs.Job.{Mode, layered, bypass}
+use Rattle.run_mean.specs.Mode.{Mode, layered, bypass}
 use Rattle.file_mean.specs.CounterFile as counter
 use Rattle.run_mean.specs.Common.{first_missed}
 use Rattle.run_mean.specs.World.{first_world, Did, taken}

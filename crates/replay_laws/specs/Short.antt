@@ -11,7 +11,7 @@ use Rattle.packet_mean.specs.declared.here.Here.{Here}
 use Rattle.stack_mean.specs.Plans.{is_packet, plan_of, outs_of, Group, groups, plans_before, plans_of}
 use Rattle.stack_mean.specs.Shape.{ShapeOut, shape}
 use Rattle.stack_mean.specs.Shape as entry
-use Rattle.job_mean.specs.Job.{Mode, layered, bypass}
+use Rattle.run_mean.specs.Mode.{Mode, layered, bypass}
 use Rattle.run_mean.specs.Common.{case_of, as_sent, wire}
 use Rattle.run_mean.specs.Member.{Entered, app_cast, app_send, Output, packet, Step, step_from}
 use Rattle.member_laws.specs.Steps.{IsStep}

@@ -1,7 +1,7 @@
 -- What is told of a moment are its lines.
 use Rattle.std.proofs.Common.{◌≡◌, ℕ, Bool, true, false, List, ◌∷◌, [], ◌++◌, map, refl, sym, ap, ◌∙◌, Option, None, Some}
 use Rattle.std.specs.Prelude.{option_to_list}
-use Rattle.job_mean.specs.Job.{Mode}
+use Rattle.run_mean.specs.Mode.{Mode}
 use Rattle.layer_mean.specs.Tree.{LayerTree}
 use Rattle.run_mean.specs.Common.{as_sent, plan_behind, short_from, with_plans}
 use Rattle.run_mean.specs.Lines.{refused_line}

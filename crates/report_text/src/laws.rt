@@ -1,7 +1,7 @@
 //! Laws of what is told and of what is counted, the contracts of functions that do nothing.
 
 ghost use Rattle.std.specs.Prelude.{◌≡◌, ◌++◌, ◌∷◌, [], ℕ, Bool, List, Option};
-ghost use Rattle.job_mean.specs.Job.{Mode};
+ghost use Rattle.run_mean.specs.Mode.{Mode};
 ghost use Rattle.layer_mean.specs.Tree.{LayerTree};
 ghost use Rattle.run_mean.specs.Member.{Member, Output};
 ghost use Rattle.run_mean.specs.Report.{Moment, first_number, mode_if, moment_lines, run_of};

@@ -15,7 +15,7 @@ use Rattle.stack_mean.specs.Plans.{plans_before}
 use Rattle.packet_mean.specs.Plan.{least_fit}
 use Rattle.stack_mean.specs.Plan.{Plan}
 use Rattle.packet_mean.specs.Spelling.{full_bytes, short_bytes}
-use Rattle.job_mean.specs.Job.{Mode, layered, bypass}
+use Rattle.run_mean.specs.Mode.{Mode, layered, bypass}
 use Rattle.run_mean.specs.Member.{Entered, app_cast, app_send, app_leave, clock_tick, from_peer, Output, packet, nowhere, Step}
 
 -- The entry of a plan: its packet's cast or send.

@@ -1,3 +1,4 @@
+pub mod Mode
 pub mod View
 pub mod Member
 pub mod World

@@ -11,7 +11,7 @@ use Rattle.script_mean.specs.declared.event.ScriptEvent.{ScriptEvent}
 use Rattle.script_mean.specs.declared.event.ScriptEvent.TheVariants as script
 use Rattle.script_mean.specs.declared.script.Script.{Script}
 use Rattle.stack_mean.specs.Plan.{Plan}
-use Rattle.job_mean.specs.Job.{Mode, layered, bypass}
+use Rattle.run_mean.specs.Mode.{Mode, layered, bypass}
 use Rattle.run_mean.specs.Member.{Member, inside, out, Output, deliver_cast, deliver_send, block, announce, packet, nowhere, timer, quiet, Step}
 use Rattle.run_mean.specs.World.{World, first_world, member_at, Did, taken, refused, absent, shown, Happening, happens}
 use Rattle.run_mean.specs.Common.{is_common, with_plans, as_sent, wire}

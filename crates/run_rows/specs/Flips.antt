@@ -8,7 +8,7 @@ use Rattle.script_mean.specs.declared.event.ScriptEvent.{ScriptEvent}
 use Rattle.script_mean.specs.declared.event.ScriptEvent.TheVariants as script
 use Rattle.stack_mean.specs.Plan.{Plan}
 use Rattle.stack_mean.specs.Plans.{plans_of}
-use Rattle.job_mean.specs.Job.{layered, bypass}
+use Rattle.run_mean.specs.Mode.{layered, bypass}
 use Rattle.run_mean.specs.Common.{case_of}
 use Rattle.run_mean.specs.Report.{run_of}
 use Rattle.run_mean.specs.World.{Did, taken}

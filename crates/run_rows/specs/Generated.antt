@@ -4,7 +4,7 @@ use Rattle.std.specs.List.{concat}
 use Rattle.layer_mean.specs.Tree.{LayerTree}
 use Rattle.script_mean.specs.Generate.{generate}
 use Rattle.stack_mean.specs.Plans.{plans_of}
-use Rattle.job_mean.specs.Job.{Mode, layered, bypass}
+use Rattle.run_mean.specs.Mode.{Mode, layered, bypass}
 use Rattle.run_mean.specs.Tally.{tally, accepted_lines}
 use Rattle.layer_rows.specs.Counter.{counter}
 

@@ -6,7 +6,7 @@ use Rattle.script_mean.specs.declared.event.ScriptEvent.{ScriptEvent}
 use Rattle.script_mean.specs.declared.event.ScriptEvent.TheVariants as script
 use Rattle.script_mean.specs.declared.plan.NodePlan.{NodePlan}
 use Rattle.stack_mean.specs.Plans.{plans_of}
-use Rattle.job_mean.specs.Job.{bypass}
+use Rattle.run_mean.specs.Mode.{bypass}
 use Rattle.run_mean.specs.Journal.{Heard, datagram, silence, failure, Note, fed, deaf, notes_of, journal, handed, node_run, note_lines, node_lines}
 use Rattle.layer_rows.specs.Counter.{counter}
 

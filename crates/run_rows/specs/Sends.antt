@@ -5,7 +5,7 @@ use Rattle.layer_ast.specs.declared.tokens.Kind.TheVariants.{Cast}
 use Rattle.layer_mean.specs.Tree.{number, local, each, emit, always, LayerTree}
 use Rattle.script_mean.specs.declared.event.ScriptEvent.{ScriptEvent}
 use Rattle.script_mean.specs.declared.event.ScriptEvent.TheVariants as script
-use Rattle.job_mean.specs.Job.{layered, bypass}
+use Rattle.run_mean.specs.Mode.{layered, bypass}
 use Rattle.layer_rows.specs.Counter.{counter}
 use Rattle.layer_rows.specs.Words.{cast_down, block, handler}
 use Rattle.run_rows.specs.Written.{written}

@@ -3,7 +3,7 @@ use Rattle.std.proofs.Common.{◌≡◌, ℕ, ◌+◌, add-zero, Bool, List, len
 use Rattle.std.proofs.lemmas.List.{length-map}
 use Rattle.std.specs.Prelude.{Result, Ok, Err, slice_index_or, Option, Some, None}
 use Rattle.outside.specs.declared.sink.SinkError.{SinkError}
-use Rattle.job_mean.specs.Job.{Mode}
+use Rattle.run_mean.specs.Mode.{Mode}
 use Rattle.layer_mean.specs.Tree.{LayerTree}
 use Rattle.msg_core.specs.declared.packet.Packet.{Packet}
 use Rattle.packet_mean.specs.Spelling.{full_bytes}

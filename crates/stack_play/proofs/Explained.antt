@@ -6,7 +6,7 @@ use Rattle.event_graph.specs.Answer.{stack_tree}
 use Rattle.group_feed.specs.Standing.{Stands}
 use Rattle.group_open.specs.Examining.{IsExamination}
 use Rattle.group_open.specs.declared.run.Examination.{Examination}
-use Rattle.job_mean.specs.Job.{bypass}
+use Rattle.run_mean.specs.Mode.{bypass}
 use Rattle.layer_ast.specs.Tree.{FileTree}
 use Rattle.layer_mean.specs.Tree.{LayerTree}
 use Rattle.miss_explain.specs.Explaining as explaining

@@ -5,7 +5,7 @@ use Rattle.msg_core.specs.declared.message.Memory.{Memory}
 use Rattle.layer_mean.specs.Tree.{LayerTree}
 use Rattle.script_mean.specs.declared.event.ScriptEvent.{ScriptEvent}
 use Rattle.stack_mean.specs.Plan.{Plan}
-use Rattle.job_mean.specs.Job.{Mode}
+use Rattle.run_mean.specs.Mode.{Mode}
 use Rattle.run_mean.specs.Report.{Moment, mode_if, moment_lines, visits_in, visits_line}
 use Rattle.run_mean.specs.World.{World, happens}
 use Rattle.outside.specs.Lines.{Gains, Wrote}

@@ -4,7 +4,7 @@ use Rattle.std.proofs.lemmas.List.{map-append}
 use Rattle.std.specs.Fmt.{decimal}
 use Rattle.std.specs.Option.{option_map_or}
 use Rattle.std.specs.Prelude.{codes, slice_index_or}
-use Rattle.job_mean.specs.Status.{kind_word}
+use Rattle.layer_ast.specs.Spelling.{kind_word}
 use Rattle.layer_ast.specs.Printed.{direction_sign, function_sign, operator_sign}
 use Rattle.layer_mean.specs.Headers.{declared}
 use Rattle.bypass_mean.specs.Text as mean

@@ -4,7 +4,7 @@
 ghost use Rattle.std.specs.Prelude.{◌≡◌, ◌++◌, codes};
 ghost use Rattle.bypass_mean.specs.Lines.{packet_word};
 ghost use Rattle.bypass_mean.specs.Text.{sign_text};
-ghost use Rattle.job_mean.specs.Status as status;
+ghost use Rattle.layer_ast.specs.Spelling.{kind_word};
 ghost use Rattle.layer_ast.specs.Printed.{direction_sign, function_sign, operator_sign};
 
 use layer_ast::{Dir, Function, Kind, Operator};
@@ -55,7 +55,7 @@ pub(crate) fn direction_text(dir: Dir) -> &'static [u8]
 
 /// The word of a kind of event.
 pub(crate) fn kind_text(kind: Kind) -> &'static [u8]
-    ensures { result.now ≡ status.kind_word kind }
+    ensures { result.now ≡ kind_word kind }
 {
     match kind {
         Kind::Cast => b"Cast",

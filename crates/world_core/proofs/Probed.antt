@@ -1,7 +1,7 @@
 -- A member is probed, and what happens by that in a world where the group stands.
 use Rattle.std.proofs.Common.{◌≡◌, ℕ, ◌<◌, true, List, ◌++◌, map, length, get_or, set, Option, Some, None, option_map, Result, Ok, Err, slice_index_or, refl, ap, sym, subst, ◌∙◌}
 use Rattle.std.proofs.lemmas.List.{append-nil, get_or-map, set-get_or}
-use Rattle.job_mean.specs.Job.{Mode}
+use Rattle.run_mean.specs.Mode.{Mode}
 use Rattle.layer_mean.specs.Tree.{LayerTree}
 use Rattle.stack_mean.specs.Plan.{Plan}
 use Rattle.packet_mean.specs.Spelling.{full_bytes}

@@ -9,7 +9,7 @@ use Rattle.std.specs.Option.{option_map_or}
 use Rattle.msg_core.specs.View.{rank}
 use Rattle.msg_core.specs.declared.packet.Packet.{Packet}
 use Rattle.msg_core.specs.declared.packet.View.{View}
-use Rattle.job_mean.specs.Job.{Mode}
+use Rattle.run_mean.specs.Mode.{Mode}
 use Rattle.layer_mean.specs.State.{State}
 use Rattle.layer_mean.specs.Tree.{LayerTree}
 use Rattle.stack_mean.specs.Plan.{Plan}

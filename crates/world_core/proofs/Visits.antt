@@ -1,7 +1,7 @@
 -- How many visits a run has.
 use Rattle.std.proofs.Common.{◌≡◌, ℕ, zero, suc, ◌+◌, ◌≤◌, List, [], ◌∷◌, Bool, true, false, length, Ok, Err, Result, Option, refl, arith, zero-add, subst}
 use Rattle.std.specs.Prelude.{cond}
-use Rattle.job_mean.specs.Job.{Mode, layered, bypass}
+use Rattle.run_mean.specs.Mode.{Mode, layered, bypass}
 use Rattle.layer_mean.specs.Queue.{Task, Work, advance, is_place, layers, run, run_for, unstarted}
 use Rattle.layer_mean.specs.State.{State}
 use Rattle.layer_mean.specs.Tree.{LayerTree}

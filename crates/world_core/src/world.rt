@@ -9,7 +9,7 @@ ghost use Rattle.run_mean.specs.World as mean;
 ghost use Rattle.bypass_member.specs.Opening.{CanOpen};
 ghost use Rattle.group_feed.specs.Feeding.{Fed};
 ghost use Rattle.group_feed.specs.Probing.{Probes};
-ghost use Rattle.job_mean.specs.Job.{bypass};
+ghost use Rattle.run_mean.specs.Mode.{bypass};
 ghost use Rattle.script_mean.specs.Event.{member_of};
 ghost use Rattle.world_core.specs.Examining.{IsExamined};
 ghost use Rattle.world_core.specs.Opening.{Begins};
