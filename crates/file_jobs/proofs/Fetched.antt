@@ -4,7 +4,7 @@ use Rattle.std.specs.Prelude.{Result, Ok, Err}
 use Rattle.clap.specs.Walk.{Text}
 use Rattle.outside.specs.Shelf.{Shelved}
 use Rattle.event_graph.specs.declared.stack.Stack.{Stack}
-use Rattle.job_mean.specs.Status.{Ended, file_refused, no_memory}
+use Rattle.end_mean.specs.Status.{Ended, file_refused, no_memory}
 use Rattle.job_ends.specs.Shown.{shown}
 use Rattle.job_ends.specs.declared.ending.Ending.{Ending}
 use Rattle.file_jobs.specs.declared.stack.StackFile.{StackFile}

@@ -15,7 +15,7 @@ use Rattle.script_text.specs.declared.error.ScriptError.TheVariants.{TooLong, Ba
 use Rattle.run_mean.specs.Mode.{Mode}
 use Rattle.job_mean.specs.Job.{Job, replay, explain}
 use Rattle.std.proofs.Common.{Bool, true, subst}
-use Rattle.job_mean.specs.Status.{Ended, second_refused, read_failed, no_memory, misspelled, too_many_rows}
+use Rattle.end_mean.specs.Status.{Ended, second_refused, read_failed, no_memory, misspelled, too_many_rows}
 use Rattle.program_mean.specs.Second.{after_script, second_fault}
 use Rattle.job_ends.specs.Comes.{Around, Beside, Comes, file_name}
 use Rattle.job_ends.proofs.Comes.{longer}

@@ -11,7 +11,7 @@ use Rattle.event_graph.proofs.Judged.{accepted_is}
 use Rattle.file_laws.specs.Named.{NamedStack}
 use Rattle.file_laws.proofs.Texts.{texts_are_named, texts_are_typed}
 use Rattle.bypass_laws.specs.Making.{IsSound}
-use Rattle.program_mean.specs.Judged.{Means, judged_by, said_accepted}
+use Rattle.output_mean.specs.Judged.{Means, judged_by, said_accepted}
 use Rattle.chain_laws.specs.Runs.{TypedStack}
 
 -- a stack that is said was accepted

@@ -11,7 +11,7 @@ use Rattle.audit_mean.specs.Report.{running, report_from}
 use Rattle.audit_mean.specs.Text.{lines_of}
 use Rattle.audit_mean.specs.declared.law.Law.{Law}
 use Rattle.job_mean.specs.Job.{Job, audit}
-use Rattle.job_mean.specs.Status.{Ended, file_refused, report_refused, read_failed, no_memory, too_large}
+use Rattle.end_mean.specs.Status.{Ended, file_refused, report_refused, read_failed, no_memory, too_large}
 use Rattle.program_mean.specs.Headline.{ReadsStack}
 use Rattle.job_ends.specs.Comes.{Around, file_name, Comes}
 use Rattle.job_ends.proofs.Comes.{longer}

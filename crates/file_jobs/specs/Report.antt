@@ -5,7 +5,7 @@ use Rattle.clap.specs.Walk.{Text}
 use Rattle.outside.specs.Shelf.{Shelved, found_in}
 use Rattle.audit_mean.specs.Finding.{AuditFault, audit_of}
 use Rattle.audit_mean.specs.declared.law.Law.{Law}
-use Rattle.job_mean.specs.Status.{Ended, done, breached, report_refused, read_failed, no_memory}
+use Rattle.end_mean.specs.Status.{Ended, done, breached, report_refused, read_failed, no_memory}
 use Rattle.program_mean.specs.Headline.{end_found}
 use Rattle.job_ends.specs.Comes.{Audited}
 use Rattle.job_ends.specs.Shown.{shown}

@@ -7,7 +7,7 @@ use Rattle.outside.specs.Shelf.{Shelved, found_in}
 use Rattle.script_mean.specs.Script.{ScriptFault, too_long, bad_line, no_member}
 use Rattle.script_text.specs.declared.error.ScriptError.{ScriptError}
 use Rattle.script_text.specs.declared.error.ScriptError.TheVariants.{TooLong, BadLine, NoMember, Memory}
-use Rattle.job_mean.specs.Status.{Ended, second_refused, read_failed, no_memory, misspelled}
+use Rattle.end_mean.specs.Status.{Ended, second_refused, read_failed, no_memory, misspelled}
 use Rattle.file_jobs.specs.Stack.{IsMissed, IsText}
 use Rattle.job_ends.specs.Shown.{shown}
 use Rattle.job_ends.specs.declared.ending.Ending.{Ending}

@@ -7,8 +7,8 @@ use Rattle.outside.specs.Count.{Rose}
 use Rattle.outside.specs.Shelf.{Shelved, found_in}
 use Rattle.layer_ast.specs.View.{file_tree}
 use Rattle.layer_mean.specs.Tree.{LayerTree}
-use Rattle.job_mean.specs.Status.{FileFault, Ended, file_refused, read_failed, no_memory}
-use Rattle.program_mean.specs.Judged.{Means, Refuses}
+use Rattle.end_mean.specs.Status.{FileFault, Ended, file_refused, read_failed, no_memory}
+use Rattle.output_mean.specs.Judged.{Means, Refuses}
 use Rattle.event_graph.specs.Answer.{stack_tree}
 use Rattle.event_graph.specs.declared.stack.Stack.{Stack}
 use Rattle.file_jobs.specs.declared.stack.StackFile.{StackFile}

@@ -5,7 +5,7 @@ ghost use Rattle.std.specs.Prelude.{◌≡◌, [], ◌∷◌, codes, ◌++◌, l
 ghost use Rattle.event_graph.specs.Answer.{stack_tree};
 ghost use Rattle.std.specs.Fmt.{decimal};
 ghost use Rattle.job_mean.specs.Job as job;
-ghost use Rattle.job_mean.specs.Status.{done};
+ghost use Rattle.end_mean.specs.Status.{done};
 ghost use Rattle.outside.specs.Tells.{tells_of};
 ghost use Rattle.job_ends.specs.Comes.{Comes, Writes, around};
 ghost use Rattle.job_ends.specs.Shown.{shown};

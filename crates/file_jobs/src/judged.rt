@@ -2,7 +2,7 @@
 
 ghost use Rattle.std.specs.Prelude.{[], ◌∷◌, if◌then◌else◌};
 ghost use Rattle.std.specs.String.{string_bytes};
-ghost use Rattle.job_mean.specs.Status.{breached, done};
+ghost use Rattle.end_mean.specs.Status.{breached, done};
 ghost use Rattle.job_ends.specs.Comes.{Writes};
 ghost use Rattle.job_ends.specs.Shown.{shown};
 ghost use Rattle.outside.specs.Tells.{tells_of};

@@ -3,7 +3,7 @@
 ghost use Rattle.std.specs.Prelude.{◌≡◌, ◌++◌, IfOk, codes};
 ghost use Rattle.std.specs.String.{string_bytes};
 ghost use Rattle.std.specs.Fmt.{decimal};
-ghost use Rattle.program_mean.specs.Output.{finding_line};
+ghost use Rattle.output_mean.specs.Output.{finding_line};
 
 use run_audit::Finding;
 use std::alloc::{AllocError, Global};

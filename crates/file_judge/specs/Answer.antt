@@ -8,8 +8,8 @@ use Rattle.layer_mean.specs.Tree.{LayerTree}
 use Rattle.fault_mean.specs.FileFault.{file_fault}
 use Rattle.file_mean.specs.Library.{IsFile}
 use Rattle.file_mean.specs.Stack.{stack_of}
-use Rattle.job_mean.specs.Status as cause
-use Rattle.program_mean.specs.Judged.{Means, Refuses}
+use Rattle.end_mean.specs.Status as cause
+use Rattle.output_mean.specs.Judged.{Means, Refuses}
 use Rattle.event_graph.specs.Answer.{stack_tree}
 use Rattle.event_graph.specs.declared.stack.Stack.{Stack}
 use Rattle.file_judge.specs.declared.error.FileError.{FileError}

@@ -7,7 +7,7 @@ use Rattle.clap.specs.Walk.{Text}
 use Rattle.outside.specs.Shelf.{Shelved, found_in, after_read}
 use Rattle.program_laws.proofs.Files.{one_file, one_meaning}
 use Rattle.job_mean.specs.Job.{Job, check, synth, replay, explain, load, node, audit}
-use Rattle.job_mean.specs.Status.{Ended, done, breached, write_failed, no_memory}
+use Rattle.end_mean.specs.Status.{Ended, done, breached, write_failed, no_memory}
 use Rattle.program_mean.specs.Headline.{Run, second_for, whole_end, WritesOf}
 use Rattle.script_mean.specs.Generate.{generate}
 use Rattle.script_mean.specs.declared.script.Script.{Script}
@@ -17,7 +17,7 @@ use Rattle.audit_mean.specs.declared.law.Finding.{Finding}
 use Rattle.stack_mean.specs.Plans.{plans_of}
 use Rattle.run_mean.specs.Report.{output_in}
 use Rattle.run_mean.specs.Tally.{tally, accepted_lines}
-use Rattle.program_mean.specs.Output.{finding_line}
+use Rattle.output_mean.specs.Output.{finding_line}
 use Rattle.miss_mean.specs.Text.{explained_lines}
 use Rattle.bypass_mean.specs.Lines.{printed_lines}
 use Rattle.bypass_laws.specs.Printed.{synth_lines, synth_text}

@@ -8,7 +8,7 @@ use Rattle.audit_mean.specs.Finding.{AuditFault, audit_of}
 use Rattle.audit_mean.specs.declared.law.Finding.{Finding}
 use Rattle.audit_mean.specs.declared.law.Finding.TheVariants.{Holds, Breach}
 use Rattle.job_mean.specs.Job.{Job, check, synth, replay, explain, load, node, audit, job_of_words}
-use Rattle.job_mean.specs.Status.{Ended, done, breached, file_refused, report_refused, words_refused, second_refused, read_failed, write_failed, link_failed, no_memory, status_number}
+use Rattle.end_mean.specs.Status.{Ended, done, breached, file_refused, report_refused, words_refused, second_refused, read_failed, write_failed, link_failed, no_memory, status_number}
 use Rattle.bypass_laws.specs.Printed.{synth_text}
 use Rattle.program_mean.specs.Headline.{IsNoReport, end_found, whole_end, second_for}
 use Rattle.outside.specs.Lines.{Gains}

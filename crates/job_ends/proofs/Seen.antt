@@ -9,11 +9,11 @@ use Rattle.std.specs.Io.KnownBytes.{Appends}
 use Rattle.clap.specs.Walk.{Text}
 use Rattle.outside.proofs.Appended.{appends_none}
 use Rattle.job_mean.specs.Job.{Job, check, synth, replay, explain, load, node, audit, job_of_words}
-use Rattle.job_mean.specs.Status.{Ended, done, breached, file_refused, report_refused, words_refused, second_refused, read_failed, write_failed, link_failed, no_memory, status_number, error_line}
+use Rattle.end_mean.specs.Status.{Ended, done, breached, file_refused, report_refused, words_refused, second_refused, read_failed, write_failed, link_failed, no_memory, status_number, error_line}
 use Rattle.bypass_laws.specs.Printed.{synth_text}
-use Rattle.program_mean.specs.Judged.{IsGood}
+use Rattle.output_mean.specs.Judged.{IsGood}
 use Rattle.program_mean.specs.Headline.{second_for, OfJob, ReadsStack, IsNoReport, whole_end, WritesOf, WritesWhole, WroteNothing, Began, Ends, Says, whole, cut_off, out_of_memory}
-use Rattle.program_mean.specs.Judged.{Means}
+use Rattle.output_mean.specs.Judged.{Means}
 use Rattle.program_mean.specs.Second.{second_fault}
 use Rattle.outside.specs.Tells.{Tells}
 use Rattle.outside.specs.Said.{Errors, SaysLine}

@@ -1,6 +1,6 @@
 -- Lines, as they are made and as the definitions have them.
 use Rattle.std.proofs.Common.{◌≡◌, sym, ◌∙◌, ℕ, List, ◌++◌, append_assoc}
-use Rattle.job_mean.specs.Status.{status_number, error_line}
+use Rattle.end_mean.specs.Status.{status_number, error_line}
 use Rattle.outside.specs.Said.{Errors, SaysLine}
 use Rattle.job_ends.specs.Shown.{Said, file_end}
 use Rattle.file_judge.specs.declared.error.FileError.{FileError}

@@ -17,7 +17,7 @@ use Rattle.script_mean.specs.declared.script.Script.{Script}
 use Rattle.stack_mean.specs.Plans.{plans_of}
 use Rattle.run_mean.specs.Mode.{Mode}
 use Rattle.job_mean.specs.Job.{Job, check, synth, replay, explain, load, node, audit}
-use Rattle.job_mean.specs.Status.{FileFault, SecondFault, Ended, done, breached, file_refused, report_refused, words_refused, second_refused, read_failed, write_failed, no_memory}
+use Rattle.end_mean.specs.Status.{FileFault, SecondFault, Ended, done, breached, file_refused, report_refused, words_refused, second_refused, read_failed, write_failed, no_memory}
 use Rattle.run_mean.specs.Report.{output_in}
 use Rattle.run_mean.specs.Tally.{tally, accepted_lines}
 use Rattle.miss_mean.specs.Text.{explained_lines}
@@ -25,8 +25,8 @@ use Rattle.bypass_mean.specs.Bypasses.{Bypasses}
 use Rattle.bypass_mean.specs.Lines.{printed_lines}
 use Rattle.bypass_laws.specs.Making.{bypasses_of, simplest}
 use Rattle.bypass_laws.specs.Stack.{AreOfStack}
-use Rattle.program_mean.specs.Judged.{Means, Refuses}
-use Rattle.program_mean.specs.Output.{HasRoom, finding_line}
+use Rattle.output_mean.specs.Judged.{Means, Refuses}
+use Rattle.output_mean.specs.Output.{HasRoom, finding_line}
 use Rattle.program_mean.specs.Second.{second_fault}
 use Rattle.program_mean.specs.Headline.{ReadsStack, IsNoReport, whole_end}
 use Rattle.outside.specs.Tells.{Tells, tells_of}

@@ -3,7 +3,7 @@ use Rattle.std.specs.Prelude.{◌≡◌, ◌⊎◌, ℕ, Some}
 use Rattle.outside.specs.Count.{Rose}
 use Rattle.outside.specs.Shelf.{Shelved}
 use Rattle.job_mean.specs.Job.{Job}
-use Rattle.job_mean.specs.Status.{Ended, done, breached, file_refused, report_refused, second_refused, read_failed, status_number}
+use Rattle.end_mean.specs.Status.{Ended, done, breached, file_refused, report_refused, second_refused, read_failed, status_number}
 use Rattle.program_mean.specs.Headline.{whole_end}
 use Rattle.outside.specs.Lines.{Gains}
 use Rattle.job_ends.specs.Comes.{Around, Good, BadFile, BadReport, BadSecond, Unfound}

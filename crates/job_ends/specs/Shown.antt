@@ -1,8 +1,8 @@
 -- How jobs end, as the definitions see it.
 use Rattle.audit_mean.specs.Finding as report
 use Rattle.script_mean.specs.Script.{too_long, bad_line, no_member}
-use Rattle.job_mean.specs.Status as status
-use Rattle.job_mean.specs.Status.{Ended, done, breached, file_refused, report_refused, words_refused, second_refused, read_failed, write_failed, link_failed, no_memory, misspelled, too_many_rows, status_number, error_line}
+use Rattle.end_mean.specs.Status as status
+use Rattle.end_mean.specs.Status.{Ended, done, breached, file_refused, report_refused, words_refused, second_refused, read_failed, write_failed, link_failed, no_memory, misspelled, too_many_rows, status_number, error_line}
 use Rattle.outside.specs.Said.{Errors, SaysLine, Silent}
 use Rattle.file_judge.specs.declared.error.FileError.{FileError}
 use Rattle.file_judge.specs.declared.error.FileError.TheVariants.{TooLarge, BadToken, Unexpected, Unknown, Twice, OverLimit, Kind, Arity, Direction, Header, Initial, Cycle, TooMany, TooManyJoins}

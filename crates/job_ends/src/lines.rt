@@ -4,7 +4,7 @@ ghost use Rattle.std.specs.Prelude.{◌≡◌, ◌++◌, IfOk, codes};
 ghost use Rattle.std.specs.String.{string_bytes};
 ghost use Rattle.std.specs.Fmt.{decimal};
 ghost use Rattle.layer_ast.specs.Spelling as spelling;
-ghost use Rattle.job_mean.specs.Status as status;
+ghost use Rattle.end_mean.specs.Status as status;
 ghost use Rattle.job_ends.specs.Shown.{file_end};
 
 use file_judge::FileError;

@@ -3,7 +3,7 @@
 ghost use Rattle.std.specs.Prelude.{◌≡◌};
 ghost use Rattle.script_mean.specs.Script.{bad_line, no_member};
 ghost use Rattle.audit_mean.specs.Finding as report;
-ghost use Rattle.job_mean.specs.Status.{misspelled, report_refused, second_refused, status_number};
+ghost use Rattle.end_mean.specs.Status.{misspelled, report_refused, second_refused, status_number};
 ghost use Rattle.outside.specs.Said.{errors};
 ghost use Rattle.outside.specs.Tells.{tells_of};
 ghost use Rattle.job_ends.specs.Shown.{Said, file_end, shown};

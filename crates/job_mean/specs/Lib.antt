@@ -1,4 +1,3 @@
 pub mod Command
 pub mod Given
 pub mod Job
-pub mod Status

@@ -13,11 +13,11 @@ use Rattle.script_mean.specs.NodePlan.{node_plan}
 use Rattle.stack_mean.specs.Acceptance.{rows_of, most_rows}
 use Rattle.stack_mean.specs.Plans.{plans_of}
 use Rattle.job_mean.specs.Job.{job_of_words}
-use Rattle.job_mean.specs.Status.{FileFault, SecondFault, Ended, done, file_refused, second_refused, read_failed, write_failed, link_failed, no_memory, misspelled, too_many_rows, status_number}
+use Rattle.end_mean.specs.Status.{FileFault, SecondFault, Ended, done, file_refused, second_refused, read_failed, write_failed, link_failed, no_memory, misspelled, too_many_rows, status_number}
 use Rattle.bypass_laws.specs.Printed.{synth_text}
 use Rattle.program_mean.specs.Headline.{Run}
-use Rattle.program_mean.specs.Judged.{Means, Refuses}
-use Rattle.program_mean.specs.Output.{IsNode, failures}
+use Rattle.output_mean.specs.Judged.{Means, Refuses}
+use Rattle.output_mean.specs.Output.{IsNode, failures}
 use Rattle.program_mean.specs.Second.{after_plan, crowded}
 use Rattle.program_laws.proofs.Files.{one_meaning, good_or_refused}
 use Rattle.program_laws.proofs.Ends.{files_are_due, seconds_are_due, misses_are_due, second_misses_are_due}

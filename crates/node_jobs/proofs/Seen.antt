@@ -9,12 +9,13 @@ use Rattle.outside.specs.declared.sink.SinkError.{SinkError}
 use Rattle.outside.specs.declared.sink.SinkError.TheVariants as sink
 use Rattle.stack_mean.specs.Plans.{plans_of}
 use Rattle.job_mean.specs.Job.{Job, job_of_words}
-use Rattle.job_mean.specs.Status.{FileFault, SecondFault, Ended, done, file_refused, second_refused, read_failed, write_failed, link_failed, no_memory}
+use Rattle.end_mean.specs.Status.{FileFault, SecondFault, Ended, done, file_refused, second_refused, read_failed, write_failed, link_failed, no_memory}
 use Rattle.run_mean.specs.Journal.{Handed, note_lines, node_lines}
 use Rattle.bypass_laws.specs.Printed.{synth_text}
-use Rattle.program_mean.specs.Headline.{Run, OfJob, ReadsStack, second_for, whole_end, WritesOf, WroteNothing, Began, Ends, Says, LinksFail, whole, cut_off, out_of_memory, gone_on, node_words}
-use Rattle.program_mean.specs.Output.{Surroundings, NodeWords, failed, noted, played, handed_by}
-use Rattle.program_mean.specs.Judged.{Means, IsGood}
+use Rattle.program_mean.specs.Headline.{Run, OfJob, ReadsStack, second_for, whole_end, WritesOf, WroteNothing, Began, Ends, Says, LinksFail, whole, cut_off, out_of_memory, gone_on}
+use Rattle.output_mean.specs.Output.{node_words}
+use Rattle.output_mean.specs.Output.{Surroundings, NodeWords, failed, noted, played, handed_by}
+use Rattle.output_mean.specs.Judged.{Means, IsGood}
 use Rattle.program_mean.specs.Second.{second_fault}
 use Rattle.outside.specs.Said.{Errors}
 use Rattle.outside.proofs.Gaining.{fails_part, begins_part}

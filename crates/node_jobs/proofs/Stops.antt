@@ -5,7 +5,7 @@ use Rattle.outside.specs.Count.{Rose}
 use Rattle.outside.specs.Shelf.{after_read}
 use Rattle.layer_mean.specs.Tree.{LayerTree}
 use Rattle.script_mean.specs.NodePlan.{node_plan}
-use Rattle.job_mean.specs.Status.{Ended, second_refused, read_failed, no_memory, misspelled}
+use Rattle.end_mean.specs.Status.{Ended, second_refused, read_failed, no_memory, misspelled}
 use Rattle.program_mean.specs.Second.{after_plan}
 use Rattle.job_ends.specs.Comes.{Around}
 use Rattle.file_jobs.specs.Stack.{IsStack}

@@ -3,7 +3,7 @@ use Rattle.std.specs.Prelude.{◌≡◌, ◌⊎◌, ℕ, ◌*◌, ◌≤◌, fal
 use Rattle.outside.specs.Count.{Rose}
 use Rattle.outside.specs.Links.{Network}
 use Rattle.outside.specs.Shelf.{Shelved}
-use Rattle.job_mean.specs.Status.{Ended, done, file_refused, second_refused, read_failed, status_number}
+use Rattle.end_mean.specs.Status.{Ended, done, file_refused, second_refused, read_failed, status_number}
 use Rattle.job_ends.specs.Comes.{Around, BadFile, BadSecond, Unfound}
 use Rattle.job_ends.specs.Due.{Due, NoPutFailed}
 use Rattle.node_laws.specs.Losses.{failures_in}

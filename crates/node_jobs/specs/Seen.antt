@@ -6,7 +6,7 @@ use Rattle.run_mean.specs.Journal.{Handed}
 use Rattle.bypass_laws.specs.Printed.{synth_text}
 use Rattle.program_mean.specs.Headline.{Run}
 use Rattle.program_mean.specs.Headline as program
-use Rattle.program_mean.specs.Output.{Surroundings}
+use Rattle.output_mean.specs.Output.{Surroundings}
 use Rattle.outside.specs.Said.{Errors}
 use Rattle.job_ends.specs.Comes.{Around, Finds, Beside}
 use Rattle.job_ends.specs.Seen.{counted}

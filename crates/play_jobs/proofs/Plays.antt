@@ -14,13 +14,13 @@ use Rattle.stack_mean.specs.Acceptance.{rows_of, most_rows}
 use Rattle.stack_mean.specs.Plans.{plans_of}
 use Rattle.run_mean.specs.Mode.{Mode}
 use Rattle.job_mean.specs.Job.{Job, replay, explain, load}
-use Rattle.job_mean.specs.Status.{done, write_failed, no_memory, too_many_rows}
+use Rattle.end_mean.specs.Status.{done, write_failed, no_memory, too_many_rows}
 use Rattle.run_mean.specs.Report.{output_in}
 use Rattle.run_mean.specs.Tally.{tally}
-use Rattle.program_mean.specs.Output.{HasRoom}
+use Rattle.output_mean.specs.Output.{HasRoom}
 use Rattle.miss_mean.specs.Text.{explained_lines}
 use Rattle.program_mean.specs.Headline.{whole_end}
-use Rattle.program_mean.specs.Judged.{Means}
+use Rattle.output_mean.specs.Judged.{Means}
 use Rattle.program_mean.specs.Second.{crowded, after_script, second_fault}
 use Rattle.job_ends.specs.Comes.{Around, Beside, Finds, IsOutput, Good, Comes}
 use Rattle.job_ends.proofs.Comes.{written}

@@ -1,6 +1,6 @@
 -- How a job ends whose run came to something.
 use Rattle.std.specs.Prelude.{Result, Ok, Err}
-use Rattle.job_mean.specs.Status.{Ended, done, second_refused, write_failed, no_memory, too_many_rows}
+use Rattle.end_mean.specs.Status.{Ended, done, second_refused, write_failed, no_memory, too_many_rows}
 use Rattle.stack_play.specs.declared.error.PlayError.{PlayError}
 use Rattle.stack_play.specs.declared.error.PlayError.TheVariants.{TooManyRows, Failed, Memory}
 

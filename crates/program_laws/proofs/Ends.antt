@@ -11,13 +11,13 @@ use Rattle.std.proofs.lemmas.Bool.{le-leb, lt-ltb}
 use Rattle.std.proofs.lemmas.List.Elements.{All-head, All-tail}
 use Rattle.std.specs.List.{All, fold, list_all}
 use Rattle.job_mean.specs.Job.{Job, check, synth, replay, explain, load, node, audit, job_of_words}
-use Rattle.job_mean.specs.Status.{FileFault, SecondFault, Ended, done, breached, file_refused, report_refused, words_refused, second_refused, read_failed, write_failed, link_failed, no_memory, status_number}
+use Rattle.end_mean.specs.Status.{FileFault, SecondFault, Ended, done, breached, file_refused, report_refused, words_refused, second_refused, read_failed, write_failed, link_failed, no_memory, status_number}
 use Rattle.audit_mean.specs.Finding.{AuditFault, audit_of}
 use Rattle.audit_mean.specs.declared.law.Law.{Law}
 use Rattle.audit_mean.specs.declared.law.Finding.{Finding}
 use Rattle.run_mean.specs.Journal.{Heard, failure}
-use Rattle.program_mean.specs.Judged.{Means, IsGood, Refuses}
-use Rattle.program_mean.specs.Output.{HasRoom, IsNode, is_failure, failures}
+use Rattle.output_mean.specs.Judged.{Means, IsGood, Refuses}
+use Rattle.output_mean.specs.Output.{HasRoom, IsNode, is_failure, failures}
 use Rattle.program_mean.specs.Second.{crowded, after_script, after_plan, second_fault}
 use Rattle.program_mean.specs.Headline.{Counted, Run, Fails, IsSound, RoseBy, second_for, WritesOf, OfJob, end_found, whole_end, WritesWhole, gone_on, HeardAll, Began, ReadsStack, RefusesFile, IsNoReport, RefusesReport, RefusesSecond, ReadsFailed, LinksFail, Ends, Says, whole, cut_off, out_of_memory}
 use Rattle.program_laws.specs.OneEnd.{Counts, CountsAll, OneEnd, Came, WordsAreDue, FilesAreDue, ReportsAreDue, MissesAreDue, IsAlone, GoodAreDue, SecondMissesAreDue, SecondsAreDue}

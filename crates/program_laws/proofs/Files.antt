@@ -13,9 +13,9 @@ use Rattle.grammar_laws.proofs.Together.{fits_together}
 use Rattle.grammar_laws.specs.Verdict.{Verdict, a_file, bad, inside, at_end, Holds}
 use Rattle.grammar_laws.proofs.Texts.{each_decided}
 use Rattle.file_mean.specs.Library.{SpellsLayer, called_for, IsFile}
-use Rattle.job_mean.specs.Status.{FileFault, too_large, bad_token, unexpected, unknown, twice, over_limit, wrong_kind, arity, direction, header, initial, cycle, too_many, too_many_joins}
+use Rattle.end_mean.specs.Status.{FileFault, too_large, bad_token, unexpected, unknown, twice, over_limit, wrong_kind, arity, direction, header, initial, cycle, too_many, too_many_joins}
 use Rattle.layer_ast.specs.Spells.{longest_file}
-use Rattle.program_mean.specs.Judged.{judged, Means, Condemns, Refuses}
+use Rattle.output_mean.specs.Judged.{judged, Means, Condemns, Refuses}
 use Rattle.program_laws.specs.OneEnd.{OneFile, OneMeaning, OneRefusal, GoodOrRefused}
 
 layers_are_one : (text : List ℕ) (a b : LayerTree) → SpellsLayer text a → SpellsLayer text b → a ≡ b

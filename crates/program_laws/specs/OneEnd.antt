@@ -8,8 +8,8 @@ use Rattle.audit_mean.specs.Finding.{AuditFault, audit_of}
 use Rattle.audit_mean.specs.declared.law.Law.{Law}
 use Rattle.clap.specs.Walk.{Text}
 use Rattle.job_mean.specs.Job.{Job, check, synth, replay, load, node, audit, job_of_words}
-use Rattle.job_mean.specs.Status.{FileFault, SecondFault, Ended, no_memory, status_number}
-use Rattle.program_mean.specs.Judged.{Means, Refuses}
+use Rattle.end_mean.specs.Status.{FileFault, SecondFault, Ended, no_memory, status_number}
+use Rattle.output_mean.specs.Judged.{Means, Refuses}
 use Rattle.program_mean.specs.Second.{second_fault}
 use Rattle.program_mean.specs.Headline.{Counted, Run, Fails, second_for, WritesOf, whole_end, ReadsStack, Ends, Ran}
 

@@ -10,11 +10,11 @@ use Rattle.audit_mean.specs.declared.law.Finding.{Finding}
 use Rattle.audit_mean.specs.declared.law.Finding.TheVariants.{Breach}
 use Rattle.run_mean.specs.Mode.{Mode, layered, bypass}
 use Rattle.job_mean.specs.Job.{Job, check, synth, replay, explain, load, node, audit, job_of_words}
-use Rattle.job_mean.specs.Status.{FileFault, SecondFault, Ended, done, breached, file_refused, report_refused, words_refused, second_refused, read_failed, write_failed, link_failed, no_memory, status_number, error_line}
+use Rattle.end_mean.specs.Status.{FileFault, SecondFault, Ended, done, breached, file_refused, report_refused, words_refused, second_refused, read_failed, write_failed, link_failed, no_memory, status_number, error_line}
 use Rattle.run_mean.specs.Journal.{Heard, Handed}
 use Rattle.run_mean.specs.Report.{report_lines, output_in}
-use Rattle.program_mean.specs.Judged.{Means, IsGood, Refuses}
-use Rattle.program_mean.specs.Output.{Checks, Replays, Explains, Loads, Surroundings, NodeWords, failures, Serves, CannotListen, GoesDeaf, Audits}
+use Rattle.output_mean.specs.Judged.{Means, IsGood, Refuses}
+use Rattle.output_mean.specs.Output.{Checks, Replays, Explains, Loads, Surroundings, node_words, failures, Serves, CannotListen, GoesDeaf, Audits}
 use Rattle.program_mean.specs.Second.{second_fault}
 
 -- A count of faults before and after a run.
@@ -57,9 +57,6 @@ second_for (replay name script mode wire count) second = second
 second_for (explain name script) second = second
 second_for (node name plan turns me patience mode) second = second
 second_for _ second = Some []
-
-abbrev pub node_words : ℕ → List ℕ → ℕ → Mode → NodeWords
-node_words turns me patience mode = record { turns = turns; me = me; patience = patience; mode = mode }
 
 -- The whole output of a job over the bytes of its file. What `synth` prints of a stack is told beside this: it is defined with the
 -- bypasses.

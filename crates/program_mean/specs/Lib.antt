@@ -1,4 +1,2 @@
-pub mod Judged
-pub mod Output
 pub mod Second
 pub mod Headline

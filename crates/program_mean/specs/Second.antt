@@ -8,7 +8,7 @@ use Rattle.script_mean.specs.declared.plan.NodePlan.{NodePlan}
 use Rattle.script_mean.specs.declared.script.Script.{Script}
 use Rattle.stack_mean.specs.Acceptance.{rows_of, most_rows}
 use Rattle.job_mean.specs.Job.{Job, check, synth, replay, explain, load, node, audit}
-use Rattle.job_mean.specs.Status.{SecondFault, misspelled, too_many_rows}
+use Rattle.end_mean.specs.Status.{SecondFault, misspelled, too_many_rows}
 
 -- The members of a stack have too many rows, in a group of so many.
 abbrev pub crowded : List LayerTree → ℕ → Option SecondFault

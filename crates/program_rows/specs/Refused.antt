@@ -3,8 +3,8 @@ use Rattle.std.specs.Prelude.{ℕ, List, [], ◌∷◌, ◌++◌, codes}
 use Rattle.layer_ast.specs.declared.tokens.Kind.TheVariants as kind
 use Rattle.layer_ast.specs.Samples.{at}
 use Rattle.fault_mean.specs.Samples.{small_text}
-use Rattle.job_mean.specs.Status.{unknown, cycle, too_many, bad_token, unexpected}
-use Rattle.program_mean.specs.Judged.{Refuses}
+use Rattle.end_mean.specs.Status.{unknown, cycle, too_many, bad_token, unexpected}
+use Rattle.output_mean.specs.Judged.{Refuses}
 
 -- A layer that sets a cell that isn't declared.
 abbrev pub unknown_text : List ℕ

@@ -4,7 +4,7 @@ use Rattle.run_mean.specs.Mode.{layered, bypass}
 use Rattle.file_mean.specs.CounterFile as counter
 use Rattle.library_rows.specs.WholeStack as whole
 use Rattle.audit_mean.specs.declared.law.Law.TheVariants.{Sender, Total}
-use Rattle.program_mean.specs.Output.{Checks, Replays, Explains, Audits}
+use Rattle.output_mean.specs.Output.{Checks, Replays, Explains, Audits}
 use Rattle.program_rows.specs.FlipFile as flip
 use Rattle.program_rows.specs.LateFile as late
 

@@ -35,7 +35,7 @@ use Rattle.script_mean.specs.declared.event.ScriptEvent.TheVariants as script
 use Rattle.run_mean.specs.Member.{Member, inside, out, Input, cast, send, leave, tick, datagram, Refusal, Entered, from_peer, from_datagram, entered}
 use Rattle.run_mean.specs.World.{World, Happening, first_world, member_at, packet_number, here_of, stepped_inside, stepped_of, stepped, given, happens}
 use Rattle.run_mean.specs.Report.{Moment}
-use Rattle.program_mean.specs.Judged.{Means, judged_by, said_accepted}
+use Rattle.output_mean.specs.Judged.{Means, judged_by, said_accepted}
 use Rattle.member_laws.specs.Members.{IsView, IsHere, IsChainedMember, IsInput, IsEntered, IsGivenEvent, IsChainedWorld}
 use Rattle.member_laws.proofs.Members.{first_world_is_chained, events_keep_chains}
 use Rattle.member_laws.proofs.Numbered.{plans_are_numbered, inputs_are_in_range, worlds_are_chained}

@@ -15,7 +15,7 @@ use Rattle.run_mean.specs.Common.{as_sent, entry_of, first_missed, wire}
 use Rattle.run_mean.specs.Member.{packet, Step}
 use Rattle.run_mean.specs.World.{World, first_world, packet_number, Did, taken}
 use Rattle.run_mean.specs.Report.{Moment, moments, visits_of, run_of, visits_line, report_lines, mode_if}
-use Rattle.program_mean.specs.Output.{Replays}
+use Rattle.output_mean.specs.Output.{Replays}
 use Rattle.chain_laws.specs.Runs.{TypedStack}
 use Rattle.member_laws.specs.Members.{IsGivenEvent, IsChainedWorld}
 use Rattle.replay_laws.specs.Datagrams.{Datagram, datagrams, world_after, AreWoven}

@@ -13,7 +13,7 @@ use Rattle.script_mean.specs.declared.script.Script.{Script}
 use Rattle.run_mean.specs.Member.{inside, Step, step_from}
 use Rattle.run_mean.specs.World.{World, member_at, here_of, world_behind, Did, taken}
 use Rattle.run_mean.specs.Report.{Moment, moments, run_of}
-use Rattle.program_mean.specs.Judged.{Means}
+use Rattle.output_mean.specs.Judged.{Means}
 use Rattle.chain_laws.specs.Runs.{TypedStack}
 use Rattle.member_laws.specs.Members.{IsGivenEvent, IsChainedWorld, IsChainedMoment}
 use Rattle.member_laws.specs.Steps.{IsStep}

@@ -4,7 +4,7 @@ use Rattle.clap.specs.Walk.{Text}
 use Rattle.outside.specs.Links.{Network}
 use Rattle.outside.specs.Shelf.{Shelved}
 use Rattle.job_mean.specs.Job.{Job, check, synth, replay, explain, load, node, audit, job_of_words}
-use Rattle.job_mean.specs.Status.{Ended, no_memory}
+use Rattle.end_mean.specs.Status.{Ended, no_memory}
 use Rattle.program_laws.specs.OneEnd.{IsAlone}
 use Rattle.outside.specs.Said.{Errors}
 use Rattle.outside.specs.Tells.{Tells}

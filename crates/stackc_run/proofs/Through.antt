@@ -5,7 +5,7 @@ use Rattle.clap.specs.Walk.{Text}
 use Rattle.outside.proofs.Appended.{appends_keeps}
 use Rattle.outside.specs.Shelf.{Shelved}
 use Rattle.job_mean.specs.Job.{Job, job_of_words}
-use Rattle.job_mean.specs.Status.{Ended, done, breached, file_refused, report_refused, words_refused, second_refused, read_failed, write_failed, link_failed, no_memory}
+use Rattle.end_mean.specs.Status.{Ended, done, breached, file_refused, report_refused, words_refused, second_refused, read_failed, write_failed, link_failed, no_memory}
 use Rattle.outside.specs.Said.{errors}
 use Rattle.outside.specs.Tells.{Tells}
 use Rattle.job_ends.specs.Comes.{Around, surrounding, NoJob, Whole, Comes}

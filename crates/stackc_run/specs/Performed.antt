@@ -2,7 +2,7 @@
 use Rattle.std.specs.Prelude.{List, Option, Some, None}
 use Rattle.clap.specs.Walk.{Text}
 use Rattle.job_mean.specs.Job.{Job, check, synth, replay, explain, load, node, audit, job_of_words}
-use Rattle.job_mean.specs.Status.{Ended}
+use Rattle.end_mean.specs.Status.{Ended}
 use Rattle.outside.specs.Said.{Errors}
 use Rattle.job_ends.specs.Comes.{Around, NoJob, Comes}
 use Rattle.job_ends.specs.Due.{Due, Exact}

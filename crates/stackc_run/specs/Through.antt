@@ -7,10 +7,10 @@ use Rattle.outside.specs.Shelf.{Shelved}
 use Rattle.clap.specs.Walk.{Text}
 use Rattle.stack_mean.specs.Plans.{plans_of}
 use Rattle.job_mean.specs.Job.{Job, job_of_words}
-use Rattle.job_mean.specs.Status.{Ended, done, breached, file_refused, report_refused, words_refused, second_refused, read_failed, write_failed, link_failed, no_memory}
+use Rattle.end_mean.specs.Status.{Ended, done, breached, file_refused, report_refused, words_refused, second_refused, read_failed, write_failed, link_failed, no_memory}
 use Rattle.run_mean.specs.Journal.{node_lines}
-use Rattle.program_mean.specs.Headline.{node_words}
-use Rattle.program_mean.specs.Output.{IsNode, Surroundings, failed, noted, played}
+use Rattle.output_mean.specs.Output.{node_words}
+use Rattle.output_mean.specs.Output.{IsNode, Surroundings, failed, noted, played}
 use Rattle.outside.specs.Said.{errors}
 use Rattle.outside.specs.Tells.{Tells}
 use Rattle.job_ends.specs.Comes.{Good, surrounding}

@@ -3,8 +3,8 @@ ghost use Rattle.std.specs.Prelude.{◌≡◌, [], codes};
 ghost use Rattle.layer_ast.specs.declared.tokens.Kind.TheVariants.{BlockOk};
 ghost use Rattle.script_mean.specs.Script.{too_long, bad_line, no_member};
 ghost use Rattle.audit_mean.specs.Finding as finding;
-ghost use Rattle.job_mean.specs.Status.{error_line, status_number, done, breached, file_refused, report_refused, words_refused, second_refused, read_failed, write_failed, link_failed, no_memory};
-ghost use Rattle.job_mean.specs.Status.{too_large, bad_token, unexpected, unknown, twice, over_limit, wrong_kind, arity, direction, header, initial, cycle, too_many, too_many_joins, misspelled, too_many_rows};
+ghost use Rattle.end_mean.specs.Status.{error_line, status_number, done, breached, file_refused, report_refused, words_refused, second_refused, read_failed, write_failed, link_failed, no_memory};
+ghost use Rattle.end_mean.specs.Status.{too_large, bad_token, unexpected, unknown, twice, over_limit, wrong_kind, arity, direction, header, initial, cycle, too_many, too_many_joins, misspelled, too_many_rows};
 
 /// The lines of a file's faults.
 pub fn say_file_faults()

@@ -19,7 +19,7 @@ use Rattle.run_mean.specs.Journal.{Heard, failure, Note, notes_of, node_run, not
 use Rattle.run_mean.specs.Report.{Moment, output_in}
 use Rattle.run_mean.specs.Tally.{tally, accepted_lines}
 use Rattle.miss_mean.specs.Text.{explained_lines}
-use Rattle.program_mean.specs.Judged.{Means}
+use Rattle.output_mean.specs.Judged.{Means}
 
 -- The rows of a member are few enough, in a group of so many members.
 abbrev pub HasRoom : List LayerTree → ℕ → Type 0
@@ -75,6 +75,9 @@ pub record NodeWords : Type 0 where
   pub me : List ℕ
   pub patience : ℕ
   pub mode : Mode
+
+abbrev pub node_words : ℕ → List ℕ → ℕ → Mode → NodeWords
+node_words turns me patience mode = record { turns = turns; me = me; patience = patience; mode = mode }
 
 -- A node whose files are good: an accepted stack, and a plan of a group that has its members.
 pub record IsNode (file plan_text : List ℕ) (me : List ℕ) : Type 0 where

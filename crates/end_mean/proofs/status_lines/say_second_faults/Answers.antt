@@ -2,7 +2,7 @@
 use Rattle.std.proofs.Common.{refl}
 use Rattle.std.specs.Fmt.{digits}
 use Rattle.layer_ast.specs.Spelling.{kinds}
-use Rattle.job_mean.proofs.status_lines.say_second_faults.Goals as goal
+use Rattle.end_mean.proofs.status_lines.say_second_faults.Goals as goal
 
 pub returns-clause-length : goal.returns-clause-length
 unfolding digits kinds

@@ -10,7 +10,7 @@ use Rattle.file_mean.specs.Library.{IsFile}
 use Rattle.file_mean.specs.Stack.{stack_of}
 use Rattle.stack_mean.specs.Acceptance as acceptance
 use Rattle.stack_mean.specs.Acceptance.{accepted}
-use Rattle.job_mean.specs.Status.{FileFault, too_large, bad_token, unexpected, unknown, twice, over_limit, wrong_kind, arity, direction, header, initial, cycle, too_many, too_many_joins}
+use Rattle.end_mean.specs.Status.{FileFault, too_large, bad_token, unexpected, unknown, twice, over_limit, wrong_kind, arity, direction, header, initial, cycle, too_many, too_many_joins}
 
 -- A fault of names or types, and a refusal of the stack, as the program says them.
 abbrev pub said_name : faults.NameFault → FileFault
