@@ -1,0 +1,11 @@
+pub mod Readers
+pub mod Form
+pub mod Operations
+pub mod Spelled
+pub mod Reading
+pub mod Replaced
+pub mod Writing
+pub mod Words
+pub mod Said
+pub mod Lines
+pub mod Files

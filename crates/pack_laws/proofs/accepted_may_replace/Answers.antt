@@ -1,0 +1,5 @@
+use Rattle.pack_laws.proofs.Replaced.{accepted_may_replace}
+use Rattle.pack_laws.proofs.accepted_may_replace.Goals as goal
+
+pub returns : goal.returns
+returns c = accepted_may_replace

@@ -1,0 +1,5 @@
+pub mod Form
+pub mod Replaced
+pub mod Written
+pub mod Files
+pub mod Samples

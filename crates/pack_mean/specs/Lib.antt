@@ -1,0 +1,6 @@
+pub mod Reader
+pub mod Named
+pub mod Expression
+pub mod Operation
+pub mod File
+pub mod Accepted

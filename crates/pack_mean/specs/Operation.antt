@@ -1,0 +1,215 @@
+-- How the operations of traces are read, each from a line of its own.
+use Rattle.std.specs.Prelude.{ℕ, zero, suc, ◌+◌, ◌==◌, List, [], ◌∷◌, ◌++◌, length, map, take, replicate, bytes_eq, codes, Option, Some, None, if◌then◌else◌}
+use Rattle.std.specs.Fmt.{decimal}
+use Rattle.layer_ast.specs.declared.tokens.Dir.{Dir}
+use Rattle.layer_ast.specs.declared.tokens.Dir.TheVariants.{Up, Down}
+use Rattle.layer_ast.specs.declared.tokens.Kind.{Kind}
+use Rattle.layer_ast.specs.Printed.{direction_sign}
+use Rattle.layer_ast.specs.Spelling.{beside}
+use Rattle.layer_mean.specs.Headers.{header_none}
+use Rattle.layer_mean.specs.Tree.{Carried, LayerTree}
+use Rattle.msg_core.specs.Headers.{most_fields}
+use Rattle.trace_mean.specs.Trace as trace
+use Rattle.trace_mean.specs.Trace.{Atom, Core, TraceNumber, element, square, Link, Chained, Operation, bind, note, check, set, set_square, push, output}
+use Rattle.trace_mean.specs.Fuse.{fields_of}
+use Rattle.bypass_mean.specs.Text.{layer_of, sign_text}
+use Rattle.pack_mean.specs.Reader.{Reader, ◌>>=◌, yields, given, nowhere, the_text, a_name, a_word, whole, each_of, more_of}
+use Rattle.pack_mean.specs.Named.{Named, items_at, place_of, atom_named, core_named, kind_named}
+use Rattle.pack_mean.specs.Expression.{QueueNamed, inside, most_brackets, a_cell, a_number, a_message, a_queue}
+
+-- A number, and a message, for which no cell is read.
+abbrev pub an_atom : Named → Reader Atom
+an_atom s = do
+  name ← a_name
+  given (atom_named s name)
+
+abbrev pub a_core : Named → Reader Core
+a_core s = do
+  name ← a_name
+  given (core_named s name)
+
+-- A known header of the layer at a place: LAYER.HEADER(F,F), with as many fields as it has.
+abbrev pub tag_named : LayerTree → List (List ℕ) → Option ℕ
+tag_named layer (name ∷ header ∷ []) =
+    if bytes_eq name layer.name then place_of header (map (λ h. h.name) (header_none ∷ layer.headers)) else None
+tag_named layer _ = None
+
+abbrev pub a_link : List LayerTree → Named → ℕ → Reader Link
+a_link stack s place = do
+  name ← a_name
+  tag ← given (tag_named (layer_of stack place) name)
+  _ ← the_text (codes "(")
+  fields ← each_of (an_atom s) (replicate (fields_of (layer_of stack place) tag) place)
+  _ ← the_text (codes ")")
+  yields (record { place = place; tag = tag; fields = fields })
+
+-- Known headers, with `/` between: they stand at places one above the other, the first at this one. There are no more than places.
+abbrev pub links_behind : List LayerTree → Named → ℕ → ℕ → Reader (List Link)
+links_behind stack s place zero text = Some ([], text)
+links_behind stack s place (suc left) [] = Some ([], [])
+links_behind stack s place (suc left) (byte ∷ bytes) =
+    if byte == 47 then (do
+      first ← a_link stack s place
+      more ← links_behind stack s (place + 1) left
+      yields (first ∷ more)) bytes
+    else Some ([], byte ∷ bytes)
+
+abbrev pub some_links : List LayerTree → Named → ℕ → Reader (List Link)
+some_links stack s place = do
+  first ← a_link stack s place
+  more ← links_behind stack s (place + 1) (length stack)
+  yields (first ∷ more)
+
+-- Those behind what they are of, which may be missing.
+abbrev pub a_chain : List LayerTree → Named → ℕ → Reader (List Link)
+a_chain stack s place [] = Some ([], [])
+a_chain stack s place (byte ∷ bytes) = if byte == 32 then some_links stack s place bytes else Some ([], byte ∷ bytes)
+
+-- A message with its known headers behind it.
+abbrev pub a_chained : List LayerTree → Named → ℕ → Reader Chained
+a_chained stack s place = do
+  c ← a_core s
+  chain ← a_chain stack s place
+  yields (record { chain = chain; core = c })
+
+-- The message of a row to be pushed, where its queue's rows have one: it stands behind their numbers, and a comma where there are some.
+abbrev pub comma_behind : List (List ℕ) → Reader (Unit {0})
+comma_behind [] = yields tt
+comma_behind (name ∷ names) = the_text (codes ",")
+
+abbrev pub row_message : List LayerTree → Named → ℕ → List (List ℕ) → Option (List ℕ × Carried) → Reader (Option Chained)
+row_message stack s place names None = yields None
+row_message stack s place names (Some carried) = do
+  _ ← comma_behind names
+  m ← a_chained stack s place
+  yields (Some m)
+
+-- What stands in the brackets of an output: numbers, and a message behind these where it has one.
+pub record Sent : Type 0 where
+  pub numbers : List Atom
+  pub message : Option Core
+
+abbrev pub nothing_sent : Sent
+nothing_sent = record { numbers = []; message = None }
+
+abbrev pub with_number : Atom → Sent → Sent
+with_number a sent = record sent { numbers = a ∷ sent.numbers }
+
+abbrev pub a_last : Named → List (List ℕ) → Reader Sent
+a_last s name = do
+  c ← given (core_named s name)
+  yields (record { numbers = []; message = Some c })
+
+-- What follows behind a comma, if one stands here.
+abbrev pub or_no_more : Reader Sent → Reader Sent
+or_no_more more text = if bytes_eq (take 1 text) (codes ",") then (the_text (codes ",") >>= λ _. more) text else Some (nothing_sent, text)
+
+-- What a name is, and what follows it: behind a number there may be more.
+abbrev pub sent_by : Named → Reader Sent → List (List ℕ) → Option Atom → Reader Sent
+sent_by s more name (Some a) = do
+  sent ← or_no_more more
+  yields (with_number a sent)
+sent_by s more name None = a_last s name
+
+-- So many numbers at most, and a message.
+abbrev pub sent_within : Named → ℕ → Reader Sent
+sent_within s zero = do
+  name ← a_name
+  a_last s name
+sent_within s (suc left) = do
+  name ← a_name
+  sent_by s (sent_within s left) name (atom_named s name)
+
+abbrev pub what_is_sent : Named → Reader Sent
+what_is_sent s text = if bytes_eq (take 1 text) (codes ")") then Some (nothing_sent, text) else sent_within s most_fields text
+
+-- Its message, with its known headers behind the bracket.
+abbrev pub chained_behind : List LayerTree → Named → Option Core → Reader (Option Chained)
+chained_behind stack s None = yields None
+chained_behind stack s (Some c) = do
+  chain ← a_chain stack s 0
+  yields (Some (record { chain = chain; core = c }))
+
+-- Directions by their words.
+abbrev pub directions : List (List ℕ × Dir)
+directions = (sign_text (direction_sign Up), Up) ∷ (sign_text (direction_sign Down), Down) ∷ []
+
+-- What is set, behind its text: a number of a cell.
+abbrev pub setting : TraceNumber → TraceNumber → Option Operation
+setting (element p c e) x = Some (set p c e x)
+setting (square p c row column) x = Some (set_square p c row column x)
+setting _ x = None
+
+-- Each kind of operation, behind its word.
+abbrev pub a_bind : List LayerTree → Named → Reader Operation
+a_bind stack s = do
+  _ ← the_text (codes " t." ++ decimal s.binds ++ codes " = ")
+  e ← a_number stack s
+  yields (bind e)
+
+abbrev pub a_note : List LayerTree → Named → Reader Operation
+a_note stack s = do
+  _ ← the_text (codes " m." ++ decimal s.notes ++ codes " = ")
+  m ← a_message stack s
+  yields (note m)
+
+abbrev pub a_check : List LayerTree → Named → Reader Operation
+a_check stack s = do
+  _ ← the_text (codes " ")
+  e ← a_number stack s
+  yields (check e)
+
+abbrev pub a_set : List LayerTree → Named → Reader Operation
+a_set stack s = do
+  _ ← the_text (codes " ")
+  name ← a_name
+  target ← a_cell stack (inside stack s most_brackets) name
+  _ ← the_text (codes " = ")
+  x ← a_number stack s
+  given (setting target x)
+
+abbrev pub a_push : List LayerTree → Named → Reader Operation
+a_push stack s = do
+  _ ← the_text (codes " ")
+  q ← a_queue stack s
+  _ ← the_text (codes " (")
+  numbers ← each_of (a_number stack s) (items_at stack q.place q.cell).numbers
+  message ← row_message stack s (q.place + 1) (items_at stack q.place q.cell).numbers (items_at stack q.place q.cell).message
+  _ ← the_text (codes ")")
+  yields (push q.place q.cell q.index numbers message)
+
+abbrev pub a_take : List LayerTree → Named → Reader Operation
+a_take stack s = do
+  _ ← the_text (codes " ")
+  q ← a_queue stack s
+  _ ← the_text (codes " row." ++ decimal (length s.rows))
+  yields (trace.take q.place q.cell q.index)
+
+abbrev pub an_output : List LayerTree → Named → Reader Operation
+an_output stack s = do
+  _ ← the_text (codes " ")
+  direction ← a_word
+  dir ← given (beside directions direction)
+  _ ← the_text (codes " ")
+  name ← a_name
+  kind ← given (kind_named name)
+  _ ← the_text (codes "(")
+  sent ← what_is_sent s
+  _ ← the_text (codes ")")
+  message ← chained_behind stack s sent.message
+  yields (output dir kind sent.numbers message)
+
+-- An operation, by its first word; and the one that a whole line spells.
+abbrev pub operation_by : List LayerTree → Named → List ℕ → Reader Operation
+operation_by stack s word =
+    if bytes_eq word (codes "bind") then a_bind stack s
+    else if bytes_eq word (codes "note") then a_note stack s
+    else if bytes_eq word (codes "check") then a_check stack s
+    else if bytes_eq word (codes "set") then a_set stack s
+    else if bytes_eq word (codes "push") then a_push stack s
+    else if bytes_eq word (codes "take") then a_take stack s
+    else if bytes_eq word (codes "out") then an_output stack s
+    else nowhere
+
+abbrev pub operation_said : List LayerTree → Named → List ℕ → Option Operation
+operation_said stack s = whole (a_word >>= operation_by stack s)
