@@ -1,7 +1,8 @@
-//! The job `synth`: the bypasses of a stack file's stack, as text.
+//! The jobs `synth` and `pack`: the bypasses of a stack file's stack as text, to be read, and their traces as a file, to be run.
 #![tactic(auto)]
 
+mod printing;
 mod synthesis;
 mod text;
 
-pub use synthesis::synthesize;
+pub use synthesis::{pack, synthesize};

@@ -1,31 +1,39 @@
-//! The text of a stack's bypasses. The memory of shapes and bypasses goes back with that of the program.
+//! What is printed of a stack's bypasses. The memory of shapes and bypasses goes back with that of the program.
 #![tactic(auto, using(outside::proofs::Gaining::begins_none))]
 
 ghost use Rattle.std.specs.Prelude.{◌≡◌};
-ghost use Rattle.bypass_laws.specs.Printed.{synth_lines};
 ghost use Rattle.event_graph.specs.Answer.{stack_tree};
 ghost use Rattle.outside.specs.Lines.{Wrote};
 ghost use Rattle.outside.specs.Tells.{tells_of};
 ghost use Rattle.stack_mean.specs.Plans.{plans_of};
 ghost use Rattle.stack_shapes.specs.Shapes.{short_shapes};
 ghost use Rattle.stack_shapes.specs.Trees.{plans_tree};
+ghost use Rattle.trace_core.specs.Bypasses.{bypasses_tree};
+ghost use Rattle.bypass_jobs.specs.Printing.{own_lines, printing};
 
+use crate::printing::Printing;
 use event_graph::Stack;
 use msg_core::Memory;
 use outside::{Sink, SinkError};
-use stack_shapes::StackShapes;
+use stack_shapes::{Plans, StackShapes};
 use std::alloc::{AllocError, Global};
 use std::mem::forget;
 use synth::synth;
-use synth_print::print_bypasses;
+use synth_print::{print_bypasses, print_traces};
+use trace_core::Bypasses;
 
-/// Puts the text of a stack's bypasses, a line a put.
-pub(crate) fn put_text<O: Sink>(alloc: Global, stack: &Stack, out: &mut O) -> Result<(), SinkError>
-    ensures { Wrote (synth_lines (stack_tree stack.now)) (tells_of O.Sink out.old) (tells_of O.Sink out.new) result }
+/// Prints a stack's bypasses, a line a put.
+pub(crate) fn put_text<O: Sink>(
+    alloc: Global,
+    what: Printing,
+    stack: &Stack,
+    out: &mut O,
+) -> Result<(), SinkError>
+    ensures { Wrote (own_lines what (stack_tree stack.now)) (tells_of O.Sink out.old) (tells_of O.Sink out.new) result }
 {
     match StackShapes::of(alloc, stack) {
         Ok(shapes) => {
-            let wrote = put_bypasses(alloc, stack, &shapes, out);
+            let wrote = put_bypasses(alloc, what, stack, &shapes, out);
             forget(shapes);
             wrote
         }
@@ -33,23 +41,42 @@ pub(crate) fn put_text<O: Sink>(alloc: Global, stack: &Stack, out: &mut O) -> Re
     }
 }
 
-/// Puts the text of the bypasses of a stack whose shapes are drawn.
+/// Prints the bypasses of a stack whose shapes are drawn.
 fn put_bypasses<O: Sink>(
     alloc: Global,
+    what: Printing,
     stack: &Stack,
     shapes: &StackShapes,
     out: &mut O,
 ) -> Result<(), SinkError>
     requires plans { plans_tree shapes.now.plans ≡ plans_of (stack_tree stack.now) }
     requires entries { shapes.now.entries ≡ short_shapes (stack_tree stack.now) (plans_of (stack_tree stack.now)) }
-    ensures { Wrote (synth_lines (stack_tree stack.now)) (tells_of O.Sink out.old) (tells_of O.Sink out.new) result }
+    ensures { Wrote (own_lines what (stack_tree stack.now)) (tells_of O.Sink out.old) (tells_of O.Sink out.new) result }
 {
     match synth(alloc, stack, shapes) {
         Ok(bypasses) => {
-            let wrote = print_bypasses(alloc, stack, &shapes.plans, &bypasses, out);
+            let wrote = put(alloc, what, stack, &shapes.plans, &bypasses, out);
             forget(bypasses);
             wrote
         }
         Err(AllocError) => Err(SinkError::Memory),
+    }
+}
+
+/// Prints bypasses.
+fn put<O: Sink>(
+    alloc: Global,
+    what: Printing,
+    stack: &Stack,
+    plans: &Plans,
+    bypasses: &Bypasses,
+    out: &mut O,
+) -> Result<(), SinkError>
+    ensures { Wrote (printing what (stack_tree stack.now) (plans_tree plans.now) (bypasses_tree bypasses.now))
+        (tells_of O.Sink out.old) (tells_of O.Sink out.new) result }
+{
+    match what {
+        Printing::Handlers => print_bypasses(alloc, stack, plans, bypasses, out),
+        Printing::Traces => print_traces(alloc, stack, plans, bypasses, out),
     }
 }

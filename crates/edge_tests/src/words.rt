@@ -20,6 +20,7 @@ fn said(alloc: Global, texts: &[&str]) -> Result<String, AllocError> {
     match job {
         Some(Job::Check(file)) => format!(in alloc; "check {file}"),
         Some(Job::Synth(file)) => format!(in alloc; "synth {file}"),
+        Some(Job::Pack(file)) => format!(in alloc; "pack {file}"),
         Some(Job::Replay(replay)) => format!(in alloc;
             "replay {} {} {} {} {}",
             replay.file,
@@ -56,9 +57,10 @@ fn said(alloc: Global, texts: &[&str]) -> Result<String, AllocError> {
 #[test]
 fn reads_each_job(rt: HostRuntime) -> Result<(), Fail> {
     let alloc = rt.alloc();
-    let cases: [(&[&str], &str); 9] = [
+    let cases: [(&[&str], &str); 10] = [
         (&["check", "f"], "check f"),
         (&["synth", "--", "--f"], "synth --f"),
+        (&["pack", "f"], "pack f"),
         (
             &["replay", "--wire", "f", "--run=layered", "s"],
             "replay f s true true false",

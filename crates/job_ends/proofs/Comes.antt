@@ -6,7 +6,7 @@ use Rattle.std.specs.Option.{option_map}
 use Rattle.clap.specs.Walk.{Text}
 use Rattle.outside.specs.Shelf.{Shelved, found_in, after_read}
 use Rattle.program_laws.proofs.Files.{one_file, one_meaning}
-use Rattle.job_mean.specs.Job.{Job, check, synth, replay, explain, load, node, audit}
+use Rattle.job_mean.specs.Job.{Job, check, synth, pack, replay, explain, load, node, audit}
 use Rattle.end_mean.specs.Status.{Ended, done, breached, write_failed, no_memory}
 use Rattle.program_mean.specs.Headline.{Run, second_for, whole_end, WritesOf}
 use Rattle.script_mean.specs.Generate.{generate}
@@ -20,7 +20,8 @@ use Rattle.run_mean.specs.Tally.{tally, accepted_lines}
 use Rattle.output_mean.specs.Output.{finding_line}
 use Rattle.miss_mean.specs.Text.{explained_lines}
 use Rattle.bypass_mean.specs.Lines.{printed_lines}
-use Rattle.bypass_laws.specs.Printed.{synth_lines, synth_text}
+use Rattle.bypass_laws.specs.Making.{bypasses_of, simplest}
+use Rattle.job_ends.specs.Printed.{Lines, packed, printed_text}
 use Rattle.std.specs.Prelude.{Result, Ok}
 use Rattle.job_ends.specs.Comes.{Around, Beside, Finds, file_name, Synthesized, IsOutput, Good, Writes, Comes}
 
@@ -50,16 +51,23 @@ longer (Some shelf) name most h = found (found_in shelf name) h where
   found None h = absurd h
   found (Some file) h = (file, refl, h)
 
--- What a synthesis writes is what is printed of its stack.
-printed : (file : List ℕ) (lines : List (List ℕ)) (o : Synthesized file lines) → lines ≡ synth_lines o.stack
-printed file lines o = o.written ∙ ap (printed_lines o.stack (plans_of o.stack)) o.simplest
+-- What is printed of bypasses that are made is what is printed of its stack's.
+printed : (print : Lines) (file : List ℕ) (lines : List (List ℕ)) (o : Synthesized print file lines) → lines ≡ print o.stack (plans_of o.stack) (bypasses_of simplest o.stack)
+printed print file lines o = o.written ∙ ap (print o.stack (plans_of o.stack)) o.simplest
+
+-- It is one.
+printed_once : (print : Lines) (file : List ℕ) (one other : List (List ℕ)) → Synthesized print file one → Synthesized print file other → one ≡ other
+printed_once print file one other x y = printed print file one x
+    ∙ ap (λ s. print s (plans_of s) (bypasses_of simplest s)) (one_meaning file x.stack y.stack x.means y.means) ∙ sym (printed print file other y)
 
 -- An output as the program's definitions have it.
 pub writes_of : (job : Job) (r : Run) (file second : List ℕ) (lines : List (List ℕ)) → IsOutput job file second lines → r.sent ≡ [] →
-    WritesOf synth_text job r file second (concat lines)
+    WritesOf printed_text job r file second (concat lines)
 writes_of (check name) r file second lines o none = (record { stack = o.stack; means = o.means; written = ap concat o.written }, none)
 writes_of (synth name) r file second lines o none =
-    (record { stack = o.stack; means = o.means; written = ap concat (printed file lines o) }, none)
+    (record { stack = o.stack; means = o.means; written = ap concat (printed printed_lines file lines o) }, none)
+writes_of (pack name) r file second lines o none =
+    (record { stack = o.stack; means = o.means; written = ap concat (printed packed file lines o) }, none)
 writes_of (replay name script mode wire count) r file second lines o none = (
   record {
     stack = o.stack;
@@ -93,8 +101,8 @@ pub output_once : (job : Job) (file second : List ℕ) (one other : List (List �
     one ≡ other
 output_once (check name) file second one other x y =
     x.written ∙ ap accepted_lines (one_meaning file x.stack y.stack x.means y.means) ∙ sym y.written
-output_once (synth name) file second one other x y =
-    printed file one x ∙ ap synth_lines (one_meaning file x.stack y.stack x.means y.means) ∙ sym (printed file other y)
+output_once (synth name) file second one other x y = printed_once printed_lines file one other x y
+output_once (pack name) file second one other x y = printed_once packed file one other x y
 output_once (replay name script mode wire count) file second one other x y =
     let stack = one_meaning file x.stack y.stack x.means y.means in
     let both : ◌≡◌ {A = Result Script ScriptFault} (Ok x.script) (Ok y.script) = sym x.spelled ∙ y.spelled in
@@ -123,6 +131,7 @@ pub beside_once : (job : Job) (shelf : Shelved) (one other : Option (List ℕ)) 
     one ≡ other
 beside_once (check name) shelf one other x y = x ∙ sym y
 beside_once (synth name) shelf one other x y = x ∙ sym y
+beside_once (pack name) shelf one other x y = x ∙ sym y
 beside_once (replay name script mode wire count) shelf one other x y = sym x ∙ y
 beside_once (explain name script) shelf one other x y = sym x ∙ y
 beside_once (load name seed events members raw mode) shelf one other x y = x ∙ sym y
@@ -134,6 +143,7 @@ pub second_read : (job : Job) (told : Option Shelved) (text : List ℕ) → Besi
     (second : Option (List ℕ)) × (second_for job second ≡ Some text)
 second_read (check name) told text is = (None, sym is)
 second_read (synth name) told text is = (None, sym is)
+second_read (pack name) told text is = (None, sym is)
 second_read (replay name script mode wire count) told text is = (Some text, refl)
 second_read (explain name script) told text is = (Some text, refl)
 second_read (load name seed events members raw mode) told text is = (None, sym is)
@@ -144,6 +154,7 @@ second_read (audit name law) told text is = (None, sym is)
 pub second_missed : (job : Job) (told : Option Shelved) → Beside job told None → second_for job None ≡ None
 second_missed (check name) told is = absurd (cc is)
 second_missed (synth name) told is = absurd (cc is)
+second_missed (pack name) told is = absurd (cc is)
 second_missed (replay name script mode wire count) told is = refl
 second_missed (explain name script) told is = refl
 second_missed (load name seed events members raw mode) told is = absurd (cc is)
@@ -162,6 +173,7 @@ next_file job told = found_at told (file_name job)
 pub next_second : (job : Job) (told : Option Shelved) → (second : Option (List ℕ)) × Beside job told (second_for job second)
 next_second (check name) told = (None, refl)
 next_second (synth name) told = (None, refl)
+next_second (pack name) told = (None, refl)
 next_second (replay name script mode wire count) told = found_at (option_map after_read told) script
 next_second (explain name script) told = found_at (option_map after_read told) script
 next_second (load name seed events members raw mode) told = (None, refl)

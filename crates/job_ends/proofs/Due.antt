@@ -7,9 +7,9 @@ use Rattle.outside.specs.Shelf.{Shelved}
 use Rattle.audit_mean.specs.Finding.{AuditFault, audit_of}
 use Rattle.audit_mean.specs.declared.law.Finding.{Finding}
 use Rattle.audit_mean.specs.declared.law.Finding.TheVariants.{Holds, Breach}
-use Rattle.job_mean.specs.Job.{Job, check, synth, replay, explain, load, node, audit, job_of_words}
+use Rattle.job_mean.specs.Job.{Job, check, synth, pack, replay, explain, load, node, audit, job_of_words}
 use Rattle.end_mean.specs.Status.{Ended, done, breached, file_refused, report_refused, words_refused, second_refused, read_failed, write_failed, link_failed, no_memory, status_number}
-use Rattle.bypass_laws.specs.Printed.{synth_text}
+use Rattle.job_ends.specs.Printed.{printed_text}
 use Rattle.program_mean.specs.Headline.{IsNoReport, end_found, whole_end, second_for}
 use Rattle.outside.specs.Lines.{Gains}
 use Rattle.outside.specs.Said.{Errors, SaysLine, whole, failed, no_memory as wanted}
@@ -71,6 +71,7 @@ finished end e s is = go end (status_said end e s) where
 whole_number : (job : Job) (file : List ℕ) → IsWhole (status_number (whole_end job file))
 whole_number (check name) file = inl refl
 whole_number (synth name) file = inl refl
+whole_number (pack name) file = inl refl
 whole_number (replay name script mode wire count) file = inl refl
 whole_number (explain name script) file = inl refl
 whole_number (load name seed events members raw mode) file = inl refl
@@ -94,22 +95,23 @@ module _ (words : List Text) (job : Job) (a : Around) (e : Errors) (is : job_of_
     second_is found finds = beside_once job shelf (second_for job s.second) found (subst (λ t. Beside job t (second_for job s.second)) told s.beside) finds
 
     good_due : (good : Good job (Some shelf)) → NoPutFailed a → Due (status_number (whole_end job good.file)) e.status
-    good_due good puts = good_are_due synth_text (run_of words a e s.file s.second s.written s.said) job good.file good.second (concat good.lines)
+    good_due good puts = good_are_due printed_text (run_of words a e s.file s.second s.written s.said) job good.file good.second (concat good.lines)
         s.ran puts alone is (file_is (Some good.file) good.found) (second_is (Some good.second) good.beside)
         (writes_of job _ good.file good.second good.lines good.output refl)
 
     unfound_due : Unfound job (Some shelf) → Due 4 e.status
-    unfound_due (inl none) = misses_are_due synth_text (run_of words a e s.file s.second s.written s.said) job s.ran is (file_is None none)
-    unfound_due (inr n) = second_misses_are_due synth_text (run_of words a e s.file s.second s.written s.said) job n.file n.stack s.ran is
+    unfound_due (inl none) = misses_are_due printed_text (run_of words a e s.file s.second s.written s.said) job s.ran is (file_is None none)
+    unfound_due (inr n) = second_misses_are_due printed_text (run_of words a e s.file s.second s.written s.said) job n.file n.stack s.ran is
         (file_is (Some n.file) n.found) n.means (second_is None n.none)
 
     report_due : (fault : AuditFault) (b : BadReport job (Some shelf) fault) → Due 1 e.status
     report_due fault b = go job is b.refused where
       go : (other : Job) → job_of_words words ≡ Some other → IsNoReport other b.file fault → Due 1 e.status
-      go (audit name law) named refused = reports_are_due synth_text (run_of words a e s.file s.second s.written s.said) name law b.file fault s.ran
+      go (audit name law) named refused = reports_are_due printed_text (run_of words a e s.file s.second s.written s.said) name law b.file fault s.ran
           named (file_is (Some b.file) b.found) refused
       go (check name) named refused = absurd refused
       go (synth name) named refused = absurd refused
+      go (pack name) named refused = absurd refused
       go (replay name script mode wire count) named refused = absurd refused
       go (explain name script) named refused = absurd refused
       go (load name seed events members raw mode) named refused = absurd refused
@@ -118,10 +120,10 @@ module _ (words : List Text) (job : Job) (a : Around) (e : Errors) (is : job_of_
     due : (end : Ended) → CallsFor job a shelf end → Due (status_number end) e.status
     due done c = subst (λ end. Due (status_number end) e.status) c.0.1 (good_due c.0.0 c.1)
     due breached c = subst (λ end. Due (status_number end) e.status) c.0.1 (good_due c.0.0 c.1)
-    due (file_refused fault) b = files_are_due synth_text (run_of words a e s.file s.second s.written s.said) job b.file fault s.ran is b.reads
+    due (file_refused fault) b = files_are_due printed_text (run_of words a e s.file s.second s.written s.said) job b.file fault s.ran is b.reads
         (file_is (Some b.file) b.found) b.refused
     due (report_refused fault) b = report_due fault b
-    due (second_refused fault) b = seconds_are_due synth_text (run_of words a e s.file s.second s.written s.said) job b.file b.second b.stack fault
+    due (second_refused fault) b = seconds_are_due printed_text (run_of words a e s.file s.second s.written s.said) job b.file b.second b.stack fault
         s.ran is (file_is (Some b.file) b.found) (second_is (Some b.second) b.beside) b.means b.refused
     due read_failed u = unfound_due u
     due _ c = absurd c
@@ -158,4 +160,4 @@ module _ (words : List Text) (job : Job) (a : Around) (e : Errors) (is : job_of_
 
 -- words that are no job are refused
 pub words_due : (words : List Text) (a : Around) (e : Errors) → Seen words None a e → job_of_words words ≡ None → Due 2 e.status
-words_due words a e s is = words_are_due synth_text (run_of words a e s.file s.second s.written s.said) s.ran is
+words_due words a e s is = words_are_due printed_text (run_of words a e s.file s.second s.written s.said) s.ran is

@@ -8,9 +8,9 @@ use Rattle.audit_mean.specs.Finding.{AuditFault}
 use Rattle.std.specs.Io.KnownBytes.{Appends}
 use Rattle.clap.specs.Walk.{Text}
 use Rattle.outside.proofs.Appended.{appends_none}
-use Rattle.job_mean.specs.Job.{Job, check, synth, replay, explain, load, node, audit, job_of_words}
+use Rattle.job_mean.specs.Job.{Job, check, synth, pack, replay, explain, load, node, audit, job_of_words}
 use Rattle.end_mean.specs.Status.{Ended, done, breached, file_refused, report_refused, words_refused, second_refused, read_failed, write_failed, link_failed, no_memory, status_number, error_line}
-use Rattle.bypass_laws.specs.Printed.{synth_text}
+use Rattle.job_ends.specs.Printed.{printed_text}
 use Rattle.output_mean.specs.Judged.{IsGood}
 use Rattle.program_mean.specs.Headline.{second_for, OfJob, ReadsStack, IsNoReport, whole_end, WritesOf, WritesWhole, WroteNothing, Began, Ends, Says, whole, cut_off, out_of_memory}
 use Rattle.output_mean.specs.Judged.{Means}
@@ -32,7 +32,7 @@ pub record Reached (words : List Text) (job : Option Job) (a : Around) (end : En
   pub beside : IfSome job (λ j. Beside j a.told (second_for j second))
   pub written : List ℕ
   pub put : Appends a.output.contents a.output_after.contents written
-  pub ends : (e : Errors) (said : List ℕ) → Ends synth_text (run_of words a e file second written said) end
+  pub ends : (e : Errors) (said : List ℕ) → Ends printed_text (run_of words a e file second written said) end
 
 -- a sink that is as it was gained nothing
 pub same_gained : (old new : Tells) → new ≡ old → Appends old.contents new.contents []
@@ -44,6 +44,7 @@ report_second : (job : Job) (file : List ℕ) (fault : AuditFault) → IsNoRepor
 report_second (audit name law) file fault refused told = (refl, refl)
 report_second (check name) file fault refused told = absurd refused
 report_second (synth name) file fault refused told = absurd refused
+report_second (pack name) file fault refused told = absurd refused
 report_second (replay name script mode wire count) file fault refused told = absurd refused
 report_second (explain name script) file fault refused told = absurd refused
 report_second (load name seed events members raw mode) file fault refused told = absurd refused
@@ -68,15 +69,15 @@ module _ (words : List Text) (a : Around) (job : Job) (is : job_of_words words �
   -- an output that was written in part
   began : (good : Good job a.told) (second : Option (List ℕ)) (written rest : List ℕ) (e : Errors) (said : List ℕ) →
       a.reads_after ≡ a.reads → second_for job second ≡ Some good.second → concat good.lines ≡ written ++ rest →
-      Began synth_text (run_of words a e (Some good.file) second written said)
+      Began printed_text (run_of words a e (Some good.file) second written said)
   began good second written rest e said sound beside all = record {
     clock = [];
     heard = [];
     sent = [];
     rest = rest;
-    whole = job_holds (λ j f t. WritesOf synth_text j (run_of words a e (Some good.file) second written said) f t (written ++ rest))
+    whole = job_holds (λ j f t. WritesOf printed_text j (run_of words a e (Some good.file) second written said) f t (written ++ rest))
         e good.file second good.second written said sound beside
-        (subst (λ out. WritesOf synth_text job (run_of words a e (Some good.file) second written said) good.file good.second out) all
+        (subst (λ out. WritesOf printed_text job (run_of words a e (Some good.file) second written said) good.file good.second out) all
         (writes_of job _ good.file good.second good.lines good.output refl));
     heard_all = inl refl;
   }
@@ -89,9 +90,9 @@ module _ (words : List Text) (a : Around) (job : Job) (is : job_of_words words �
   -- a whole output was written
   whole_ends : (end : Ended) (w : Whole job a end) (second : Option (List ℕ)) → second_for job second ≡ Some w.good.second →
       (e : Errors) (said : List ℕ) →
-      WritesWhole synth_text (run_of words a e (Some w.good.file) second (concat w.good.lines) said) end
+      WritesWhole printed_text (run_of words a e (Some w.good.file) second (concat w.good.lines) said) end
   whole_ends end w second beside e said = (
-    job_holds (λ j f t. WritesOf synth_text j (run_of words a e (Some w.good.file) second (concat w.good.lines) said) f t (concat w.good.lines) × (whole_end j f ≡ end))
+    job_holds (λ j f t. WritesOf printed_text j (run_of words a e (Some w.good.file) second (concat w.good.lines) said) f t (concat w.good.lines) × (whole_end j f ≡ end))
         e w.good.file second w.good.second (concat w.good.lines) said w.sound beside
         (writes_of job _ w.good.file w.good.second w.good.lines w.good.output refl, w.ends),
     w.written.sound,

@@ -16,13 +16,14 @@ use Rattle.script_mean.specs.Script.{script_of}
 use Rattle.script_mean.specs.declared.script.Script.{Script}
 use Rattle.stack_mean.specs.Plans.{plans_of}
 use Rattle.run_mean.specs.Mode.{Mode}
-use Rattle.job_mean.specs.Job.{Job, check, synth, replay, explain, load, node, audit}
+use Rattle.job_mean.specs.Job.{Job, check, synth, pack, replay, explain, load, node, audit}
 use Rattle.end_mean.specs.Status.{FileFault, SecondFault, Ended, done, breached, file_refused, report_refused, words_refused, second_refused, read_failed, write_failed, no_memory}
 use Rattle.run_mean.specs.Report.{output_in}
 use Rattle.run_mean.specs.Tally.{tally, accepted_lines}
 use Rattle.miss_mean.specs.Text.{explained_lines}
 use Rattle.bypass_mean.specs.Bypasses.{Bypasses}
 use Rattle.bypass_mean.specs.Lines.{printed_lines}
+use Rattle.job_ends.specs.Printed.{Lines, packed}
 use Rattle.bypass_laws.specs.Making.{bypasses_of, simplest}
 use Rattle.bypass_laws.specs.Stack.{AreOfStack}
 use Rattle.output_mean.specs.Judged.{Means, Refuses}
@@ -70,6 +71,7 @@ NoJob a _ = ⊥
 abbrev pub file_name : Job → Text
 file_name (check file) = file
 file_name (synth file) = file
+file_name (pack file) = file
 file_name (replay file script mode wire count) = file
 file_name (explain file script) = file
 file_name (load file seed events members raw mode) = file
@@ -93,14 +95,14 @@ pub record Checked (file : List ℕ) (lines : List (List ℕ)) : Type 0 where
   pub means : Means file stack
   pub written : lines ≡ accepted_lines stack
 
--- That of a synthesis: the text of bypasses that are the stack's, those that the definitions make.
-pub record Synthesized (file : List ℕ) (lines : List (List ℕ)) : Type 0 where
+-- That of a job that makes bypasses: what is printed of those that are the stack's, those that the definitions make.
+pub record Synthesized (print : Lines) (file : List ℕ) (lines : List (List ℕ)) : Type 0 where
   pub stack : List LayerTree
   pub means : Means file stack
   pub bypasses : Bypasses
   pub of_stack : AreOfStack stack bypasses
   pub simplest : bypasses ≡ bypasses_of simplest stack
-  pub written : lines ≡ printed_lines stack (plans_of stack) bypasses
+  pub written : lines ≡ print stack (plans_of stack) bypasses
 
 -- That of an audit.
 pub record Audited (file : List ℕ) (law : Law) (lines : List (List ℕ)) : Type 0 where
@@ -135,7 +137,8 @@ pub record Loaded (file : List ℕ) (seed events members : ℕ) (raw : Bool) (mo
 
 abbrev pub IsOutput : Job → (file second : List ℕ) → (lines : List (List ℕ)) → Type 0
 IsOutput (check name) file second lines = Checked file lines
-IsOutput (synth name) file second lines = Synthesized file lines
+IsOutput (synth name) file second lines = Synthesized printed_lines file lines
+IsOutput (pack name) file second lines = Synthesized packed file lines
 IsOutput (audit name law) file second lines = Audited file law lines
 IsOutput (replay name script mode wire count) file second lines = Replayed file second mode wire count lines
 IsOutput (explain name script) file second lines = Explained file second lines

@@ -1,3 +1,4 @@
+pub mod Printed
 pub mod Shown
 pub mod Comes
 pub mod Seen

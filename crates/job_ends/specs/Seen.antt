@@ -3,7 +3,7 @@ use Rattle.std.specs.Prelude.{ℕ, List, [], Option, IfSome}
 use Rattle.std.specs.Io.KnownBytes.{Appends}
 use Rattle.clap.specs.Walk.{Text}
 use Rattle.job_mean.specs.Job.{Job}
-use Rattle.bypass_laws.specs.Printed.{synth_text}
+use Rattle.job_ends.specs.Printed.{printed_text}
 use Rattle.program_mean.specs.Headline.{Counted, Run, second_for, Ran}
 use Rattle.outside.specs.Said.{Errors}
 use Rattle.job_ends.specs.Comes.{Around, Finds, Beside}
@@ -40,4 +40,4 @@ pub record Seen (words : List Text) (job : Option Job) (a : Around) (e : Errors)
   pub put : Appends a.output.contents a.output_after.contents written
   pub said : List ℕ
   pub heard : Appends e.before.contents e.after.contents said
-  pub ran : Ran synth_text (run_of words a e file second written said)
+  pub ran : Ran printed_text (run_of words a e file second written said)

@@ -10,12 +10,13 @@ use Rattle.job_mean.specs.Given.{Given, given_of}
 use Rattle.msg_core.specs.View.{most_members, last_member}
 use Rattle.run_mean.specs.Mode.{Mode, layered, bypass}
 
--- what the program is to do: judge a file; print its bypasses; replay a script, with the packets' bytes or
+-- what the program is to do: judge a file; print its bypasses; write the traces of these as a file; replay a script, with the packets' bytes or
 -- the number of visits if wanted; tell why the steps of a script weren't common; replay a script that is made from a seed, with datagrams in it
 -- if wanted; run members over a network of which so many receives may fail; judge a law of the group on a report
 pub data Job : Type 0 where
   check : (file : Text) → Job
   synth : (file : Text) → Job
+  pack : (file : Text) → Job
   replay : (file script : Text) (mode : Mode) (wire count : Bool) → Job
   explain : (file script : Text) → Job
   load : (file : Text) (seed events members : ℕ) (raw : Bool) (mode : Mode) → Job
@@ -110,6 +111,12 @@ synth_job given = do
   _ ← with_only [] given
   Some (synth given.file)
 
+-- `pack FILE`
+abbrev pub pack_job : Given → Option Job
+pack_job given = do
+  _ ← with_only [] given
+  Some (pack given.file)
+
 -- `replay FILE SCRIPT`, may have `--run MODE`, `--wire` and `--count`
 abbrev pub replay_job : Given → Option Job
 replay_job given = do
@@ -158,6 +165,7 @@ abbrev pub job : Given → Option Job
 job given =
     if bytes_eq given.job (codes "check") then check_job given
     else if bytes_eq given.job (codes "synth") then synth_job given
+    else if bytes_eq given.job (codes "pack") then pack_job given
     else if bytes_eq given.job (codes "replay") then replay_job given
     else if bytes_eq given.job (codes "explain") then explain_job given
     else if bytes_eq given.job (codes "load") then load_job given

@@ -4,7 +4,7 @@ ghost use Rattle.clap.specs.Faults.{is_simple_and_free};
 ghost use Rattle.job_mean.specs.Command.{command};
 ghost use Rattle.audit_mean.specs.declared.law.Law.TheVariants.{Sender, Total, Same};
 ghost use Rattle.run_mean.specs.Mode.{layered, bypass};
-ghost use Rattle.job_mean.specs.Job.{job_of_words, check, synth, replay, explain, load, node, audit};
+ghost use Rattle.job_mean.specs.Job.{job_of_words, check, synth, pack, replay, explain, load, node, audit};
 
 /// The command is one of which `clap` promises what it finds, and that it refuses just what the definition
 /// refuses.
@@ -15,6 +15,7 @@ pub fn simple_command()
 /// These words name these jobs.
 pub fn name_jobs()
     ensures checks { job_of_words (codes "check" ∷ codes "a.layers" ∷ []) ≡ Some (check (codes "a.layers")) }
+    ensures packs { job_of_words (codes "pack" ∷ codes "a.layers" ∷ []) ≡ Some (pack (codes "a.layers")) }
     ensures synthesizes { job_of_words (codes "synth" ∷ codes "a.layers" ∷ []) ≡ Some (synth (codes "a.layers")) }
     ensures replays { job_of_words (codes "replay" ∷ codes "a" ∷ codes "b" ∷ codes "--run" ∷ codes "layered" ∷ []) ≡ Some (replay (codes "a") (codes "b") layered false false) }
     ensures replays_by_default { job_of_words (codes "replay" ∷ codes "a" ∷ codes "b" ∷ []) ≡ Some (replay (codes "a") (codes "b") bypass false false) }

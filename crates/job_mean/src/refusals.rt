@@ -28,6 +28,7 @@ pub fn refuse_by_job()
     ensures help_for_a_job { job_of_words (codes "help" ∷ codes "check" ∷ []) ≡ None }
     ensures script_for_check { job_of_words (codes "check" ∷ codes "a" ∷ codes "b" ∷ []) ≡ None }
     ensures mode_for_check { job_of_words (codes "check" ∷ codes "a" ∷ codes "--run=layered" ∷ []) ≡ None }
+    ensures script_for_pack { job_of_words (codes "pack" ∷ codes "a" ∷ codes "b" ∷ []) ≡ None }
     ensures count_for_synth { job_of_words (codes "synth" ∷ codes "a" ∷ codes "--count" ∷ []) ≡ None }
     ensures no_script { job_of_words (codes "replay" ∷ codes "a" ∷ []) ≡ None }
     ensures nothing_to_explain { job_of_words (codes "explain" ∷ codes "a" ∷ []) ≡ None }

@@ -8,7 +8,7 @@ use Rattle.job_mean.specs.Job as job
 use Rattle.job_mean.specs.Job.{a_number, a_number_or_zero, mode_of, most_node_turns, most_patience}
 use Rattle.job_text.specs.declared.given.Given.{Given}
 use Rattle.job_text.specs.declared.named.Job.{Job}
-use Rattle.job_text.specs.declared.named.Job.TheVariants.{Check, Synth, Replay, Explain, Load, Node, Audit}
+use Rattle.job_text.specs.declared.named.Job.TheVariants.{Check, Synth, Pack, Replay, Explain, Load, Node, Audit}
 use Rattle.job_text.specs.declared.named.Mode.{Mode}
 use Rattle.job_text.specs.declared.named.Mode.TheVariants.{Layered, Bypass}
 use denote.Ref.{Bor}
@@ -20,6 +20,7 @@ shown_mode Bypass = mode.bypass
 abbrev pub shown_job : Job → job.Job
 shown_job (Check file) = job.check file.now
 shown_job (Synth file) = job.synth file.now
+shown_job (Pack file) = job.pack file.now
 shown_job (Replay r) = job.replay r.file.now r.script.now (shown_mode r.mode) r.wire r.count
 shown_job (Explain e) = job.explain e.file.now e.script.now
 shown_job (Load l) = job.load l.file.now l.seed l.events l.members l.raw (shown_mode l.mode)

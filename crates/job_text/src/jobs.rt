@@ -27,6 +27,8 @@ pub(crate) fn job_of<'w>(alloc: Global, given: &Given<'w>) -> Result<Option<Job<
         Ok(check(given))
     } else if given.job == "synth" {
         Ok(synth(given))
+    } else if given.job == "pack" {
+        Ok(pack(given))
     } else if given.job == "replay" {
         Ok(replay(given))
     } else if given.job == "explain" {
@@ -59,6 +61,17 @@ fn synth<'w>(given: &Given<'w>) -> Option<Job<'w>>
 {
     if given.has_only(&[]) {
         Some(Job::Synth(given.file))
+    } else {
+        None
+    }
+}
+
+/// `pack FILE`
+fn pack<'w>(given: &Given<'w>) -> Option<Job<'w>>
+    ensures { option_map shown_job result ≡ spec.pack_job (shown_given given.now) }
+{
+    if given.has_only(&[]) {
+        Some(Job::Pack(given.file))
     } else {
         None
     }

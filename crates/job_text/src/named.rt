@@ -22,6 +22,8 @@ pub enum Job<'w> {
     Check(&'w str),
     /// Prints the bypasses of this stack file.
     Synth(&'w str),
+    /// Writes the traces of these as a file.
+    Pack(&'w str),
     Replay(Replay<'w>),
     Explain(Explain<'w>),
     Load(Load<'w>),

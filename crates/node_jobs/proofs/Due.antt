@@ -14,7 +14,7 @@ use Rattle.stack_mean.specs.Acceptance.{rows_of, most_rows}
 use Rattle.stack_mean.specs.Plans.{plans_of}
 use Rattle.job_mean.specs.Job.{job_of_words}
 use Rattle.end_mean.specs.Status.{FileFault, SecondFault, Ended, done, file_refused, second_refused, read_failed, write_failed, link_failed, no_memory, misspelled, too_many_rows, status_number}
-use Rattle.bypass_laws.specs.Printed.{synth_text}
+use Rattle.job_ends.specs.Printed.{printed_text}
 use Rattle.program_mean.specs.Headline.{Run}
 use Rattle.output_mean.specs.Judged.{Means, Refuses}
 use Rattle.output_mean.specs.Output.{IsNode, failures}
@@ -165,16 +165,16 @@ module _ (words : List Text) (w : Node) (a : Around) (n : Beyond) (e : Errors) (
     the_run = run_of words a n e s.file s.second s.surroundings s.sent s.written s.said
 
     unfound_due : Unfound (job_of w) (Some shelf) → Due 4 e.status
-    unfound_due (inl none) = misses_are_due synth_text the_run (job_of w) s.ran is (file_is None none)
+    unfound_due (inl none) = misses_are_due printed_text the_run (job_of w) s.ran is (file_is None none)
     unfound_due (inr m) =
-        second_misses_are_due synth_text the_run (job_of w) m.file m.stack s.ran is (file_is (Some m.file) m.found) m.means (second_is None m.none)
+        second_misses_are_due printed_text the_run (job_of w) m.file m.stack s.ran is (file_is (Some m.file) m.found) m.means (second_is None m.none)
 
     due : (end : Ended) → NodeComes w a n end → Said end e → (called : Ended) → CallsFor w a n shelf called → Due (status_number called) e.status
     due end came said done c = good_due c.0 c.1 c.2 end came said
     due end came said (file_refused fault) b =
-        files_are_due synth_text the_run (job_of w) b.file fault s.ran is b.reads (file_is (Some b.file) b.found) b.refused
+        files_are_due printed_text the_run (job_of w) b.file fault s.ran is b.reads (file_is (Some b.file) b.found) b.refused
     due end came said (second_refused fault) b =
-        seconds_are_due synth_text the_run (job_of w) b.file b.second b.stack fault s.ran is (file_is (Some b.file) b.found)
+        seconds_are_due printed_text the_run (job_of w) b.file b.second b.stack fault s.ran is (file_is (Some b.file) b.found)
         (second_is (Some b.second) b.beside) b.means b.refused
     due end came said read_failed u = unfound_due u
     due end came said _ c = absurd c

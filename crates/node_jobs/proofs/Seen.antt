@@ -11,7 +11,7 @@ use Rattle.stack_mean.specs.Plans.{plans_of}
 use Rattle.job_mean.specs.Job.{Job, job_of_words}
 use Rattle.end_mean.specs.Status.{FileFault, SecondFault, Ended, done, file_refused, second_refused, read_failed, write_failed, link_failed, no_memory}
 use Rattle.run_mean.specs.Journal.{Handed, note_lines, node_lines}
-use Rattle.bypass_laws.specs.Printed.{synth_text}
+use Rattle.job_ends.specs.Printed.{printed_text}
 use Rattle.program_mean.specs.Headline.{Run, OfJob, ReadsStack, second_for, whole_end, WritesOf, WroteNothing, Began, Ends, Says, LinksFail, whole, cut_off, out_of_memory, gone_on}
 use Rattle.output_mean.specs.Output.{node_words}
 use Rattle.output_mean.specs.Output.{Surroundings, NodeWords, failed, noted, played, handed_by}
@@ -49,7 +49,7 @@ record Reached (words : List Text) (w : Node) (a : Around) (n : Beyond) (end : E
   written : List ℕ
   put : Appends a.output.contents a.output_after.contents written
   ends : (e : Errors) (said : List ℕ) →
-      Ends synth_text (run_of words a n e file second surroundings sent written said) end
+      Ends printed_text (run_of words a n e file second surroundings sent written said) end
 
 -- a clock that told nothing
 told_nothing : (clock : Option (List ℕ)) → Told clock clock []
@@ -105,7 +105,7 @@ module _ (words : List Text) (w : Node) (a : Around) (n : Beyond) (is : job_of_w
       written = concat lines;
       put = r.served.written.gained;
       ends = λ e said. (
-        job_holds (λ job file second. WritesOf synth_text job (the_run (Some r.good.file) (Some r.good.second) r.served.s sent (concat lines) e said) file second (concat lines) × (whole_end job file ≡ done))
+        job_holds (λ job file second. WritesOf printed_text job (the_run (Some r.good.file) (Some r.good.second) r.served.s sent (concat lines) e said) file second (concat lines) × (whole_end job file ≡ done))
             r.good r.served.s sent (concat lines) e said r.sound (
               record {
                 node = r.good.node;
@@ -208,13 +208,13 @@ module _ (words : List Text) (w : Node) (a : Around) (n : Beyond) (is : job_of_w
         (played good.node.stack good.node.plan broken_words on)
 
     began : (part rest : List ℕ) → concat broken_lines ≡ part ++ rest → (errors : Errors) (said : List ℕ) →
-        Began synth_text (the_run (Some good.file) (Some good.second) r.s r.sent part errors said)
+        Began printed_text (the_run (Some good.file) (Some good.second) r.s r.sent part errors said)
     began part rest all errors said = record {
       clock = r.clock_on;
       heard = r.heard_on;
       sent = r.sent_on;
       rest = rest;
-      whole = job_holds (λ job file second. WritesOf synth_text job (gone_on (the_run (Some good.file) (Some good.second) r.s r.sent part errors said) r.clock_on r.heard_on r.sent_on)
+      whole = job_holds (λ job file second. WritesOf printed_text job (gone_on (the_run (Some good.file) (Some good.second) r.s r.sent part errors said) r.clock_on r.heard_on r.sent_on)
           file second (part ++ rest)) good r.s r.sent part errors said sound (record {
             node = good.node;
             moments = r.moments;
@@ -229,7 +229,7 @@ module _ (words : List Text) (w : Node) (a : Around) (n : Beyond) (is : job_of_w
   -- so it ended, behind that part
   broken : (end : Ended) (e : SinkError) (r : Ran w a n (Broken e)) (part : List ℕ) → Appends a.output.contents a.output_after.contents part →
       ((errors : Errors) (said : List ℕ) →
-      Ends synth_text (the_run (Some r.good.file) (Some r.good.second) r.served.s r.served.sent part errors said) end) → Reached words w a n end
+      Ends printed_text (the_run (Some r.good.file) (Some r.good.second) r.served.s r.served.sent part errors said) end) → Reached words w a n end
   broken end e r part put ends = record {
     file = Some r.good.file;
     second = Some r.good.second;
@@ -261,7 +261,7 @@ module _ (words : List Text) (w : Node) (a : Around) (n : Beyond) (is : job_of_w
 
     abbrev not_run : (end : Ended) (file second : Option (List ℕ)) → Finds (job_of w) a.told file → Beside (job_of w) a.told second →
         a.output_after ≡ a.output →
-        ((e : Errors) (said : List ℕ) → Ends synth_text (the_run file second nothing_told [] [] e said) end) →
+        ((e : Errors) (said : List ℕ) → Ends printed_text (the_run file second nothing_told [] [] e said) end) →
         Reached words w a n end
     not_run end file second met beside same ends = record {
       file = file;

@@ -3,7 +3,7 @@ use Rattle.std.specs.Prelude.{ℕ, List, Option}
 use Rattle.std.specs.Io.KnownBytes.{Appends}
 use Rattle.clap.specs.Walk.{Text}
 use Rattle.run_mean.specs.Journal.{Handed}
-use Rattle.bypass_laws.specs.Printed.{synth_text}
+use Rattle.job_ends.specs.Printed.{printed_text}
 use Rattle.program_mean.specs.Headline.{Run}
 use Rattle.program_mean.specs.Headline as program
 use Rattle.output_mean.specs.Output.{Surroundings}
@@ -48,4 +48,4 @@ pub record NodeSeen (words : List Text) (w : Node) (a : Around) (n : Beyond) (e 
   pub put : Appends a.output.contents a.output_after.contents written
   pub said : List ℕ
   pub heard : Appends e.before.contents e.after.contents said
-  pub ran : program.Ran synth_text (run_of words a n e file second surroundings sent written said)
+  pub ran : program.Ran printed_text (run_of words a n e file second surroundings sent written said)

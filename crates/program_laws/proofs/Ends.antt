@@ -10,7 +10,7 @@ use Rattle.stack_mean.specs.Acceptance.{rows_of}
 use Rattle.std.proofs.lemmas.Bool.{le-leb, lt-ltb}
 use Rattle.std.proofs.lemmas.List.Elements.{All-head, All-tail}
 use Rattle.std.specs.List.{All, fold, list_all}
-use Rattle.job_mean.specs.Job.{Job, check, synth, replay, explain, load, node, audit, job_of_words}
+use Rattle.job_mean.specs.Job.{Job, check, synth, pack, replay, explain, load, node, audit, job_of_words}
 use Rattle.end_mean.specs.Status.{FileFault, SecondFault, Ended, done, breached, file_refused, report_refused, words_refused, second_refused, read_failed, write_failed, link_failed, no_memory, status_number}
 use Rattle.audit_mean.specs.Finding.{AuditFault, audit_of}
 use Rattle.audit_mean.specs.declared.law.Law.{Law}
@@ -19,7 +19,7 @@ use Rattle.run_mean.specs.Journal.{Heard, failure}
 use Rattle.output_mean.specs.Judged.{Means, IsGood, Refuses}
 use Rattle.output_mean.specs.Output.{HasRoom, IsNode, is_failure, failures}
 use Rattle.program_mean.specs.Second.{crowded, after_script, after_plan, second_fault}
-use Rattle.program_mean.specs.Headline.{Counted, Run, Fails, IsSound, RoseBy, second_for, WritesOf, OfJob, end_found, whole_end, WritesWhole, gone_on, HeardAll, Began, ReadsStack, RefusesFile, IsNoReport, RefusesReport, RefusesSecond, ReadsFailed, LinksFail, Ends, Says, whole, cut_off, out_of_memory}
+use Rattle.program_mean.specs.Headline.{Printer, Counted, Run, Fails, IsSound, RoseBy, second_for, WritesOf, OfJob, end_found, whole_end, WritesWhole, gone_on, HeardAll, Began, ReadsStack, RefusesFile, IsNoReport, RefusesReport, RefusesSecond, ReadsFailed, LinksFail, Ends, Says, whole, cut_off, out_of_memory}
 use Rattle.program_laws.specs.OneEnd.{Counts, CountsAll, OneEnd, Came, WordsAreDue, FilesAreDue, ReportsAreDue, MissesAreDue, IsAlone, GoodAreDue, SecondMissesAreDue, SecondsAreDue}
 use Rattle.program_laws.proofs.Files.{one_meaning, one_refusal, good_or_refused}
 
@@ -98,6 +98,7 @@ Good job file second = GoodStack job file second
 good_stack : (job : Job) (file second : List ℕ) → ReadsStack job → Good job file second → GoodStack job file second
 good_stack (check name) file second reads good = good
 good_stack (synth name) file second reads good = good
+good_stack (pack name) file second reads good = good
 good_stack (replay name script mode wire count) file second reads good = good
 good_stack (explain name script) file second reads good = good
 good_stack (load name seed events members raw mode) file second reads good = good
@@ -109,6 +110,7 @@ reads_stack : (job : Job) (stack : List LayerTree) (second : List ℕ) (fault : 
     ReadsStack job
 reads_stack (check name) stack second fault refused = tt
 reads_stack (synth name) stack second fault refused = tt
+reads_stack (pack name) stack second fault refused = tt
 reads_stack (replay name script mode wire count) stack second fault refused = tt
 reads_stack (explain name script) stack second fault refused = tt
 reads_stack (load name seed events members raw mode) stack second fault refused = tt
@@ -132,10 +134,11 @@ node_fine file text me n =
     ap (after_plan n.stack me) n.spelled
     ∙ rw (below_all (length n.plan.peers) me n.members) (roomy n.stack (length n.plan.peers) n.room)
 
-writes_good : (print : List LayerTree → List ℕ) (job : Job) (r : Run) (file second out : List ℕ) → WritesOf print job r file second out →
+writes_good : (print : Printer) (job : Job) (r : Run) (file second out : List ℕ) → WritesOf print job r file second out →
     Good job file second
 writes_good print (check name) r file second out w = record { stack = w.0.stack; means = w.0.means; fine = refl }
 writes_good print (synth name) r file second out w = record { stack = w.0.stack; means = w.0.means; fine = refl }
+writes_good print (pack name) r file second out w = record { stack = w.0.stack; means = w.0.means; fine = refl }
 writes_good print (replay name script mode wire count) r file second out w = record {
   stack = w.0.stack;
   means = w.0.means;
@@ -159,6 +162,7 @@ links_good (node name plan turns me patience mode) r file second (inr w) =
     record { stack = w.0.node.stack; means = w.0.node.means; fine = node_fine file second me w.0.node }
 links_good (check name) r file second w = absurd w
 links_good (synth name) r file second w = absurd w
+links_good (pack name) r file second w = absurd w
 links_good (replay name script mode wire count) r file second w = absurd w
 links_good (explain name script) r file second w = absurd w
 links_good (load name seed events members raw mode) r file second w = absurd w
@@ -181,10 +185,10 @@ reached_by r Holds goods h = let m = met r Holds h in record {
   holds = goods m.job m.file m.second m.holds;
 }
 
-whole_reached : (print : List LayerTree → List ℕ) (r : Run) (end : Ended) → WritesWhole print r end → Reached r
+whole_reached : (print : Printer) (r : Run) (end : Ended) → WritesWhole print r end → Reached r
 whole_reached print r end h = reached_by r _ (λ job file second w. writes_good print job r file second r.written w.0) h.0
 
-began_reached : (print : List LayerTree → List ℕ) (r : Run) → Began print r → Reached r
+began_reached : (print : Printer) (r : Run) → Began print r → Reached r
 began_reached print r b =
     let m = reached_by (gone_on r b.clock b.heard b.sent) _
     (λ job file second. writes_good print job (gone_on r b.clock b.heard b.sent) file second (r.written ++ b.rest)) b.whole in record {
@@ -231,6 +235,7 @@ no_report_or_good (audit name law) file second fault none good =
     let both : ◌≡◌ {A = Result Finding AuditFault} (Err fault) (Ok good.finding) = sym none ∙ good.found in cc
 no_report_or_good (check name) file second fault none good = none
 no_report_or_good (synth name) file second fault none good = none
+no_report_or_good (pack name) file second fault none good = none
 no_report_or_good (replay name script mode wire count) file second fault none good = none
 no_report_or_good (explain name script) file second fault none good = none
 no_report_or_good (load name seed events members raw mode) file second fault none good = none
@@ -240,6 +245,7 @@ no_report_or_stack : (job : Job) (file : List ℕ) (fault : AuditFault) → IsNo
 no_report_or_stack (audit name law) file fault none reads = reads
 no_report_or_stack (check name) file fault none reads = none
 no_report_or_stack (synth name) file fault none reads = none
+no_report_or_stack (pack name) file fault none reads = none
 no_report_or_stack (replay name script mode wire count) file fault none reads = none
 no_report_or_stack (explain name script) file fault none reads = none
 no_report_or_stack (load name seed events members raw mode) file fault none reads = none
@@ -276,7 +282,7 @@ one_failure : (before : List Heard) → failures (before ++ failure ∷ []) ≡ 
 one_failure before = one_more before 0
 
 -- A node that made all its turns didn't end at its network.
-served_or_deaf : (print : List LayerTree → List ℕ) (job : Job) (r : Run) (file second : List ℕ) → CountsAll r → HeardAll r →
+served_or_deaf : (print : Printer) (job : Job) (r : Run) (file second : List ℕ) → CountsAll r → HeardAll r →
     WritesOf print job r file second r.written → LinksFail job r file second → ⊥
 served_or_deaf print (node name plan turns me patience mode) r file second counts heard w (inl x) =
     rose_apart r.links (failures r.surroundings.heard) 1 counts.links heard x.1
@@ -287,18 +293,19 @@ served_or_deaf print (node name plan turns me patience mode) r file second count
     absurd (omega (arith, borne, all))
 served_or_deaf print (check name) r file second counts heard w x = x
 served_or_deaf print (synth name) r file second counts heard w x = x
+served_or_deaf print (pack name) r file second counts heard w x = x
 served_or_deaf print (replay name script mode wire count) r file second counts heard w x = x
 served_or_deaf print (explain name script) r file second counts heard w x = x
 served_or_deaf print (load name seed events members raw mode) r file second counts heard w x = x
 served_or_deaf print (audit name law) r file second counts heard w x = x
 
-done_or_link : (print : List LayerTree → List ℕ) (r : Run) (end : Ended) → CountsAll r → WritesWhole print r end →
+done_or_link : (print : Printer) (r : Run) (end : Ended) → CountsAll r → WritesWhole print r end →
     OfJob r (λ job file second. LinksFail job r file second) → ⊥
 done_or_link print r end counts h i = against r _ _ ⊥ (met r _ h.0) (met r _ i) (λ job file second w fails.
     served_or_deaf print job r file second counts h.2 w.0 fails)
 
 -- A job that wrote its whole output ends in one way.
-whole_once : (print : List LayerTree → List ℕ) (r : Run) (a b : Ended) → WritesWhole print r a → WritesWhole print r b → a ≡ b
+whole_once : (print : Printer) (r : Run) (a b : Ended) → WritesWhole print r a → WritesWhole print r b → a ≡ b
 whole_once print r a b h i = against r _ _ (a ≡ b) (met r _ h.0) (met r _ i.0) (λ job file second w v. sym w.1 ∙ v.1)
 
 -- A refused file and a second file that is looked at.
@@ -326,6 +333,7 @@ one_report_fault (audit name law) file a b x y =
     let both : ◌≡◌ {A = Result Finding AuditFault} (Err a) (Err b) = sym x ∙ y in cc
 one_report_fault (check name) file a b x y = absurd x
 one_report_fault (synth name) file a b x y = absurd x
+one_report_fault (pack name) file a b x y = absurd x
 one_report_fault (replay name script mode wire count) file a b x y = absurd x
 one_report_fault (explain name script) file a b x y = absurd x
 one_report_fault (load name seed events members raw mode) file a b x y = absurd x
@@ -357,7 +365,7 @@ Stops r read_failed = ReadsFailed r
 Stops r _ = ⊥
 
 -- A run that went on behind them.
-abbrev GoesOn : (List LayerTree → List ℕ) → Run → Ended → Type 0
+abbrev GoesOn : Printer → Run → Ended → Type 0
 GoesOn print r done = WritesWhole print r done
 GoesOn print r breached = WritesWhole print r breached
 GoesOn print r write_failed = Fails r.puts
@@ -365,12 +373,12 @@ GoesOn print r link_failed = IsSound r.puts × OfJob r (λ job file second. Link
 GoesOn print r _ = ⊥
 
 -- How a run ended: it stopped at its words or files, it went on over good files, or memory ran out.
-data Way (print : List LayerTree → List ℕ) (r : Run) (end : Ended) : Type 0 where
+data Way (print : Printer) (r : Run) (end : Ended) : Type 0 where
   stopped : Stops r end → Way print r end
   went_on : GoesOn print r end → Reached r → Way print r end
   wanted : end ≡ no_memory → Way print r end
 
-way : (print : List LayerTree → List ℕ) (r : Run) (end : Ended) → Ends print r end → Way print r end
+way : (print : Printer) (r : Run) (end : Ended) → Ends print r end → Way print r end
 way print r done h = went_on h (whole_reached print r done h)
 way print r breached h = went_on h (whole_reached print r breached h)
 way print r (file_refused fault) h = stopped h
@@ -426,7 +434,7 @@ stops_once r read_failed _ counts h i = absurd i
 stops_once r _ _ counts h i = absurd h
 
 -- A run that went on ended in one way.
-goes_once : (print : List LayerTree → List ℕ) (r : Run) (a b : Ended) → CountsAll r → GoesOn print r a → GoesOn print r b → a ≡ b
+goes_once : (print : Printer) (r : Run) (a b : Ended) → CountsAll r → GoesOn print r a → GoesOn print r b → a ≡ b
 goes_once print r done done counts h i = refl
 goes_once print r done breached counts h i = whole_once print r done breached h i
 goes_once print r done write_failed counts h i = absurd (still_rose r.puts counts.puts h.1 i)
@@ -590,6 +598,7 @@ no_links : (job : Job) (r : Run) (file second : List ℕ) → IsAlone job → Li
 no_links (node name plan turns me patience mode) r file second alone fails = alone
 no_links (check name) r file second alone fails = fails
 no_links (synth name) r file second alone fails = fails
+no_links (pack name) r file second alone fails = fails
 no_links (replay name script mode wire count) r file second alone fails = fails
 no_links (explain name script) r file second alone fails = fails
 no_links (load name seed events members raw mode) r file second alone fails = fails

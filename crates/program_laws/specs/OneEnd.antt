@@ -7,11 +7,11 @@ use Rattle.file_mean.specs.Library.{IsFile}
 use Rattle.audit_mean.specs.Finding.{AuditFault, audit_of}
 use Rattle.audit_mean.specs.declared.law.Law.{Law}
 use Rattle.clap.specs.Walk.{Text}
-use Rattle.job_mean.specs.Job.{Job, check, synth, replay, load, node, audit, job_of_words}
+use Rattle.job_mean.specs.Job.{Job, check, synth, pack, replay, load, node, audit, job_of_words}
 use Rattle.end_mean.specs.Status.{FileFault, SecondFault, Ended, no_memory, status_number}
 use Rattle.output_mean.specs.Judged.{Means, Refuses}
 use Rattle.program_mean.specs.Second.{second_fault}
-use Rattle.program_mean.specs.Headline.{Counted, Run, Fails, second_for, WritesOf, whole_end, ReadsStack, Ends, Ran}
+use Rattle.program_mean.specs.Headline.{Printer, Counted, Run, Fails, second_for, WritesOf, whole_end, ReadsStack, Ends, Ran}
 
 -- A text is one file at most, means one stack at most, and is refused for one cause at most; and what means a stack isn't refused.
 abbrev pub OneFile : Type 0
@@ -37,7 +37,7 @@ pub record CountsAll (r : Run) : Type 0 where
 
 -- But for want of memory, which is free, a run has one end.
 abbrev pub OneEnd : Type 0
-OneEnd = (print : List LayerTree → List ℕ) (r : Run) (a b : Ended) → CountsAll r → a ≢ no_memory → b ≢ no_memory →
+OneEnd = (print : Printer) (r : Run) (a b : Ended) → CountsAll r → a ≢ no_memory → b ≢ no_memory →
     Ends print r a → Ends print r b → a ≡ b
 
 -- A status came, or 7.
@@ -46,21 +46,21 @@ Came r status = (r.status ≡ status) ⊎ (r.status ≡ 7)
 
 -- Words that are no job end with 2.
 abbrev pub WordsAreDue : Type 0
-WordsAreDue = (print : List LayerTree → List ℕ) (r : Run) → Ran print r → job_of_words r.words ≡ None → Came r 2
+WordsAreDue = (print : Printer) (r : Run) → Ran print r → job_of_words r.words ≡ None → Came r 2
 
 -- A job whose stack file is read and refused ends with 1.
 abbrev pub FilesAreDue : Type 0
-FilesAreDue = (print : List LayerTree → List ℕ) (r : Run) (job : Job) (file : List ℕ) (fault : FileFault) → Ran print r →
+FilesAreDue = (print : Printer) (r : Run) (job : Job) (file : List ℕ) (fault : FileFault) → Ran print r →
     job_of_words r.words ≡ Some job → ReadsStack job → r.file ≡ Some file → Refuses file fault → Came r 1
 
 -- An audit whose file is read and is no report ends with 1.
 abbrev pub ReportsAreDue : Type 0
-ReportsAreDue = (print : List LayerTree → List ℕ) (r : Run) (name : Text) (law : Law) (file : List ℕ) (fault : AuditFault) → Ran print r →
+ReportsAreDue = (print : Printer) (r : Run) (name : Text) (law : Law) (file : List ℕ) (fault : AuditFault) → Ran print r →
     job_of_words r.words ≡ Some (audit name law) → r.file ≡ Some file → audit_of law file ≡ Err fault → Came r 1
 
 -- A job whose file isn't there ends with 4.
 abbrev pub MissesAreDue : Type 0
-MissesAreDue = (print : List LayerTree → List ℕ) (r : Run) (job : Job) → Ran print r → job_of_words r.words ≡ Some job → r.file ≡ None → Came r 4
+MissesAreDue = (print : Printer) (r : Run) (job : Job) → Ran print r → job_of_words r.words ≡ Some job → r.file ≡ None → Came r 4
 
 -- No write of the output failed, nor does its count stand at its last value.
 abbrev pub PutsAll : Run → Type 0
@@ -73,17 +73,17 @@ IsAlone _ = Unit {0}
 
 -- A job without a network whose files are read and that has a whole output over them ends with the status of that, if no write failed.
 abbrev pub GoodAreDue : Type 0
-GoodAreDue = (print : List LayerTree → List ℕ) (r : Run) (job : Job) (file second out : List ℕ) → Ran print r → PutsAll r → IsAlone job →
+GoodAreDue = (print : Printer) (r : Run) (job : Job) (file second out : List ℕ) → Ran print r → PutsAll r → IsAlone job →
     job_of_words r.words ≡ Some job → r.file ≡ Some file → second_for job r.second ≡ Some second → WritesOf print job r file second out →
     Came r (status_number (whole_end job file))
 
 -- A job whose file is good, and whose second file isn't there, ends with 4.
 abbrev pub SecondMissesAreDue : Type 0
-SecondMissesAreDue = (print : List LayerTree → List ℕ) (r : Run) (job : Job) (file : List ℕ) (stack : List LayerTree) → Ran print r →
+SecondMissesAreDue = (print : Printer) (r : Run) (job : Job) (file : List ℕ) (stack : List LayerTree) → Ran print r →
     job_of_words r.words ≡ Some job → r.file ≡ Some file → Means file stack → second_for job r.second ≡ None → Came r 4
 
 -- A job whose file is good, and whose second file is read and refused or whose members have too many rows, ends with 3.
 abbrev pub SecondsAreDue : Type 0
-SecondsAreDue = (print : List LayerTree → List ℕ) (r : Run) (job : Job) (file second : List ℕ) (stack : List LayerTree) (fault : SecondFault) →
+SecondsAreDue = (print : Printer) (r : Run) (job : Job) (file second : List ℕ) (stack : List LayerTree) (fault : SecondFault) →
     Ran print r → job_of_words r.words ≡ Some job → r.file ≡ Some file → second_for job r.second ≡ Some second → Means file stack →
     second_fault job stack second ≡ Some fault → Came r 3

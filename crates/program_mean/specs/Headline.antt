@@ -9,7 +9,7 @@ use Rattle.audit_mean.specs.Finding.{AuditFault, audit_of}
 use Rattle.audit_mean.specs.declared.law.Finding.{Finding}
 use Rattle.audit_mean.specs.declared.law.Finding.TheVariants.{Breach}
 use Rattle.run_mean.specs.Mode.{Mode, layered, bypass}
-use Rattle.job_mean.specs.Job.{Job, check, synth, replay, explain, load, node, audit, job_of_words}
+use Rattle.job_mean.specs.Job.{Job, check, synth, pack, replay, explain, load, node, audit, job_of_words}
 use Rattle.end_mean.specs.Status.{FileFault, SecondFault, Ended, done, breached, file_refused, report_refused, words_refused, second_refused, read_failed, write_failed, link_failed, no_memory, status_number, error_line}
 use Rattle.run_mean.specs.Journal.{Heard, Handed}
 use Rattle.run_mean.specs.Report.{report_lines, output_in}
@@ -58,8 +58,16 @@ second_for (explain name script) second = second
 second_for (node name plan turns me patience mode) second = second
 second_for _ second = Some []
 
--- The whole output of a job over the bytes of its file. What `synth` prints of a stack is told beside this: it is defined with the
--- bypasses.
+-- What is printed of a stack's bypasses: their guarded handlers, to be read, or their traces, to be run.
+pub data Printing : Type 0 where
+  handlers : Printing
+  traces : Printing
+
+-- The texts of both are told beside this: they are defined with the bypasses.
+abbrev pub Printer : Type 0
+Printer = Printing → List LayerTree → List ℕ
+
+-- What is printed of a stack, over the bytes of its file.
 pub record Prints (print : List LayerTree → List ℕ) (file out : List ℕ) : Type 0 where
   pub stack : List LayerTree
   pub means : Means file stack
@@ -69,9 +77,11 @@ pub record Prints (print : List LayerTree → List ℕ) (file out : List ℕ) : 
 abbrev pub HandsNothing : Run → Type 0
 HandsNothing r = r.sent ≡ []
 
-abbrev pub WritesOf : (List LayerTree → List ℕ) → Job → Run → (file second out : List ℕ) → Type 0
+-- The whole output of a job over the bytes of its files.
+abbrev pub WritesOf : Printer → Job → Run → (file second out : List ℕ) → Type 0
 WritesOf print (check name) r file second out = Checks file out × HandsNothing r
-WritesOf print (synth name) r file second out = Prints print file out × HandsNothing r
+WritesOf print (synth name) r file second out = Prints (print handlers) file out × HandsNothing r
+WritesOf print (pack name) r file second out = Prints (print traces) file out × HandsNothing r
 WritesOf print (replay name script mode wire count) r file second out = Replays file second mode wire count out × HandsNothing r
 WritesOf print (explain name script) r file second out = Explains file second out × HandsNothing r
 WritesOf print (load name seed events members raw mode) r file second out =
@@ -95,7 +105,7 @@ OfJob r Holds = IsSomeAnd (job_of_words r.words) (λ job. IsSound r.reads × IsS
     IsSomeAnd (second_for job r.second) (λ second. Holds job file second)))
 
 -- These bytes are the whole output of a run's job.
-abbrev pub Writes : (List LayerTree → List ℕ) → Run → List ℕ → Type 0
+abbrev pub Writes : Printer → Run → List ℕ → Type 0
 Writes print r out = OfJob r (λ job file second. WritesOf print job r file second out)
 
 -- Of the network's listens and receives none failed but those receives that are told.
@@ -103,7 +113,7 @@ abbrev pub HeardAll : Run → Type 0
 HeardAll r = RoseBy r.links (failures r.surroundings.heard)
 
 -- What was written is the whole output of a run's job, whose end this is, and no write failed.
-abbrev pub WritesWhole : (List LayerTree → List ℕ) → Run → Ended → Type 0
+abbrev pub WritesWhole : Printer → Run → Ended → Type 0
 WritesWhole print r end =
     OfJob r (λ job file second. WritesOf print job r file second r.written × (whole_end job file ≡ end)) × IsSound r.puts × HeardAll r
 
@@ -116,7 +126,7 @@ gone_on r clock heard sent = record r {
 
 -- A run was broken off: what was written is a prefix of a whole output, and what was handed to the network one of what is handed on then,
 -- where a node's clock and network, had they been asked further, told this.
-pub record Began (print : List LayerTree → List ℕ) (r : Run) : Type 0 where
+pub record Began (print : Printer) (r : Run) : Type 0 where
   pub clock : List ℕ
   pub heard : List Heard
   pub sent : List Handed
@@ -174,7 +184,7 @@ LinksFail (node name plan turns me patience mode) r file second = let words = no
 LinksFail _ r file second = ⊥
 
 -- How a run may end, with the cause of each status: what went well before stands with each. Want of memory is free.
-abbrev pub Ends : (List LayerTree → List ℕ) → Run → Ended → Type 0
+abbrev pub Ends : Printer → Run → Ended → Type 0
 Ends print r done = WritesWhole print r done
 Ends print r breached = WritesWhole print r breached
 Ends print r (file_refused fault) = RefusesFile r fault
@@ -197,7 +207,7 @@ pub data Says (r : Run) (end : Ended) : Type 0 where
   out_of_memory : Begins (error_line end) r.said → r.status ≡ 7 → Says r end
 
 -- A run of the program: it ended in one way, and that was said. The sends that failed are those that are told.
-pub record Ran (print : List LayerTree → List ℕ) (r : Run) : Type 0 where
+pub record Ran (print : Printer) (r : Run) : Type 0 where
   pub end : Ended
   pub ends : Ends print r end
   pub says : Says r end

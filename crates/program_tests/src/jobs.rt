@@ -92,6 +92,10 @@ fn counts_generated_scripts(rt: HostRuntime) -> Result<(), Fail> {
 const BYPASSES: &[u8] =
     b"entry cast fused\ndo bind t.0 = peer\ndo bind t.1 = 0.k\ndo set 0.k = (0.k + 1)\ndo out down Cast(t.0,body) cnt.num(t.1)\nentry send fused\ndo out down Send(peer,body) cnt.none()\nplan 0 cast cnt.num(?)\nentry plan 0 fused\nwhen (in.0 == 0.e[peer])\ndo set 0.e[peer] = (in.0 + 1)\ndo bind t.0 = peer\ndo out up Cast(t.0,body)\nplan 1 send cnt.none()\nentry plan 1 fused\ndo out up Send(peer,body)\nend 4 fused 0 absent\n";
 
+/// Their traces.
+const TRACES: &[u8] =
+    b"bypasses 1\nentry cast case 1\nbind t.0 = peer\nbind t.1 = 0.k\nset 0.k = (0.k + 1)\nout down Cast(t.0,body) cnt.num(t.1)\nentry send case 1\nout down Send(peer,body) cnt.none()\nentry plan 0 case 1\ncheck (in.0 == 0.e[peer])\nset 0.e[peer] = (in.0 + 1)\nbind t.0 = peer\nout up Cast(t.0,body)\nentry plan 1 case 1\nout up Send(peer,body)\nend\n";
+
 /// A layer whose casts and sends go round a loop.
 pub(crate) const REPEATER: &[u8] =
     b"layer rep { down Cast(p, m) { each i below 2 max 2 { down Cast(p, m); } } down Send(p, m) { each i below 1 max 1 { down Send(p, m); } } }\nstack { rep; }\n";
@@ -118,6 +122,9 @@ pub(crate) const FLIP: &[u8] =
 
 const CASES: &[u8] =
     b"entry cast fused\nlet v.0 = (0.k + 1)\nwhen ((v.0 & 1) == 1)\ndo set 0.k = (0.k + 1)\ndo bind t.0 = peer\ndo bind t.1 = 0.k\ndo out down Cast(t.0,body) flip.a(t.1)\nentry cast second fused\nlet v.0 = (0.k + 1)\nwhen (((v.0 & 1) == 1) == 0)\ndo set 0.k = (0.k + 1)\ndo bind t.0 = peer\ndo bind t.1 = 0.k\ndo out down Cast(t.0,body) flip.b(t.1)\nentry send fused\ndo out down Send(peer,body) flip.none()\nplan 0 cast flip.a(?)\nentry plan 0 absent rare 0\nplan 1 send flip.none()\nentry plan 1 fused\ndo out up Send(peer,body)\nplan 2 cast flip.b(?)\nentry plan 2 absent rare 0\nend 4 fused 2 absent\n";
+
+const CASE_TRACES: &[u8] =
+    b"bypasses 1\nentry cast case 1\nset 0.k = (0.k + 1)\ncheck ((0.k & 1) == 1)\nbind t.0 = peer\nbind t.1 = 0.k\nout down Cast(t.0,body) flip.a(t.1)\nentry cast case 2\nset 0.k = (0.k + 1)\ncheck (((0.k & 1) == 1) == 0)\nbind t.0 = peer\nbind t.1 = 0.k\nout down Cast(t.0,body) flip.b(t.1)\nentry send case 1\nout down Send(peer,body) flip.none()\nentry plan 1 case 1\nout up Send(peer,body)\nend\n";
 
 /// A layer whose casts are never as predicted.
 const NEVER: &[u8] =
@@ -150,16 +157,20 @@ fn leaves_long(alloc: Global, synth: &[&str]) -> Result<bool, AllocError> {
 fn prints_bypasses(rt: HostRuntime) -> Result<(), Fail> {
     let alloc = rt.alloc();
     let synth: &[&str] = &["synth", "f"];
-    let cases: [(&[u8], &[u8]); 6] = [
-        (COUNTER, BYPASSES),
-        (REPEATER, LOOPS),
-        (KEEPER, STORED),
-        (LITERAL, COMPUTED),
-        (FLIP, CASES),
-        (NEVER, NOT_RUN),
+    let pack: &[&str] = &["pack", "f"];
+    let cases: [(&[&str], &[u8], &[u8]); 9] = [
+        (synth, COUNTER, BYPASSES),
+        (synth, REPEATER, LOOPS),
+        (synth, KEEPER, STORED),
+        (synth, LITERAL, COMPUTED),
+        (synth, FLIP, CASES),
+        (synth, NEVER, NOT_RUN),
+        (pack, COUNTER, TRACES),
+        (pack, REPEATER, b"bypasses 1\nend\n"),
+        (pack, FLIP, CASE_TRACES),
     ];
-    for (file, text) in cases {
-        assert!(rt; leaves(alloc, synth, file, Vec::new(alloc), 0, text, b"")?);
+    for (words, file, text) in cases {
+        assert!(rt; leaves(alloc, words, file, Vec::new(alloc), 0, text, b"")?);
     }
     assert!(rt; leaves_long(alloc, synth)?);
     Ok(())

@@ -9,7 +9,7 @@ ghost use Rattle.job_ends.specs.Shown.{shown};
 ghost use Rattle.node_jobs.specs.Comes.{beyond};
 ghost use Rattle.stackc_run.specs.Performed.{Performed};
 
-use bypass_jobs::synthesize;
+use bypass_jobs::{pack, synthesize};
 use file_jobs::{audit_report, check_stack};
 use job_ends::Ending;
 use job_text::{Job, job};
@@ -52,6 +52,7 @@ fn perform_job<S: Shelf, O: Sink, N: Links, C: Clock>(
     match job {
         Job::Check(file) => check_stack(alloc, *file, shelf, out),
         Job::Synth(file) => synthesize(alloc, *file, shelf, out),
+        Job::Pack(file) => pack(alloc, *file, shelf, out),
         Job::Audit(audit) => audit_report(alloc, audit.file, audit.law, shelf, out),
         Job::Replay(replay) => replay_script(alloc, replay, shelf, out),
         Job::Explain(explain) => explain_script(alloc, explain, shelf, out),

@@ -1,6 +1,5 @@
 -- What was written, operation by operation.
-use Rattle.std.proofs.Common.{◌≡◌, ℕ, false, List, [], ◌∷◌, ◌++◌, length, map, Option, Some, None, option_to_list, refl, sym, ap, ◌∙◌, append-nil}
-use Rattle.std.proofs.lemmas.List.{map-append}
+use Rattle.std.proofs.Common.{◌≡◌, ℕ, Bool, false, true, List, [], ◌∷◌, ◌++◌, length, map, Option, Some, None, option_to_list, refl, sym, append-nil}
 use Rattle.std.specs.Fmt.{decimal}
 use Rattle.std.specs.Option.{option_map_or}
 use Rattle.std.specs.Prelude.{codes, slice_index_or}
@@ -119,28 +118,31 @@ line_bare stack w (trace.output dir kind arguments message) =
     ++ listed (atoms_bare stack w.binds w arguments t ++ core_parts stack w.binds w message t) ++ header_parts stack w.binds w message t
 
 -- an operation does the same to what was written without lines, and puts its line behind those that there are
-pub writes_bare : (stack : List LayerTree) (w : mean.Written) (o : Operation) →
-    bare (writes false stack (bare w) o) ≡ bare (writes false stack w o)
-writes_bare stack w (trace.bind e) = refl
-writes_bare stack w (trace.note m) = λ t. record (bare w) { notes = w.notes ++ message_bare stack w.binds w m t ∷ [] }
-writes_bare stack w (trace.check e) = refl
-writes_bare stack w (trace.set p c e x) = refl
-writes_bare stack w (trace.set_square p c i j x) = refl
-writes_bare stack w (trace.push p c e row message) = refl
-writes_bare stack w (trace.take p c e) = refl
-writes_bare stack w (trace.output dir kind arguments message) = refl
+pub writes_bare : (noting : Bool) (stack : List LayerTree) (w : mean.Written) (o : Operation) →
+    bare (writes noting stack (bare w) o) ≡ bare (writes noting stack w o)
+writes_bare noting stack w (trace.bind e) = refl
+writes_bare false stack w (trace.note m) = λ t. record (bare w) { notes = w.notes ++ message_bare stack w.binds w m t ∷ [] }
+writes_bare true stack w (trace.note m) = refl
+writes_bare noting stack w (trace.check e) = refl
+writes_bare noting stack w (trace.set p c e x) = refl
+writes_bare noting stack w (trace.set_square p c i j x) = refl
+writes_bare noting stack w (trace.push p c e row message) = refl
+writes_bare noting stack w (trace.take p c e) = refl
+writes_bare noting stack w (trace.output dir kind arguments message) = refl
 
 with_one : (stack : List LayerTree) (w : mean.Written) (o : Operation) →
     w.lines ++ line_of stack w o ∷ [] ≡ w.lines ++ (line_of stack (bare w) o ∷ [])
 with_one stack w o = sym (λ t. w.lines ++ line_bare stack w o t ∷ [])
 
-pub writes_lines : (stack : List LayerTree) (w : mean.Written) (o : Operation) →
-    (writes false stack w o).lines ≡ w.lines ++ (writes false stack (bare w) o).lines
-writes_lines stack w (trace.bind e) = with_one stack w (trace.bind e)
-writes_lines stack w (trace.note m) = sym (append-nil w.lines)
-writes_lines stack w (trace.check e) = with_one stack w (trace.check e)
-writes_lines stack w (trace.set p c e x) = with_one stack w (trace.set p c e x)
-writes_lines stack w (trace.set_square p c i j x) = with_one stack w (trace.set_square p c i j x)
-writes_lines stack w (trace.push p c e row message) = with_one stack w (trace.push p c e row message)
-writes_lines stack w (trace.take p c e) = with_one stack w (trace.take p c e)
-writes_lines stack w (trace.output dir kind arguments message) = with_one stack w (trace.output dir kind arguments message)
+pub writes_lines : (noting : Bool) (stack : List LayerTree) (w : mean.Written) (o : Operation) →
+    (writes noting stack w o).lines ≡ w.lines ++ (writes noting stack (bare w) o).lines
+writes_lines noting stack w (trace.bind e) = with_one stack w (trace.bind e)
+writes_lines false stack w (trace.note m) = sym (append-nil w.lines)
+writes_lines true stack w (trace.note m) =
+    sym (λ t. w.lines ++ (codes "note " ++ (codes "m." ++ decimal (length w.notes)) ++ codes " = " ++ message_bare stack w.binds w m t) ∷ [])
+writes_lines noting stack w (trace.check e) = with_one stack w (trace.check e)
+writes_lines noting stack w (trace.set p c e x) = with_one stack w (trace.set p c e x)
+writes_lines noting stack w (trace.set_square p c i j x) = with_one stack w (trace.set_square p c i j x)
+writes_lines noting stack w (trace.push p c e row message) = with_one stack w (trace.push p c e row message)
+writes_lines noting stack w (trace.take p c e) = with_one stack w (trace.take p c e)
+writes_lines noting stack w (trace.output dir kind arguments message) = with_one stack w (trace.output dir kind arguments message)

@@ -6,3 +6,4 @@ pub mod Notes
 pub mod Planned
 pub mod Printed
 pub mod Read
+pub mod Traced

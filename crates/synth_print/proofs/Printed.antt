@@ -12,7 +12,7 @@ use Rattle.bypass_mean.specs.Lines.{a_fused, all_made, an_absent, end_line, ende
 use Rattle.layer_mean.specs.Tree.{LayerTree}
 use Rattle.stack_mean.specs.Plan.{Plan}
 use Rattle.synth_print.specs.Counts.{counts_of, no_counts, with_cases, with_made, with_second}
-use Rattle.synth_print.specs.Entries.{case_lines, counted_line, found_lines, heading, name_text, plan_text, plan_turn}
+use Rattle.synth_print.specs.Entries.{case_lines, counted_line, found_lines, heading, if_made, name_text, plan_text, plan_turn}
 use Rattle.synth_print.specs.Lines.{ended}
 use Rattle.synth_print.specs.declared.counts.Counts.{Counts}
 use Rattle.synth_print.specs.declared.name.Name.{Name}
@@ -22,48 +22,47 @@ use Rattle.trace_core.specs.Bypasses.{bypasses_tree, first_tree, second_tree}
 use Rattle.trace_core.specs.declared.bypass.Bypasses.{Bypasses}
 use Rattle.trace_core.specs.declared.bypass.Cases.{Cases}
 
-ended_both : (xs ys : List (List ℕ)) → ended (xs ++ ys) ≡ ended xs ++ ended ys
+pub ended_both : (xs ys : List (List ℕ)) → ended (xs ++ ys) ≡ ended xs ++ ended ys
 ended_both xs ys = map-append ended_line xs ys
 
--- what is made of an entry
-abbrev told : List LayerTree → Name → Option mean.Made → Option (Option mean.Made) → List (List ℕ)
-told stack name first second =
-    flat_map (made_lines stack (codes "entry " ++ name_text name)) (option_to_list first)
-    ++ flat_map (made_lines stack (codes "entry " ++ name_text name ++ codes " second")) (option_to_list (option_flatten second))
+-- what is put of an entry, given what is told of it in its first case and in its second
+module _ (f g : mean.Made → List (List ℕ)) where
+  abbrev told : Option mean.Made → Option (Option mean.Made) → List (List ℕ)
+  told first second = flat_map f (option_to_list first) ++ flat_map g (option_to_list (option_flatten second))
 
-told_is : (stack : List LayerTree) (name : Name) (first : mean.Made) (second : Option mean.Made) →
-    case_lines stack name first second ≡ ended (told stack name (Some first) (Some second))
-told_is stack name first None =
-    append-nil (ended (made_lines stack (heading name false) first))
-    ∙ ap ended (sym (append-nil (made_lines stack (heading name false) first ++ []) ∙ append-nil (made_lines stack (heading name false) first)))
-told_is stack name first (Some m) =
-    sym (ended_both (made_lines stack (heading name false) first) (made_lines stack (heading name true) m))
-    ∙ ap ended (sym (λ t. append-nil (made_lines stack (heading name false) first) t ++ append-nil (made_lines stack (heading name true) m) t))
+  told_is : (first : mean.Made) (second : Option mean.Made) → ended (f first) ++ if_made g second ≡ ended (told (Some first) (Some second))
+  told_is first None = append-nil (ended (f first)) ∙ ap ended (sym (append-nil (f first ++ []) ∙ append-nil (f first)))
+  told_is first (Some m) = sym (ended_both (f first) (g m)) ∙ ap ended (sym (λ t. append-nil (f first) t ++ append-nil (g m) t))
+
+  pub entry_told : (b : mean.Bypasses) (n : ℕ) (first : mean.Made) (second : Option mean.Made) →
+      slice_get b.made n ≡ Some first → slice_get b.second n ≡ Some second →
+      ended (f first) ++ if_made g second ≡ ended (told (slice_get b.made n) (slice_get b.second n))
+  entry_told b n first second is also =
+      told_is first second ∙ ap (λ o. ended (told o (Some second))) (sym is) ∙ ap (λ o. ended (told (slice_get b.made n) o)) (sym also)
+
+  pub entry_none : (b : mean.Bypasses) (n : ℕ) → slice_get b.made n ≡ None → slice_get b.second n ≡ None →
+      [] ≡ ended (told (slice_get b.made n) (slice_get b.second n))
+  entry_none b n is also = ap (λ o. ended (told o None)) (sym is) ∙ ap (λ o. ended (told (slice_get b.made n) o)) (sym also)
 
 entry_is : (stack : List LayerTree) (b : mean.Bypasses) (n : ℕ) (name : Name) (first : mean.Made) (second : Option mean.Made) →
     slice_get b.made n ≡ Some first → slice_get b.second n ≡ Some second →
     case_lines stack name first second ≡ ended (entry_lines stack b n (name_text name))
-entry_is stack b n name first second f s =
-    told_is stack name first second ∙ ap (λ o. ended (told stack name o (Some second))) (sym f)
-    ∙ ap (λ o. ended (told stack name (slice_get b.made n) o)) (sym s)
-
-entry_none : (stack : List LayerTree) (b : mean.Bypasses) (n : ℕ) (name : Name) →
-    slice_get b.made n ≡ None → slice_get b.second n ≡ None → [] ≡ ended (entry_lines stack b n (name_text name))
-entry_none stack b n name f s =
-    ap (λ o. ended (told stack name o None)) (sym f) ∙ ap (λ o. ended (told stack name (slice_get b.made n) o)) (sym s)
+entry_is stack b n name first second is also =
+    entry_told (made_lines stack (heading name false)) (made_lines stack (heading name true)) b n first second is also
 
 -- the entry of a plan is behind the two of the application
 later_two : {X : Type 0} (x y : X) (xs : List X) (k : ℕ) → slice_get (x ∷ y ∷ xs) (k + 2) ≡ slice_get xs k
 later_two x y xs k = let same : k + 2 ≡ suc (suc k) = omega arith in ap (slice_get (x ∷ y ∷ xs)) same
 
-plan_made : {Y : Type 0} (f : Cases → Y) (b : Bypasses) (k : ℕ) (o : Option Cases) → o ≡ slice_get b.plans.items k →
+pub plan_made : {Y : Type 0} (f : Cases → Y) (b : Bypasses) (k : ℕ) (o : Option Cases) → o ≡ slice_get b.plans.items k →
     slice_get (map f (b.cast ∷ b.send ∷ b.plans.items)) (k + 2) ≡ option_map f o
 plan_made f b k o is = later_two (f b.cast) (f b.send) (map f b.plans.items) k ∙ slice_get-map f b.plans.items k ∙ ap (option_map f) (sym is)
 
 found_is : (stack : List LayerTree) (b : Bypasses) (k : ℕ) (o : Option Cases) → o ≡ slice_get b.plans.items k →
     found_lines stack (names.Plan k) o ≡ ended (entry_lines stack (bypasses_tree b) (k + 2) (plan_name k))
-found_is stack b k None is = entry_none stack (bypasses_tree b) (k + 2) (names.Plan k) (plan_made first_tree b k None is)
-    (plan_made second_tree b k None is)
+found_is stack b k None is =
+    entry_none (made_lines stack (heading (names.Plan k) false)) (made_lines stack (heading (names.Plan k) true)) (bypasses_tree b) (k + 2)
+    (plan_made first_tree b k None is) (plan_made second_tree b k None is)
 found_is stack b k (Some c) is =
     entry_is stack (bypasses_tree b) (k + 2) (names.Plan k) (first_tree c) (second_tree c) (plan_made first_tree b k (Some c) is)
     (plan_made second_tree b k (Some c) is)

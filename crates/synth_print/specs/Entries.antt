@@ -28,9 +28,12 @@ heading name false = codes "entry " ++ name_text name
 heading name true = codes "entry " ++ name_text name ++ codes " second"
 
 -- What is made of an entry in its first case, and in its second where there is one.
+abbrev pub if_made : (mean.Made → List (List ℕ)) → Option mean.Made → List (List ℕ)
+if_made lines None = []
+if_made lines (Some made) = ended (lines made)
+
 abbrev pub second_lines : List LayerTree → Name → Option mean.Made → List (List ℕ)
-second_lines stack name None = []
-second_lines stack name (Some made) = ended (made_lines stack (heading name true) made)
+second_lines stack name second = if_made (made_lines stack (heading name true)) second
 
 abbrev pub case_lines : List LayerTree → Name → mean.Made → Option mean.Made → List (List ℕ)
 case_lines stack name first second = ended (made_lines stack (heading name false) first) ++ second_lines stack name second

@@ -5,6 +5,8 @@ pub mod Headers
 pub mod Lines
 pub mod Operations
 pub mod Parts
+pub mod Source
 pub mod Texts
+pub mod Traces
 pub mod Within
 pub mod Written

@@ -2,10 +2,16 @@
 use Rattle.std.specs.Prelude.{ℕ, Bool, nat_le, List}
 use Rattle.std.specs.List.{list_all}
 use Rattle.synth_print.specs.declared.written.Note.{Note}
+use Rattle.synth_print.specs.declared.written.Note.TheVariants as notes
+
+-- How many first rows a noted message may name.
+abbrev pub rows_named : Note → ℕ
+rows_named notes.Called = 0
+rows_named (notes.Spelled message rows) = rows
 
 -- Whether noted messages name none but so many first rows.
 abbrev pub is_within : ℕ → Note → Bool
-is_within n note = nat_le note.rows n
+is_within n note = nat_le (rows_named note) n
 
 abbrev pub are_within : ℕ → List Note → Bool
-are_within n notes = list_all (is_within n) notes
+are_within n noted = list_all (is_within n) noted

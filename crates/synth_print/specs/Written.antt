@@ -1,11 +1,13 @@
 -- What operations may name, as the code keeps it.
-use Rattle.std.specs.Prelude.{ℕ, List, [], ◌∷◌, ◌++◌, map, take}
+use Rattle.std.specs.Prelude.{ℕ, List, [], ◌∷◌, ◌++◌, codes, length, map, take}
+use Rattle.std.specs.Fmt.{decimal}
 use Rattle.std.specs.List.{fold}
 use Rattle.layer_mean.specs.Tree.{LayerTree}
 use Rattle.trace_mean.specs.Fuse.{form_at}
 use Rattle.bypass_mean.specs.Text as mean
 use Rattle.bypass_mean.specs.Text.{layer_of, message_text, numbers_called}
 use Rattle.synth_print.specs.declared.written.Note.{Note}
+use Rattle.synth_print.specs.declared.written.Note.TheVariants as notes
 use Rattle.synth_print.specs.declared.written.Spot.{Spot}
 use Rattle.synth_print.specs.declared.written.Written.{Written}
 use Rattle.trace_core.specs.View.{Term, message_in}
@@ -17,20 +19,21 @@ row_called stack spot = numbers_called (form_at (layer_of stack spot.place) spot
 abbrev pub rows_called : List LayerTree → List Spot → List (List (List ℕ))
 rows_called stack spots = map (row_called stack) spots
 
--- What the message of a note may name: the rows before it, and messages that are written so.
-abbrev pub before_note : List LayerTree → List Spot → List (List ℕ) → Note → mean.Written
-before_note stack spots texts note = record {
+-- What a noted message may name: so many first rows, and messages that are written so.
+abbrev pub before_note : List LayerTree → List Spot → List (List ℕ) → ℕ → mean.Written
+before_note stack spots texts many = record {
   binds = 0;
-  rows = rows_called stack (take note.rows spots);
+  rows = rows_called stack (take many spots);
   notes = texts;
   lines = [];
 }
 
--- How the message of a note is written.
+-- How a noted message is told behind those that are written so: by its number, or written out.
 abbrev pub note_text : List LayerTree → List Term → List Spot → List (List ℕ) → Note → List ℕ
-note_text stack ts spots texts note = message_text stack (before_note stack spots texts note) (message_in ts note.message)
+note_text stack ts spots texts notes.Called = codes "m." ++ decimal (length texts)
+note_text stack ts spots texts (notes.Spelled message rows) = message_text stack (before_note stack spots texts rows) (message_in ts message)
 
--- How the messages of notes are written, each of which may name those before it.
+-- How noted messages are told, each of which may name those before it.
 abbrev pub with_text : List LayerTree → List Term → List Spot → List (List ℕ) → Note → List (List ℕ)
 with_text stack ts spots texts note = texts ++ note_text stack ts spots texts note ∷ []
 

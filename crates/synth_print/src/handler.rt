@@ -1,36 +1,38 @@
-//! The lines of a guarded handler.
+//! The lines of guarded handlers and of traces.
 
-ghost use Rattle.std.specs.Prelude.{◌≡◌, ◌+◌, ◌^◌, ◌<◌, ◌≤◌, ◌++◌, ◌∷◌, [], OnOk, codes};
+ghost use Rattle.std.specs.Prelude.{◌≡◌, ◌+◌, ◌^◌, ◌<◌, ◌≤◌, ◌++◌, ◌∷◌, [], false, true, OnOk, Some, codes, length};
 ghost use Rattle.std.specs.Fmt.{decimal};
-ghost use Rattle.std.specs.List.{enumerate_from, flat_map};
+ghost use Rattle.std.specs.List.{enumerate_from, flat_map, slice_get};
 ghost use Rattle.bypass_mean.specs.Lines.{conjunct_line, ended_line, guarded_lines};
-ghost use Rattle.bypass_mean.specs.Text.{nothing_written, number_text};
+ghost use Rattle.bypass_mean.specs.Text.{nothing_written, number_text, operation_lines};
 ghost use Rattle.event_graph.specs.Answer.{stack_tree};
 ghost use Rattle.outside.specs.Lines.{Wrote};
 ghost use Rattle.outside.specs.Tells.{tells_of};
-ghost use Rattle.synth_print.specs.Lines.{all_done, conjunct_turn, done_lines, ended, follows, number_of, operation_of, value_turn};
-ghost use Rattle.synth_print.specs.Texts.{layers_in, written_in, written_of};
+ghost use Rattle.synth_print.specs.Lines.{all_done, conjunct_turn, done_lines, ended, follows, handler_in, numbers_of, operation_of, value_turn};
+ghost use Rattle.synth_print.specs.Source.{nodes_in, operations_in};
+ghost use Rattle.synth_print.specs.Texts.{layers_in, terms_in, written_in, written_of};
 ghost use Rattle.trace_core.specs.Links.{chains};
-ghost use Rattle.trace_core.specs.Operations.{IsPart};
-ghost use Rattle.trace_core.specs.Trees.{guarded_tree};
-ghost use Rattle.trace_core.specs.View.{terms};
+ghost use Rattle.trace_core.specs.Operations.{IsPart, are_parts};
+ghost use Rattle.trace_core.specs.Trees.{guarded_tree, trace_tree};
+ghost use Rattle.trace_core.specs.View.{number_in, terms};
 
 use crate::done::{build_operation, nothing};
 use crate::numbers::push_number;
 use crate::scope::Scope;
+use crate::source::{Nodes, Source};
 use crate::written::Written;
 use event_graph::Stack;
 use msg_core::Memory;
 use outside::{Sink, SinkError, put_line};
 use report_lines::Line;
 use std::alloc::Global;
-use trace_core::{Guarded, Operation};
+use trace_core::{Guarded, Operation, Trace};
 
 /// Builds the line of an entry value, before which nothing was written.
 fn build_value(line: &mut Line, scope: &Scope<'_>, number: u64, value: u32) -> Result<(), Memory>
     requires { written_in scope.now ≡ nothing_written }
     ensures { OnOk result (line.new ≡ line.old ++ ended_line (codes "let v." ++ decimal number ++ codes " = "
-        ++ number_text (layers_in scope.now) nothing_written (number_of scope.now.guarded.now value))) }
+        ++ number_text (layers_in scope.now) nothing_written (number_in (terms_in scope.now) value))) }
 {
     line.text(b"let v.")?;
     line.number(number)?;
@@ -48,7 +50,7 @@ fn write_value<O: Sink>(
     out: &mut O,
 ) -> Result<(), SinkError>
     requires { written_in scope.now ≡ nothing_written }
-    ensures { Wrote (value_turn (layers_in scope.now) (number, number_of scope.now.guarded.now value))
+    ensures { Wrote (value_turn (layers_in scope.now) (number, number_in (terms_in scope.now) value))
         (tells_of O.Sink out.old) (tells_of O.Sink out.new) result }
 {
     line.clear();
@@ -58,14 +60,27 @@ fn write_value<O: Sink>(
     }
 }
 
+/// A node of a list.
+fn node_of(nodes: &[u32], k: usize) -> u32
+    requires { k < length nodes.now }
+    ensures { slice_get nodes.now k ≡ Some result }
+{
+    nodes[k]
+}
+
 /// Puts the lines of the entry values.
-fn write_values<O: Sink>(line: &mut Line, scope: &Scope<'_>, out: &mut O) -> Result<(), SinkError>
+fn write_values<O: Sink>(
+    line: &mut Line,
+    scope: &Scope<'_>,
+    values: &[u32],
+    out: &mut O,
+) -> Result<(), SinkError>
     requires { written_in scope.now ≡ nothing_written }
-    ensures { Wrote (flat_map (value_turn (layers_in scope.now)) (enumerate_from 0 (guarded_tree scope.now.guarded.now).values))
+    ensures { Wrote (flat_map (value_turn (layers_in scope.now)) (enumerate_from 0 (numbers_of scope.now.source.now values.now)))
         (tells_of O.Sink out.old) (tells_of O.Sink out.new) result }
 {
-    for k in 0..scope.guarded.values.len() {
-        let value = scope.guarded.value(k);
+    for k in 0..values.len() {
+        let value = node_of(values, k);
         write_value(line, scope, k as u64, value, out)?;
     }
     Ok(())
@@ -75,7 +90,7 @@ fn write_values<O: Sink>(line: &mut Line, scope: &Scope<'_>, out: &mut O) -> Res
 fn build_conjunct(line: &mut Line, scope: &Scope<'_>, conjunct: u32) -> Result<(), Memory>
     requires { written_in scope.now ≡ nothing_written }
     ensures { OnOk result (line.new ≡ line.old
-        ++ ended_line (conjunct_line (layers_in scope.now) (number_of scope.now.guarded.now conjunct))) }
+        ++ ended_line (conjunct_line (layers_in scope.now) (number_in (terms_in scope.now) conjunct))) }
 {
     line.text(b"when ")?;
     push_number(line, scope, conjunct)?;
@@ -90,7 +105,7 @@ fn write_conjunct<O: Sink>(
     out: &mut O,
 ) -> Result<(), SinkError>
     requires { written_in scope.now ≡ nothing_written }
-    ensures { Wrote (ended_line (conjunct_line (layers_in scope.now) (number_of scope.now.guarded.now conjunct)) ∷ [])
+    ensures { Wrote (ended_line (conjunct_line (layers_in scope.now) (number_in (terms_in scope.now) conjunct)) ∷ [])
         (tells_of O.Sink out.old) (tells_of O.Sink out.new) result }
 {
     line.clear();
@@ -104,14 +119,15 @@ fn write_conjunct<O: Sink>(
 fn write_conjuncts<O: Sink>(
     line: &mut Line,
     scope: &Scope<'_>,
+    conjuncts: &[u32],
     out: &mut O,
 ) -> Result<(), SinkError>
     requires { written_in scope.now ≡ nothing_written }
-    ensures { Wrote (flat_map (conjunct_turn (layers_in scope.now)) (enumerate_from 0 (guarded_tree scope.now.guarded.now).conjuncts))
+    ensures { Wrote (flat_map (conjunct_turn (layers_in scope.now)) (enumerate_from 0 (numbers_of scope.now.source.now conjuncts.now)))
         (tells_of O.Sink out.old) (tells_of O.Sink out.new) result }
 {
-    for k in 0..scope.guarded.conjuncts.len() {
-        let conjunct = scope.guarded.conjunct(k);
+    for k in 0..conjuncts.len() {
+        let conjunct = node_of(conjuncts, k);
         write_conjunct(line, scope, conjunct, out)?;
     }
     Ok(())
@@ -123,23 +139,25 @@ fn write_guard<O: Sink>(
     line: &mut Line,
     stack: &Stack,
     written: &Written,
-    guarded: &Guarded,
+    source: &Source<'_>,
+    values: &[u32],
+    conjuncts: &[u32],
     out: &mut O,
 ) -> Result<(), SinkError>
-    requires { written_of stack.now guarded.now written.now ≡ nothing_written }
-    ensures { Wrote (flat_map (value_turn (stack_tree stack.now)) (enumerate_from 0 (guarded_tree guarded.now).values)
-        ++ flat_map (conjunct_turn (stack_tree stack.now)) (enumerate_from 0 (guarded_tree guarded.now).conjuncts))
+    requires { written_of stack.now source.now written.now ≡ nothing_written }
+    ensures { Wrote (flat_map (value_turn (stack_tree stack.now)) (enumerate_from 0 (numbers_of source.now values.now))
+        ++ flat_map (conjunct_turn (stack_tree stack.now)) (enumerate_from 0 (numbers_of source.now conjuncts.now)))
         (tells_of O.Sink out.old) (tells_of O.Sink out.new) result }
 {
     let scope = Scope {
         stack,
         written,
-        guarded,
+        source,
         rows: written.rows.len(),
         notes: written.notes.len(),
     };
-    write_values(line, &scope, out)?;
-    write_conjuncts(line, &scope, out)
+    write_values(line, &scope, values, out)?;
+    write_conjuncts(line, &scope, conjuncts, out)
 }
 
 /// Puts the line of an operation, if it has one.
@@ -147,24 +165,35 @@ fn write_operation<O: Sink>(
     line: &mut Line,
     stack: &Stack,
     written: &mut Written,
-    guarded: &Guarded,
+    source: &Source<'_>,
     operation: Operation,
     out: &mut O,
 ) -> Result<(), SinkError>
     requires few { written.old.binds + 1 < 2 ^ 64 }
-    requires parts { IsPart (terms guarded.now.nodes) (chains guarded.now.links) operation }
-    ensures wrote { Wrote (done_lines (stack_tree stack.now) (written_of stack.now guarded.now written.old) (operation_of guarded.now operation))
-        (tells_of O.Sink out.old) (tells_of O.Sink out.new) result }
-    ensures written { OnOk result (written_of stack.now guarded.now written.new
-        ≡ follows (stack_tree stack.now) (written_of stack.now guarded.now written.old) (operation_of guarded.now operation)) }
+    requires parts { IsPart (terms (nodes_in source.now.nodes)) (chains source.now.links.now) operation }
+    ensures wrote { Wrote (done_lines source.now.noting (stack_tree stack.now) (written_of stack.now source.now written.old)
+        (operation_of source.now operation)) (tells_of O.Sink out.old) (tells_of O.Sink out.new) result }
+    ensures written { OnOk result (written_of stack.now source.now written.new
+        ≡ follows source.now.noting (stack_tree stack.now) (written_of stack.now source.now written.old) (operation_of source.now operation)) }
     ensures few { OnOk result (written.new.binds ≤ written.old.binds + 1) }
 {
     line.clear();
-    match build_operation(line, stack, written, guarded, operation) {
+    match build_operation(line, stack, written, source, operation) {
         Ok(true) => put_line(line.slice(), out),
         Ok(false) => Ok(()),
         Err(Memory) => Err(SinkError::Memory),
     }
+}
+
+/// An operation.
+#[tactic(auto, using(trace_core::proofs::Parts::part_of))]
+fn operation_at(source: &Source<'_>, k: usize) -> Operation
+    requires there { k < length source.now.operations.now }
+    requires parts { are_parts (nodes_in source.now.nodes) source.now.links.now source.now.operations.now ≡ true }
+    ensures is { slice_get source.now.operations.now k ≡ Some result }
+    ensures parts { IsPart (terms (nodes_in source.now.nodes)) (chains source.now.links.now) result }
+{
+    source.operations[k]
 }
 
 /// Puts the lines of the operations, given what may be named before the first.
@@ -172,18 +201,39 @@ fn write_operations<O: Sink>(
     line: &mut Line,
     stack: &Stack,
     written: &mut Written,
-    guarded: &Guarded,
+    source: &Source<'_>,
     out: &mut O,
 ) -> Result<(), SinkError>
-    requires { written_of stack.now guarded.now written.old ≡ nothing_written }
-    ensures { Wrote (all_done (stack_tree stack.now) (guarded_tree guarded.now).operations)
+    requires nothing { written_of stack.now source.now written.old ≡ nothing_written }
+    requires parts { are_parts (nodes_in source.now.nodes) source.now.links.now source.now.operations.now ≡ true }
+    ensures { Wrote (all_done source.now.noting (stack_tree stack.now) (operations_in source.now))
         (tells_of O.Sink out.old) (tells_of O.Sink out.new) result }
 {
-    for k in 0..guarded.operations.len() {
-        let operation = guarded.operation(k);
-        write_operation(line, stack, written, guarded, operation, out)?;
+    for k in 0..source.operations.len() {
+        let operation = operation_at(source, k);
+        write_operation(line, stack, written, source, operation, out)?;
     }
     Ok(())
+}
+
+/// Puts the lines of entry values, conjuncts and operations.
+fn write_parts<O: Sink>(
+    alloc: Global,
+    line: &mut Line,
+    stack: &Stack,
+    source: &Source<'_>,
+    values: &[u32],
+    conjuncts: &[u32],
+    out: &mut O,
+) -> Result<(), SinkError>
+    requires parts { are_parts (nodes_in source.now.nodes) source.now.links.now source.now.operations.now ≡ true }
+    requires spelled { source.now.noting ≡ false }
+    ensures { Wrote (ended (guarded_lines (stack_tree stack.now) (handler_in source.now values.now conjuncts.now)))
+        (tells_of O.Sink out.old) (tells_of O.Sink out.new) result }
+{
+    let mut written = nothing(alloc, stack, source);
+    write_guard(line, stack, &written, source, values, conjuncts, out)?;
+    write_operations(line, stack, &mut written, source, out)
 }
 
 /// Puts the lines of a guarded handler: its entry values, its conjuncts, and its operations.
@@ -197,7 +247,50 @@ pub(crate) fn write_handler<O: Sink>(
     ensures { Wrote (ended (guarded_lines (stack_tree stack.now) (guarded_tree guarded.now)))
         (tells_of O.Sink out.old) (tells_of O.Sink out.new) result }
 {
-    let mut written = nothing(alloc, stack, guarded);
-    write_guard(line, stack, &written, guarded, out)?;
-    write_operations(line, stack, &mut written, guarded, out)
+    let source = Source {
+        nodes: Nodes::OfHandler(&guarded.nodes),
+        links: &guarded.links,
+        operations: guarded.operations.as_slice(),
+        noting: false,
+    };
+    let values = guarded.values.as_slice();
+    let conjuncts = guarded.conjuncts.as_slice();
+    write_parts(alloc, line, stack, &source, values, conjuncts, out)
+}
+
+/// Puts the lines of operations whose notes have lines of their own.
+fn write_noting<O: Sink>(
+    alloc: Global,
+    line: &mut Line,
+    stack: &Stack,
+    source: &Source<'_>,
+    out: &mut O,
+) -> Result<(), SinkError>
+    requires parts { are_parts (nodes_in source.now.nodes) source.now.links.now source.now.operations.now ≡ true }
+    requires noting { source.now.noting ≡ true }
+    ensures { Wrote (ended (operation_lines true (stack_tree stack.now) (operations_in source.now)))
+        (tells_of O.Sink out.old) (tells_of O.Sink out.new) result }
+{
+    let mut written = nothing(alloc, stack, source);
+    write_operations(line, stack, &mut written, source, out)
+}
+
+/// Puts the lines of a trace.
+pub(crate) fn write_trace<O: Sink>(
+    alloc: Global,
+    line: &mut Line,
+    stack: &Stack,
+    trace: &Trace,
+    out: &mut O,
+) -> Result<(), SinkError>
+    ensures { Wrote (ended (operation_lines true (stack_tree stack.now) (trace_tree trace.now)))
+        (tells_of O.Sink out.old) (tells_of O.Sink out.new) result }
+{
+    let source = Source {
+        nodes: Nodes::OfTrace(&trace.nodes),
+        links: &trace.links,
+        operations: trace.operations.as_slice(),
+        noting: true,
+    };
+    write_noting(alloc, line, stack, &source, out)
 }

@@ -108,7 +108,7 @@ fn push_rest(line: &mut Line, scope: &Scope<'_>, chain: u32) -> Result<(), Memor
     ensures { OnOk result (line.new ≡ line.old
         ++ more_links (layers_in scope.now) (written_in scope.now) (chain_in (chains_in scope.now) chain)) }
 {
-    match scope.guarded.links.front(chain) {
+    match scope.source.links.front(chain) {
         Some(link) => {
             line.text(b"/")?;
             push_link(line, scope, &link)?;
@@ -125,7 +125,7 @@ pub(crate) fn push_behind(line: &mut Line, scope: &Scope<'_>, chain: u32) -> Res
     ensures { OnOk result (line.new ≡ line.old
         ++ behind (layers_in scope.now) (written_in scope.now) (chain_in (chains_in scope.now) chain)) }
 {
-    match scope.guarded.links.front(chain) {
+    match scope.source.links.front(chain) {
         Some(link) => {
             line.text(b" ")?;
             push_link(line, scope, &link)?;

@@ -1,4 +1,4 @@
-//! The text of bypasses, put line by line.
+//! The text of bypasses, and their traces as a file, put line by line.
 #![tactic(auto)]
 
 mod atoms;
@@ -15,7 +15,10 @@ mod part;
 mod plans;
 mod print;
 mod scope;
+mod source;
+mod traces;
 mod words;
 mod written;
 
 pub use print::print_bypasses;
+pub use traces::print_traces;

@@ -6,6 +6,7 @@
 ghost use Rattle.std.specs.Prelude.{◌≡◌, ◌<◌, ◌++◌, ◌∷◌, [], OnOk, Some, codes, slice_get, slice_index_or, take};
 ghost use Rattle.bypass_mean.specs.Text.{cell_name, core_text, indexed, layer_of, listed, numbers_called};
 ghost use Rattle.synth_print.specs.Parts.{AreBelow, part_text, parts_text};
+ghost use Rattle.synth_print.specs.Source.{nodes_in};
 ghost use Rattle.synth_print.specs.Texts.{cell_at, layers_in, message_at, number_at, terms_in, written_in};
 ghost use Rattle.trace_core.specs.Arena.{IsBelow};
 ghost use Rattle.trace_core.specs.View.{core_tree, message_in, message_of, number_in, number_of, term_of, terms};
@@ -15,21 +16,22 @@ use crate::atoms::{push_atom, push_numbered};
 use crate::cells::{is_alone, push_called, push_cell_name};
 use crate::part::Part;
 use crate::scope::Scope;
+use crate::source::Nodes;
 use crate::words::{function_opening, operator_between};
 use crate::written::{Note, Spot};
 use msg_core::Memory;
 use report_lines::Line;
-use trace_core::{Atom, Core, Guarded, Node};
+use trace_core::{Atom, Core, Node};
 
 /// The node of a number; where there is none, one that is read alike.
 #[tactic(auto, using(crate::proofs::Read::no_number, crate::proofs::Read::no_message))]
-fn node_at(guarded: &Guarded, number: u32) -> Node
+fn node_at(nodes: &Nodes<'_>, number: u32) -> Node
     ensures before { IsBelow number result }
-    ensures number { number_in (terms guarded.now.nodes) number ≡ number_of (Some (term_of (terms guarded.now.nodes) result)) }
-    ensures message { message_in (terms guarded.now.nodes) number ≡ message_of (Some (term_of (terms guarded.now.nodes) result)) }
+    ensures number { number_in (terms (nodes_in nodes.now)) number ≡ number_of (Some (term_of (terms (nodes_in nodes.now)) result)) }
+    ensures message { message_in (terms (nodes_in nodes.now)) number ≡ message_of (Some (term_of (terms (nodes_in nodes.now)) result)) }
 {
-    if number < guarded.nodes.count() {
-        guarded.nodes.node(number)
+    if number < nodes.count() {
+        nodes.node(number)
     } else {
         Node::Atom(Atom::Number(0))
     }
@@ -53,7 +55,7 @@ fn note_at(scope: &Scope<'_>, number: u32) -> Option<Note>
 pub(crate) fn push_number(line: &mut Line, scope: &Scope<'_>, number: u32) -> Result<(), Memory>
     ensures { OnOk result (line.new ≡ line.old ++ number_at scope.now number) }
 {
-    match node_at(scope.guarded, number) {
+    match node_at(&scope.source.nodes, number) {
         Node::Atom(atom) => push_atom(line, scope, atom),
         Node::Me => line.text(b"me"),
         Node::Count => line.text(b"n"),
@@ -134,7 +136,7 @@ pub(crate) fn push_number(line: &mut Line, scope: &Scope<'_>, number: u32) -> Re
 pub(crate) fn push_message(line: &mut Line, scope: &Scope<'_>, message: u32) -> Result<(), Memory>
     ensures { OnOk result (line.new ≡ line.old ++ message_at scope.now message) }
 {
-    match node_at(scope.guarded, message) {
+    match node_at(&scope.source.nodes, message) {
         Node::Core(core) => push_core(line, scope, core),
         Node::Held {
             place,
@@ -202,24 +204,27 @@ pub(crate) fn push_core(line: &mut Line, scope: &Scope<'_>, core: Core) -> Resul
     }
 }
 
-/// A noted message, written out: what it names was there before it.
+/// A noted message, called by its number or written out: what it names was there before it.
 #[cycle(texts)]
-#[tactic(auto, using(crate::proofs::Notes::note_read, crate::proofs::Notes::no_note))]
+#[tactic(auto, using(crate::proofs::Notes::note_read, crate::proofs::Notes::note_called, crate::proofs::Notes::no_note))]
 fn push_note(line: &mut Line, scope: &Scope<'_>, number: u32) -> Result<(), Memory>
     ensures { OnOk result (line.new ≡ line.old ++ slice_index_or (written_in scope.now).notes number []) }
 {
-    match note_at(scope, number) {
-        Some(note) => {
+    let Some(note) = note_at(scope, number) else {
+        return Ok(());
+    };
+    match note {
+        Note::Called => push_numbered(line, b"m.", number),
+        Note::Spelled { message, rows } => {
             let before = Scope {
                 stack: scope.stack,
                 written: scope.written,
-                guarded: scope.guarded,
-                rows: note.rows,
+                source: scope.source,
+                rows,
                 notes: number as usize,
             };
-            push_message(line, &before, note.message)
+            push_message(line, &before, message)
         }
-        None => Ok(()),
     }
 }
 

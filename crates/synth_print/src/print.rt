@@ -61,7 +61,7 @@ fn write_found<O: Sink>(
 }
 
 /// What is made of the entry of a plan, if there is any.
-fn cases_at(bypasses: &Bypasses, number: usize) -> Option<&Cases>
+pub(crate) fn cases_at(bypasses: &Bypasses, number: usize) -> Option<&Cases>
     ensures { cases_shown result ≡ slice_get bypasses.now.plans.items number }
 {
     bypasses.plans.get(number)

@@ -1,4 +1,4 @@
-//! What the operations of a handler may name: bound numbers, taken rows and noted messages.
+//! What operations may name: bound numbers, taken rows and noted messages.
 
 ghost use Rattle.std.specs.Prelude.{◌≡◌, true, length};
 ghost use Rattle.synth_print.specs.Within.{are_within};
@@ -10,11 +10,12 @@ pub(crate) struct Spot {
     pub cell: u8,
 }
 
-/// A noted message: its node, and how many rows were taken before it. It names these rows and the messages noted before it.
+/// How a noted message is told: by the number of its note; or written out, from its node and from how many rows were taken before it, since it
+/// names these and the messages noted before it.
 #[derive(Clone, Copy)]
-pub(crate) struct Note {
-    pub message: u32,
-    pub rows: usize,
+pub(crate) enum Note {
+    Called,
+    Spelled { message: u32, rows: usize },
 }
 
 /// How many numbers were bound, which rows were taken and which messages noted by the operations so far.

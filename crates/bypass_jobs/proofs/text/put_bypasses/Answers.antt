@@ -6,5 +6,5 @@ use Rattle.bypass_jobs.proofs.text.put_bypasses.Goals as goal
 
 pub returns-in-Ok : goal.returns-in-Ok
 returns-in-Ok g c = subst
-    (λ lines. Wrote lines (tells_of g.O.Sink c.args.out.now) (tells_of g.O.Sink c.print_bypasses-wrote.new.out) c.print_bypasses-wrote.result)
-    (printed_is _ _ _ c.requires.plans c.in-Ok.ensures.made) c.print_bypasses-wrote.ensures
+    (λ lines. Wrote lines (tells_of g.O.Sink c.args.out.now) (tells_of g.O.Sink c.put-wrote.new.out) c.put-wrote.result)
+    (printed_is c.args.what _ _ _ c.requires.plans c.in-Ok.ensures.made) c.put-wrote.ensures

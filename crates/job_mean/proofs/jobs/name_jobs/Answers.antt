@@ -11,6 +11,10 @@ pub returns-clause-synthesizes : goal.returns-clause-synthesizes
 unfolding clap_on_literals
 returns-clause-synthesizes c = refl
 
+pub returns-clause-packs : goal.returns-clause-packs
+unfolding clap_on_literals
+returns-clause-packs c = refl
+
 pub returns-clause-replays : goal.returns-clause-replays
 unfolding clap_on_literals
 returns-clause-replays c = refl

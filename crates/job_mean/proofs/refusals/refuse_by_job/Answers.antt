@@ -15,6 +15,10 @@ pub returns-clause-script_for_check : goal.returns-clause-script_for_check
 unfolding clap_on_literals
 returns-clause-script_for_check c = refl
 
+pub returns-clause-script_for_pack : goal.returns-clause-script_for_pack
+unfolding clap_on_literals
+returns-clause-script_for_pack c = refl
+
 pub returns-clause-mode_for_check : goal.returns-clause-mode_for_check
 unfolding clap_on_literals
 returns-clause-mode_for_check c = refl

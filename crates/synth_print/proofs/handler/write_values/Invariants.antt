@@ -2,13 +2,12 @@ use Rattle.std.proofs.Common.{take}
 use Rattle.std.specs.List.{enumerate_from, flat_map}
 use Rattle.outside.specs.Lines.{Gains}
 use Rattle.outside.specs.Tells.{tells_of}
-use Rattle.synth_print.specs.Lines.{value_turn}
+use Rattle.synth_print.specs.Lines.{value_turn, numbers_of}
 use Rattle.synth_print.specs.Texts.{layers_in}
 use Rattle.synth_print.proofs.handler.write_values.Given as goal
-use Rattle.trace_core.specs.Trees.{guarded_tree}
 
 abbrev pub invariant-loop-k : goal.invariant-loop-k
 invariant-loop-k g l = Gains
     (tells_of g.O.Sink l.initial.out)
     (tells_of g.O.Sink l.out)
-    (flat_map (value_turn (layers_in l.scope)) (take l.k (enumerate_from 0 (guarded_tree l.scope.guarded.now).values)))
+    (flat_map (value_turn (layers_in l.scope)) (take l.k (enumerate_from 0 (numbers_of l.scope.source.now l.values))))

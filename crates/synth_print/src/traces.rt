@@ -1,0 +1,258 @@
+//! The traces of bypasses as a file.
+
+ghost use Rattle.std.specs.Prelude.{◌≡◌, ◌++◌, ◌∷◌, [], true, OnOk, codes, map, option_map};
+ghost use Rattle.std.specs.List.{enumerate_from, flat_map};
+ghost use Rattle.bypass_mean.specs.Lines.{ended_line, file_lines, trace_lines};
+ghost use Rattle.bypass_mean.specs.Text.{operation_lines};
+ghost use Rattle.event_graph.specs.Answer.{stack_tree};
+ghost use Rattle.outside.specs.Lines.{Wrote};
+ghost use Rattle.outside.specs.Tells.{tells_of};
+ghost use Rattle.stack_shapes.specs.Lists.{plan_tree};
+ghost use Rattle.stack_shapes.specs.Trees.{plans_tree};
+ghost use Rattle.synth_print.specs.Entries.{cases_shown};
+ghost use Rattle.synth_print.specs.Lines.{ended};
+ghost use Rattle.synth_print.specs.Traces.{all_traces, case_traces, found_traces, plan_traces, plan_turn, second_traces, trace_heading};
+ghost use Rattle.synth_print.specs.declared.name.Name.TheVariants as names;
+ghost use Rattle.trace_core.specs.Bypasses.{bypasses_tree, first_tree, made_tree, second_tree};
+ghost use Rattle.trace_core.specs.Trees.{trace_tree};
+
+use crate::entries::push_name;
+use crate::handler::write_trace;
+use crate::name::Name;
+use crate::print::cases_at;
+use event_graph::Stack;
+use msg_core::Memory;
+use outside::{Sink, SinkError, put_line};
+use report_lines::Line;
+use stack_shapes::{Plan, Plans};
+use std::alloc::Global;
+use trace_core::{Bypasses, Cases, Made, Trace};
+
+/// Builds the line before the trace of a case of an entry.
+fn build_heading(line: &mut Line, name: Name, second: bool) -> Result<(), Memory>
+    ensures { OnOk result (line.new ≡ line.old ++ ended_line (trace_heading name second)) }
+{
+    line.text(b"entry ")?;
+    push_name(line, name)?;
+    if second {
+        line.text(b" case 2\n")
+    } else {
+        line.text(b" case 1\n")
+    }
+}
+
+/// Puts the line before the trace of a case of an entry.
+fn write_heading<O: Sink>(
+    line: &mut Line,
+    name: Name,
+    second: bool,
+    out: &mut O,
+) -> Result<(), SinkError>
+    ensures { Wrote (ended_line (trace_heading name second) ∷ []) (tells_of O.Sink out.old) (tells_of O.Sink out.new) result }
+{
+    line.clear();
+    match build_heading(line, name, second) {
+        Ok(()) => put_line(line.slice(), out),
+        Err(Memory) => Err(SinkError::Memory),
+    }
+}
+
+/// Puts the trace of a case of an entry behind its heading.
+fn write_headed<O: Sink>(
+    alloc: Global,
+    line: &mut Line,
+    stack: &Stack,
+    name: Name,
+    second: bool,
+    trace: &Trace,
+    out: &mut O,
+) -> Result<(), SinkError>
+    ensures { Wrote (ended_line (trace_heading name second) ∷ ended (operation_lines true (stack_tree stack.now) (trace_tree trace.now)))
+        (tells_of O.Sink out.old) (tells_of O.Sink out.new) result }
+{
+    write_heading(line, name, second, out)?;
+    write_trace(alloc, line, stack, trace, out)
+}
+
+/// Puts the trace of an entry in a case, if there is one.
+fn write_made<O: Sink>(
+    alloc: Global,
+    line: &mut Line,
+    stack: &Stack,
+    name: Name,
+    second: bool,
+    made: &Made,
+    out: &mut O,
+) -> Result<(), SinkError>
+    ensures { Wrote (ended (trace_lines (stack_tree stack.now) (trace_heading name second) (made_tree made.now)))
+        (tells_of O.Sink out.old) (tells_of O.Sink out.new) result }
+{
+    match made {
+        Made::Fused(bypass) => write_headed(alloc, line, stack, name, second, &bypass.trace, out),
+        Made::Absent(_) => Ok(()),
+    }
+}
+
+/// Puts the trace of an entry in its second case, if there is one.
+fn write_second<O: Sink>(
+    alloc: Global,
+    line: &mut Line,
+    stack: &Stack,
+    name: Name,
+    made: &Option<Made>,
+    out: &mut O,
+) -> Result<(), SinkError>
+    ensures { Wrote (second_traces (stack_tree stack.now) name (option_map made_tree made.now))
+        (tells_of O.Sink out.old) (tells_of O.Sink out.new) result }
+{
+    match made {
+        Some(made) => write_made(alloc, line, stack, name, true, made, out),
+        None => Ok(()),
+    }
+}
+
+/// Puts the traces of an entry: in its first case, and in its second.
+fn write_cases<O: Sink>(
+    alloc: Global,
+    line: &mut Line,
+    stack: &Stack,
+    name: Name,
+    cases: &Cases,
+    out: &mut O,
+) -> Result<(), SinkError>
+    ensures { Wrote (case_traces (stack_tree stack.now) name (first_tree cases.now) (second_tree cases.now))
+        (tells_of O.Sink out.old) (tells_of O.Sink out.new) result }
+{
+    write_made(alloc, line, stack, name, false, &cases.first, out)?;
+    write_second(alloc, line, stack, name, &cases.second, out)
+}
+
+/// Puts the traces of an entry, if anything is made of it.
+fn write_found<O: Sink>(
+    alloc: Global,
+    line: &mut Line,
+    stack: &Stack,
+    name: Name,
+    cases: Option<&Cases>,
+    out: &mut O,
+) -> Result<(), SinkError>
+    ensures { Wrote (found_traces (stack_tree stack.now) name (cases_shown cases.entry))
+        (tells_of O.Sink out.old) (tells_of O.Sink out.new) result }
+{
+    match cases {
+        Some(cases) => write_cases(alloc, line, stack, name, cases, out),
+        None => Ok(()),
+    }
+}
+
+/// Puts the traces of the entry of a plan.
+fn write_planned<O: Sink>(
+    alloc: Global,
+    line: &mut Line,
+    stack: &Stack,
+    bypasses: &Bypasses,
+    number: usize,
+    out: &mut O,
+) -> Result<(), SinkError>
+    ensures { Wrote (plan_traces (stack_tree stack.now) (bypasses_tree bypasses.now) number)
+        (tells_of O.Sink out.old) (tells_of O.Sink out.new) result }
+{
+    let name = Name::Plan(number as u64);
+    write_found(alloc, line, stack, name, cases_at(bypasses, number), out)
+}
+
+/// Puts the traces of the entries of plans.
+fn write_plans<O: Sink>(
+    alloc: Global,
+    line: &mut Line,
+    stack: &Stack,
+    plans: &[Plan],
+    bypasses: &Bypasses,
+    out: &mut O,
+) -> Result<(), SinkError>
+    ensures { Wrote (flat_map (plan_turn (stack_tree stack.now) (bypasses_tree bypasses.now)) (enumerate_from 0 (map plan_tree plans.now)))
+        (tells_of O.Sink out.old) (tells_of O.Sink out.new) result }
+{
+    for k in 0..plans.len() {
+        write_planned(alloc, line, stack, bypasses, k, out)?;
+    }
+    Ok(())
+}
+
+/// Puts the traces of the application's own entries.
+fn write_own<O: Sink>(
+    alloc: Global,
+    line: &mut Line,
+    stack: &Stack,
+    bypasses: &Bypasses,
+    out: &mut O,
+) -> Result<(), SinkError>
+    ensures { Wrote (case_traces (stack_tree stack.now) names.Cast (first_tree bypasses.now.cast) (second_tree bypasses.now.cast)
+        ++ case_traces (stack_tree stack.now) names.Send (first_tree bypasses.now.send) (second_tree bypasses.now.send))
+        (tells_of O.Sink out.old) (tells_of O.Sink out.new) result }
+{
+    write_cases(alloc, line, stack, Name::Cast, &bypasses.cast, out)?;
+    write_cases(alloc, line, stack, Name::Send, &bypasses.send, out)
+}
+
+/// Puts the traces of all entries.
+fn write_entries<O: Sink>(
+    alloc: Global,
+    line: &mut Line,
+    stack: &Stack,
+    plans: &[Plan],
+    bypasses: &Bypasses,
+    out: &mut O,
+) -> Result<(), SinkError>
+    ensures { Wrote (all_traces (stack_tree stack.now) (map plan_tree plans.now) bypasses.now)
+        (tells_of O.Sink out.old) (tells_of O.Sink out.new) result }
+{
+    write_own(alloc, line, stack, bypasses, out)?;
+    write_plans(alloc, line, stack, plans, bypasses, out)
+}
+
+/// Puts the traces of all entries, and the last line.
+fn write_rest<O: Sink>(
+    alloc: Global,
+    stack: &Stack,
+    plans: &[Plan],
+    bypasses: &Bypasses,
+    out: &mut O,
+) -> Result<(), SinkError>
+    ensures { Wrote (all_traces (stack_tree stack.now) (map plan_tree plans.now) bypasses.now ++ ended_line (codes "end") ∷ [])
+        (tells_of O.Sink out.old) (tells_of O.Sink out.new) result }
+{
+    let mut line = Line::new(alloc);
+    write_entries(alloc, &mut line, stack, plans, bypasses, out)?;
+    put_line(b"end\n", out)
+}
+
+/// Puts all lines.
+fn write_file<O: Sink>(
+    alloc: Global,
+    stack: &Stack,
+    plans: &[Plan],
+    bypasses: &Bypasses,
+    out: &mut O,
+) -> Result<(), SinkError>
+    ensures { Wrote (map ended_line (file_lines (stack_tree stack.now) (map plan_tree plans.now) (bypasses_tree bypasses.now)))
+        (tells_of O.Sink out.old) (tells_of O.Sink out.new) result }
+{
+    put_line(b"bypasses 1\n", out)?;
+    write_rest(alloc, stack, plans, bypasses, out)
+}
+
+/// Puts the traces of a stack's bypasses as a file, a line a put: each trace that was made behind its entry and case, with a line for each note.
+/// No more than one line is held at a time.
+pub fn print_traces<O: Sink>(
+    alloc: Global,
+    stack: &Stack,
+    plans: &Plans,
+    bypasses: &Bypasses,
+    out: &mut O,
+) -> Result<(), SinkError>
+    ensures { Wrote (map ended_line (file_lines (stack_tree stack.now) (plans_tree plans.now) (bypasses_tree bypasses.now)))
+        (tells_of O.Sink out.old) (tells_of O.Sink out.new) result }
+{
+    write_file(alloc, stack, plans.slice(), bypasses, out)
+}
