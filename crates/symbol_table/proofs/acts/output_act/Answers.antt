@@ -1,0 +1,9 @@
+use Rattle.symbol_table.proofs.Acting.{output_made}
+use Rattle.symbol_table.proofs.Growing.{knows_grown}
+use Rattle.symbol_table.proofs.acts.output_act.Goals as goal
+
+pub sending-requires-clause-knows : goal.sending-requires-clause-knows
+sending-requires-clause-knows c = knows_grown c.in_ok-numbers.ensures.grows c.requires.knows
+
+pub returns : goal.returns
+returns c = output_made c.args.dir c.args.kind c.in_ok-numbers.ensures c.in_ok-message.ensures

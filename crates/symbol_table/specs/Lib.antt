@@ -1,0 +1,9 @@
+pub mod Counts
+pub mod Set
+pub mod Meant
+pub mod Table
+pub mod Leaves
+pub mod Parts
+pub mod Walk
+pub mod Steps
+pub mod Differ

@@ -1,0 +1,15 @@
+//! How far a trace was gone along, and what is known there.
+
+use crate::counts::Counts;
+use trace_core::Trace;
+
+/// A trace behind so many operations: the values of what was bound and noted, how many rows were taken, and how often cells were written.
+#[derive(Drop)]
+pub(crate) struct Walk<'a> {
+    pub trace: &'a Trace,
+    pub done: usize,
+    pub numbers: Vec<u32>,
+    pub messages: Vec<u32>,
+    pub takes: u32,
+    pub counts: Counts,
+}

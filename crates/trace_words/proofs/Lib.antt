@@ -1,0 +1,4 @@
+mod Fronts
+mod Runs
+mod Signs
+mod Places

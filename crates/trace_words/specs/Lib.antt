@@ -1,0 +1,4 @@
+pub mod Reading
+pub mod Names
+pub mod Words
+pub mod View

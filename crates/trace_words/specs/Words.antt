@@ -1,0 +1,27 @@
+-- Operators by their words and symbols.
+use Rattle.std.specs.Prelude.{ℕ, List, [], ◌∷◌, bytes_eq, codes, Option, Some, None, if◌then◌else◌}
+use Rattle.layer_ast.specs.declared.syntax.Operator.{Operator}
+use Rattle.layer_ast.specs.declared.syntax.Operator.TheVariants.{Add, Subtract, Multiply, Equal, NotEqual, Less, LessOrEqual, Greater, GreaterOrEqual, And, Or, BitAnd, BitOr, BitXor}
+
+-- What stands beside a word in a table.
+abbrev pub by_word : {X : Type 0} → List (List ℕ × X) → List ℕ → Option X
+by_word [] word = None
+by_word (entry ∷ table) word = if bytes_eq word entry.0 then Some entry.1 else by_word table word
+
+abbrev pub operator_words : List (List ℕ × Operator)
+operator_words =
+    (codes "+", Add)
+    ∷ (codes "-", Subtract)
+    ∷ (codes "*", Multiply)
+    ∷ (codes "==", Equal)
+    ∷ (codes "!=", NotEqual)
+    ∷ (codes "<", Less)
+    ∷ (codes "<=", LessOrEqual)
+    ∷ (codes ">", Greater)
+    ∷ (codes ">=", GreaterOrEqual)
+    ∷ (codes "and", And)
+    ∷ (codes "or", Or)
+    ∷ (codes "&", BitAnd)
+    ∷ (codes "|", BitOr)
+    ∷ (codes "^", BitXor)
+    ∷ []

@@ -1,0 +1,39 @@
+//! Names: words with points between.
+
+ghost use Rattle.std.specs.Prelude.{◌≡◌, ◌==◌};
+ghost use Rattle.std.specs.List.{slice_split};
+ghost use Rattle.trace_words.specs.Names.{words_in};
+
+use script_text::cut;
+
+/// The words of a name, of which nothing has more than three.
+#[derive(Clone, Copy)]
+pub enum Name<'a> {
+    One(&'a [u8]),
+    Two(&'a [u8], &'a [u8]),
+    Three(&'a [u8], &'a [u8], &'a [u8]),
+    /// The first four words, and what stands behind them if anything does.
+    More(&'a [u8], &'a [u8], &'a [u8], &'a [u8], Option<&'a [u8]>),
+}
+
+impl<'a> Name<'a> {
+    /// The words of a text.
+    pub(crate) fn of(text: &'a [u8]) -> Name<'a>
+        ensures { words_in result ≡ slice_split (λ byte. byte == 46) text.now }
+    {
+        let (first, behind) = cut(b'.', text);
+        let Some(behind) = behind else {
+            return Name::One(first);
+        };
+        let (second, behind) = cut(b'.', behind);
+        let Some(behind) = behind else {
+            return Name::Two(first, second);
+        };
+        let (third, behind) = cut(b'.', behind);
+        let Some(behind) = behind else {
+            return Name::Three(first, second, third);
+        };
+        let (fourth, behind) = cut(b'.', behind);
+        Name::More(first, second, third, fourth, behind)
+    }
+}
