@@ -3,8 +3,6 @@
 
 mod error;
 mod judgement;
-#[cfg(test)]
-mod tests;
 
 pub use error::FileError;
 pub use judgement::{judge, read_file};

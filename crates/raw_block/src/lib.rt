@@ -3,8 +3,6 @@
 
 mod block;
 mod memory;
-#[cfg(test)]
-mod tests;
 
 pub use block::Block;
 // A crate can name a block in a contract only if the types of its fields are exported.

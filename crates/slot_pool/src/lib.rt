@@ -5,8 +5,6 @@ mod laws;
 mod place;
 mod pool;
 mod row;
-#[cfg(test)]
-mod tests;
 
 // A crate can name a pool in a contract only if the types of its fields are exported.
 pub use laws::{

@@ -1,11 +1,22 @@
-//! What no clause says of accepted stacks, their shapes, plans and packets: that calls go well where there is memory, on stacks that are judged from their texts.
+//! What no clause says of blocks and pools, tokens, handlers that are looked up, stack files, accepted stacks, their shapes, plans and packets: that calls go well where there is memory, on stacks that are judged from
+//! their texts, and a table over all causes for which these are refused.
 #![tactic(auto)]
 
 #[cfg(test)]
+mod blocks;
+#[cfg(test)]
+mod causes;
+#[cfg(test)]
 mod datagrams;
+#[cfg(test)]
+mod handlers;
 #[cfg(test)]
 mod packets;
 #[cfg(test)]
+mod pools;
+#[cfg(test)]
 mod shapes;
+#[cfg(test)]
+mod tokens;
 #[cfg(test)]
 mod writing;

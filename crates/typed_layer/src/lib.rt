@@ -5,8 +5,6 @@
 
 mod handlers;
 mod operators;
-#[cfg(test)]
-mod tests;
 mod tree;
 mod typed;
 

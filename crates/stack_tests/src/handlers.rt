@@ -1,9 +1,11 @@
+//! Handlers that are looked up.
+
 ghost use Rattle.std.specs.Prelude.{◌<◌};
 ghost use Rattle.typed_layer.specs.Table.{IsTagged};
 
-use crate::{Block, Expected, Handler, Handlers};
 use layer_ast::{Dir, Kind};
 use std::alloc::{AllocError, Global};
+use typed_layer::{Block, Expected, Handler, Handlers};
 
 /// A handler that is told from others by how many numbers it has.
 fn handler(alloc: Global, direction: Dir, kind: Kind, tag: u8, numbers: u8) -> Handler

@@ -1,4 +1,6 @@
-use crate::Block;
+//! Blocks of memory.
+
+use raw_block::Block;
 use std::alloc::Global;
 use std::test::Fail;
 

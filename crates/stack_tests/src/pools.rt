@@ -1,7 +1,9 @@
+//! Pools of bodies.
+
 ghost use Rattle.std.specs.Prelude.{◌≡◌, ◌<◌, ◌≤◌, length};
 ghost use Rattle.slot_pool.specs.Held.{count_at, IsFull, Puts};
 
-use crate::{LONGEST, Pool, Slot};
+use slot_pool::{LONGEST, Pool, Slot};
 use std::process::Abort;
 use std::test::Fail;
 
