@@ -1,0 +1,84 @@
+//! What a text has at its front.
+ghost use Rattle.std.specs.Prelude.{◌≡◌, ◌≤◌, length, nat_eq};
+ghost use Rattle.std.specs.List.{prefix_len};
+ghost use Rattle.layer_ast.specs.Spelling as spelling;
+ghost use Rattle.format_mean.specs.Pieces as spec;
+
+/// How many bytes of a comment, of a word or number, or of a sign stand behind its first.
+pub(crate) fn length_behind(first: u8, behind: &[u8]) -> usize
+    ensures count { result ≡ spec.length_behind first behind.now }
+    ensures within { result ≤ length behind.now }
+{
+    if first == b'#' {
+        comment_length(behind)
+    } else if is_word_byte(first) {
+        word_length(behind)
+    } else {
+        sign_length(first, behind)
+    }
+}
+
+/// How many bytes there are to the last one of the line that is no blank.
+fn comment_length(bytes: &[u8]) -> usize
+    ensures count { result ≡ spec.comment_length bytes.now }
+    ensures within { result ≤ length bytes.now }
+{
+    let mut length = 0;
+    let mut seen = 0;
+    let mut rest = bytes;
+    while let Some((first, behind)) = rest.split_first() {
+        if is_feed(*first) {
+            return length;
+        }
+        seen += 1;
+        rest = behind;
+        if is_blank(*first) {
+            continue;
+        }
+        length = seen;
+    }
+    length
+}
+
+/// How many bytes that go on a word are at the front.
+fn word_length(bytes: &[u8]) -> usize
+    ensures count { result ≡ prefix_len spelling.is_word_byte bytes.now }
+    ensures within { result ≤ length bytes.now }
+{
+    bytes.iter().take_while(|byte| is_word_byte(**byte)).count()
+}
+
+/// How many bytes of a sign stand behind its first: one, where an equals sign makes one sign with it.
+fn sign_length(first: u8, behind: &[u8]) -> usize
+    ensures count { result ≡ spec.sign_length first behind.now }
+    ensures within { result ≤ length behind.now }
+{
+    match behind.split_first() {
+        Some((second, _)) if doubles(first) && *second == b'=' => 1,
+        _ => 0,
+    }
+}
+
+fn doubles(byte: u8) -> bool
+    ensures { result ≡ spec.doubles byte }
+{
+    matches!(byte, b'=' | b'!' | b'<' | b'>')
+}
+
+pub(crate) fn is_feed(byte: u8) -> bool
+    ensures { result ≡ nat_eq byte 10 }
+{
+    byte == b'\n'
+}
+
+pub(crate) fn is_blank(byte: u8) -> bool
+    ensures { result ≡ spelling.is_blank byte }
+{
+    matches!(byte, b' ' | b'\t' | b'\r' | b'\n')
+}
+
+pub(crate) fn is_word_byte(byte: u8) -> bool
+    ensures { result ≡ spelling.is_word_byte byte }
+{
+    byte.is_ascii_alphanumeric() || byte == b'_'
+}

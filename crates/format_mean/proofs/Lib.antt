@@ -1,0 +1,5 @@
+pub mod Cutting
+pub mod Firsts
+pub mod Rest
+pub mod Round
+pub mod Whole

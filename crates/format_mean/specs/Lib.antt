@@ -1,0 +1,5 @@
+pub mod Classes
+pub mod Laws
+pub mod Layout
+pub mod Pieces
+pub mod Samples

@@ -1,0 +1,4 @@
+pub mod Comes
+pub mod Due
+pub mod Texts
+pub mod Through

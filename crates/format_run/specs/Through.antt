@@ -1,0 +1,62 @@
+-- A run over streams, and the handing on of what was put.
+use Rattle.std.specs.Prelude.{◌≡◌, ℕ, Bool, true, false, List, Option, Some, None}
+use Rattle.std.specs.Io.KnownBytes.{Appends, Keeps}
+use Rattle.outside.specs.Count.{Rose}
+use Rattle.outside.specs.Said.{errors}
+use Rattle.outside.specs.Shelf.{Shelved}
+use Rattle.outside.specs.Tells.{Tells}
+use Rattle.format_mean.specs.Layout.{formatted}
+use Rattle.format_run.specs.declared.ending.Ending.{Ending}
+use Rattle.format_run.specs.declared.ending.Ending.TheVariants as ending
+use Rattle.format_run.specs.Ends.{Around, IsGood, Comes, Said}
+
+-- How a run ended whose stream got all or lacks something: then a whole text is a fault of writing.
+abbrev pub closed : Bool → Ending → Ending
+closed false ending.Done = ending.Write
+closed whole end = end
+
+-- A sink before and after a run, and what its stream holds in the end.
+pub record Stream : Type 0 where
+  pub before : Tells
+  pub after : Tells
+  pub holds : Option (List ℕ)
+
+abbrev pub stream : Tells → Tells → Option (List ℕ) → Stream
+stream before after holds = record { before = before; after = after; holds = holds }
+
+-- The stream got all that was put, and no fault was counted; or not, and the count of faults rose.
+abbrev pub HandsOn : Tells → Tells → Option (List ℕ) → Bool → Type 0
+HandsOn put after holds true = Keeps put.contents holds × (after.faults ≡ put.faults)
+HandsOn put after holds false = Rose put.faults after.faults
+
+abbrev pub surrounding : Option Shelved → ℕ → ℕ → Tells → Tells → Around
+surrounding told reads reads_after output output_after = record {
+  told = told;
+  reads = reads;
+  reads_after = reads_after;
+  output = output;
+  output_after = output_after;
+}
+
+-- A run that put so much on the output and ended so; what was handed on to the output's stream; and what was said then, of the end that comes
+-- of both, and handed on to the standard error's.
+pub record RunsThrough (name : Option (List ℕ)) (told : Option Shelved) (reads reads_after : ℕ) (out err : Stream) (status : ℕ) : Type 0 where
+  pub put : Tells
+  pub end : Ending
+  pub came : Comes name (surrounding told reads reads_after out.before put) end
+  pub whole : Bool
+  pub handed_on : HandsOn put out.after out.holds whole
+  pub closing : Tells
+  pub said : Said (closed whole end) (errors err.before closing status)
+  pub heard : Bool
+  pub told_on : HandsOn closing err.after err.holds heard
+
+-- A file that is laid out was found, and the output's stream gained the whole text.
+pub record DeliversText (name : List ℕ) (told : Option Shelved) (reads reads_after : ℕ) (out : Stream) : Type 0 where
+  pub file : List ℕ
+  pub found : IsGood name told reads reads_after file
+  pub gained : Appends out.before.contents out.holds (formatted file)
+
+abbrev pub Delivers : Option (List ℕ) → Option Shelved → (reads reads_after : ℕ) → Stream → Type 0
+Delivers None told reads reads_after out = ⊥
+Delivers (Some name) told reads reads_after out = DeliversText name told reads reads_after out

@@ -1,0 +1,66 @@
+//! How a run ended, and what is said of it.
+ghost use Rattle.std.specs.Prelude.{◌≡◌, ◌++◌, IfOk, codes};
+ghost use Rattle.std.specs.String.{string_bytes};
+ghost use Rattle.outside.specs.Said.{errors};
+ghost use Rattle.outside.specs.Tells.{tells_of};
+ghost use Rattle.format_run.specs.Ends.{Said, token_line};
+
+use layer_ast::At;
+use outside::{Sink, say_line};
+use std::alloc::{AllocError, Global};
+
+/// How a run ended.
+#[derive(Clone, Copy, Debug, PartialEq, Eq)]
+pub enum Ending {
+    /// The file was laid out, and all of it written.
+    Done,
+    /// The words name no file.
+    Words,
+    /// The file has over 1,048,576 bytes.
+    TooLarge,
+    /// The file has a bad token, the first of which stands here.
+    BadToken(At),
+    /// The file couldn't be read.
+    Read,
+    /// The output couldn't be written.
+    Write,
+    /// Memory ran out.
+    Memory,
+}
+
+/// The status where a file is refused.
+const FILE_REFUSED: u8 = 1;
+
+/// The status where memory ran out.
+pub const NO_MEMORY: u8 = 7;
+
+/// Says how a run ended, and answers the program's status.
+pub(crate) fn say<E: Sink>(alloc: Global, ending: Ending, err: &mut E) -> u8
+    ensures { Said ending (errors (tells_of E.Sink err.old) (tells_of E.Sink err.new) result) }
+{
+    match ending {
+        Ending::Done => 0,
+        Ending::Words => say_line(b"words: refused\n", 2, err),
+        Ending::TooLarge => say_line(b"file: too large\n", FILE_REFUSED, err),
+        Ending::BadToken(at) => say_token(alloc, at, err),
+        Ending::Read => say_line(b"read fault\n", 4, err),
+        Ending::Write => say_line(b"write fault\n", 5, err),
+        Ending::Memory => say_line(b"no memory\n", NO_MEMORY, err),
+    }
+}
+
+/// Says where the first bad token stands.
+fn say_token<E: Sink>(alloc: Global, at: At, err: &mut E) -> u8
+    ensures { Said (Ending.BadToken at) (errors (tells_of E.Sink err.old) (tells_of E.Sink err.new) result) }
+{
+    match token_line(alloc, at) {
+        Ok(line) => say_line(line.as_bytes(), FILE_REFUSED, err),
+        Err(_) => NO_MEMORY,
+    }
+}
+
+fn token_line(alloc: Global, at: At) -> Result<String, AllocError>
+    ensures { IfOk result (λ line. string_bytes line ≡ token_line at) }
+{
+    format!(in alloc; "file: token {}:{}\n", at.line, at.col)
+}

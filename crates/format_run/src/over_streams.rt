@@ -1,0 +1,116 @@
+//! The program over streams, which are handed what was put, and over the system's arguments, files and streams.
+ghost use Rattle.std.specs.Prelude.{◌≡◌, drop, map};
+ghost use Rattle.std.specs.String.{string_bytes};
+ghost use Rattle.outside.specs.Stream.{stream_of};
+ghost use Rattle.outside.specs.Tells.{tells};
+ghost use Rattle.format_run.specs.Ends.{name_of};
+ghost use Rattle.format_run.specs.Through.{RunsThrough, Delivers, HandsOn, closed, stream};
+
+use crate::ending::{Ending, NO_MEMORY, say};
+use crate::over_sinks::perform;
+use outside::{FileShelf, Shelf, Sink, StdSink};
+use std::alloc::Global;
+use std::env;
+use std::io::{self, ErrorKind, Write};
+use std::rt::{Env, Files};
+
+/// Lays out the file that the words name, hands on what was put to both streams, and answers the program's status.
+///
+/// The status is 0 only where the whole text was put and the output's stream got all of it. Where the stream did not, that is said as a fault of writing;
+/// how a run ended else stays. What was said is handed on to the stream of `err`, or that sink counted a fault.
+pub fn run_through<S: Shelf, O: Write + Drop, E: Write + Drop>(
+    alloc: Global,
+    words: &[String],
+    shelf: &mut S,
+    out: &mut StdSink<O>,
+    err: &mut StdSink<E>,
+) -> u8
+    ensures through { RunsThrough (name_of (map string_bytes words.now)) (S.told shelf.old) (S.faults shelf.old) (S.faults shelf.new)
+        (stream (tells (⟦<StdSink<O> as Sink>⟧.contents out.old) (⟦<StdSink<O> as Sink>⟧.failures out.old) (⟦<StdSink<O> as Sink>⟧.faults out.old))
+        (tells (⟦<StdSink<O> as Sink>⟧.contents out.new) (⟦<StdSink<O> as Sink>⟧.failures out.new) (⟦<StdSink<O> as Sink>⟧.faults out.new))
+        (O.contents (stream_of out.new)))
+        (stream (tells (⟦<StdSink<E> as Sink>⟧.contents err.old) (⟦<StdSink<E> as Sink>⟧.failures err.old) (⟦<StdSink<E> as Sink>⟧.faults err.old))
+        (tells (⟦<StdSink<E> as Sink>⟧.contents err.new) (⟦<StdSink<E> as Sink>⟧.failures err.new) (⟦<StdSink<E> as Sink>⟧.faults err.new))
+        (E.contents (stream_of err.new))) result }
+    ensures delivered { result ≡ 0 → Delivers (name_of (map string_bytes words.now)) (S.told shelf.old) (S.faults shelf.old) (S.faults shelf.new)
+        (stream (tells (⟦<StdSink<O> as Sink>⟧.contents out.old) (⟦<StdSink<O> as Sink>⟧.failures out.old) (⟦<StdSink<O> as Sink>⟧.faults out.old))
+        (tells (⟦<StdSink<O> as Sink>⟧.contents out.new) (⟦<StdSink<O> as Sink>⟧.failures out.new) (⟦<StdSink<O> as Sink>⟧.faults out.new))
+        (O.contents (stream_of out.new))) }
+{
+    let ending = perform(alloc, words, shelf, out);
+    let whole = hand_on(out);
+    let status = say(alloc, closed(whole, ending), err);
+    let _ = hand_on(err);
+    status
+}
+
+/// Hands on to the stream what is gathered for it, and answers whether it got all.
+fn hand_on<W: Write + Drop>(sink: &mut StdSink<W>) -> bool
+    ensures { HandsOn
+        (tells (⟦<StdSink<W> as Sink>⟧.contents sink.old) (⟦<StdSink<W> as Sink>⟧.failures sink.old) (⟦<StdSink<W> as Sink>⟧.faults sink.old))
+        (tells (⟦<StdSink<W> as Sink>⟧.contents sink.new) (⟦<StdSink<W> as Sink>⟧.failures sink.new) (⟦<StdSink<W> as Sink>⟧.faults sink.new))
+        (W.contents (stream_of sink.new)) result }
+{
+    match sink.finish() {
+        Ok(()) => true,
+        Err(_) => false,
+    }
+}
+
+/// How a run ended whose stream got all that was put or didn't: then a whole text is a fault of writing.
+fn closed(whole: bool, ending: Ending) -> Ending
+    ensures { result ≡ closed whole ending }
+{
+    match ending {
+        Ending::Done if !whole => Ending::Write,
+        ending => ending,
+    }
+}
+
+/// Lays out the file that the command line names, and answers the program's status. Where memory runs out before the standard error is made, nothing
+/// is said.
+pub fn program<R: AllocGlobal + Env + Files, O: Write + Drop, E: Write + Drop>(
+    system: &R,
+    out: O,
+    err: E,
+) -> u8 {
+    begun(system, out, err).unwrap_or(NO_MEMORY)
+}
+
+fn begun<R: AllocGlobal + Env + Files, O: Write + Drop, E: Write + Drop>(
+    system: &R,
+    out: O,
+    err: E,
+) -> io::Result<u8> {
+    let alloc = system.alloc();
+    let words = words(system)?;
+    let mut shelf = FileShelf::of(system);
+    let mut out = StdSink::of(alloc, out)?;
+    let mut err = StdSink::of(alloc, err)?;
+    Ok(run_through(alloc, &words, &mut shelf, &mut out, &mut err))
+}
+
+/// The words of the command line, without the program's name. Where one of them isn't UTF-8 there are none, since such a word names no file here. An
+/// error says that memory ran out.
+fn words<R: AllocGlobal + Env>(system: &R) -> io::Result<Vec<String>> {
+    match env::args(system) {
+        Ok(all) => {
+            let mut words = Vec::new(system.alloc());
+            words.extend(all)?;
+            Ok(without_name(words))
+        }
+        Err(error) if error.kind() == ErrorKind::InvalidData => Ok(Vec::new(system.alloc())),
+        Err(error) => Err(error),
+    }
+}
+
+/// The words behind the first, which is the program's name.
+fn without_name(words: Vec<String>) -> Vec<String>
+    ensures { result.items ≡ drop 1 words.items }
+{
+    let mut words = words;
+    if !words.is_empty() {
+        let _ = words.remove(0);
+    }
+    words
+}
