@@ -1,0 +1,11 @@
+pub mod Says
+pub mod Place
+pub mod Escape
+pub mod Mark
+pub mod Row
+pub mod Style
+pub mod Picture
+pub mod Words
+pub mod Ends
+pub mod Runs
+pub mod Through

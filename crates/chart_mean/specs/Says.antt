@@ -1,0 +1,100 @@
+-- What a picture shows of a line of a report.
+use Rattle.std.specs.Prelude.{ℕ, Bool, List, [], ◌∷◌, Option, Some, None, option_map, unwrap_or, codes, bytes_eq, if◌then◌else◌}
+use Rattle.std.specs.List.{list_any}
+use Rattle.script_mean.specs.Words.{Word, words_of}
+use Rattle.script_mean.specs.Form.{Form, ◌>>=◌, one, a_word, a_number, ends}
+use Rattle.audit_mean.specs.Line.{a_member}
+
+-- a member delivers a body, by cast or send; sends a packet with a body; is in a new view; is out; does what the line's first word says; or
+-- the line is beside the members
+pub data Says : Type 0 where
+  deliver : (kind : Word) (member : ℕ) (body : Word) → Says
+  packet : (member : ℕ) (body : Word) → Says
+  view : (member ltime mask : ℕ) → Says
+  out : (member : ℕ) → Says
+  other : (verb : Word) (member : ℕ) → Says
+  aside : Says
+
+abbrev pub is_one_of : List Word → Word → Bool
+is_one_of words word = list_any (bytes_eq word) words
+
+-- the kinds of deliveries
+abbrev pub kinds : List Word
+kinds = codes "cast" ∷ codes "send" ∷ []
+
+-- the first words of the other lines whose second word is the member of which they tell
+abbrev pub others : List Word
+others =
+    codes "block" ∷ codes "announce" ∷ codes "timer" ∷ codes "refused" ∷ codes "absent" ∷ codes "state" ∷ codes "cell" ∷ codes "deaf" ∷ []
+
+-- one of these words
+abbrev pub a_word_of : List Word → Form Word
+a_word_of words = one (λ word. if is_one_of words word then Some word else None)
+
+-- `M cast P HEX` or `M send P HEX` of a delivery
+abbrev pub deliver_line : Form Says
+deliver_line = do
+  member ← a_member
+  kind ← a_word_of kinds
+  peer ← a_word
+  body ← a_word
+  ends (deliver kind member body)
+
+-- `K M D CHAIN HEX` of a packet
+abbrev pub packet_line : Form Says
+packet_line = do
+  number ← a_word
+  member ← a_member
+  to ← a_word
+  chain ← a_word
+  body ← a_word
+  ends (packet member body)
+
+-- `M LTIME MASK` of a view
+abbrev pub view_line : Form Says
+view_line = do
+  member ← a_member
+  ltime ← a_number
+  mask ← a_number
+  ends (view member ltime mask)
+
+-- `M` of an out
+abbrev pub out_line : Form Says
+out_line = do
+  member ← a_member
+  ends (out member)
+
+-- `M` and whatever follows
+abbrev pub other_line : Word → Form Says
+other_line verb = do
+  member ← a_member
+  λ behind. Some (other verb member, behind)
+
+-- what stands behind the first word of a line
+abbrev pub behind_first : Word → Form Says
+behind_first verb =
+    if bytes_eq verb (codes "deliver") then deliver_line
+    else if bytes_eq verb (codes "packet") then packet_line
+    else if bytes_eq verb (codes "view") then view_line
+    else if bytes_eq verb (codes "out") then out_line
+    else if is_one_of others verb then other_line verb
+    else (λ words. None)
+
+-- a line that tells of a member
+abbrev pub any_line : Form Says
+any_line = do
+  verb ← a_word
+  behind_first verb
+
+-- what a line says: one that is none of these is beside the members
+abbrev pub says_of : List ℕ → Says
+says_of line = unwrap_or (option_map (λ taken. taken.0) (any_line (words_of line))) aside
+
+-- the member of which it tells
+abbrev pub member_of : Says → Option ℕ
+member_of (deliver kind member body) = Some member
+member_of (packet member body) = Some member
+member_of (view member ltime mask) = Some member
+member_of (out member) = Some member
+member_of (other verb member) = Some member
+member_of aside = None

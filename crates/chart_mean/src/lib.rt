@@ -1,0 +1,11 @@
+//! What a picture of a run is: in `specs/` what it shows of each line of a report, where that stands, and the text of the
+//! whole, as SVG. Its code is the types that the definitions share with what draws.
+#![tactic(auto)]
+
+mod examples;
+mod laws;
+mod types;
+
+pub use crate::examples::read_lines;
+pub use crate::laws::{each_line_has_its_mark, text_is_escaped};
+pub use crate::types::{Ending, Range, Sent, Stay, Turn};

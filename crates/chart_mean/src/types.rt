@@ -1,0 +1,51 @@
+//! The types of pictures.
+
+/// The lines of a report that a picture shows, by the numbers of the first and the last, counted from 1.
+#[derive(Clone, Copy, Debug, PartialEq, Eq)]
+pub struct Range {
+    pub first: u32,
+    pub last: u32,
+}
+
+/// Where a member is, as far as the lines shown tell.
+#[derive(Clone, Copy, Debug, PartialEq, Eq)]
+pub enum Stay {
+    /// No line told yet.
+    Untold,
+    /// In the view of this logical time and mask.
+    View(u32, u32),
+    Out,
+}
+
+/// Where a member is from some place of the picture on.
+#[derive(Clone, Copy, Debug, PartialEq, Eq)]
+pub struct Turn {
+    pub x: u64,
+    pub stay: Stay,
+}
+
+/// A packet that was sent: where it stands in the picture, and the member that sent it.
+#[derive(Clone, Copy, Debug, PartialEq, Eq)]
+pub struct Sent {
+    pub x: u64,
+    pub member: u8,
+}
+
+/// How the program ends.
+#[derive(Clone, Copy, Debug, PartialEq, Eq)]
+pub enum Ending {
+    /// The picture was written.
+    Done,
+    /// The file has over 67,108,864 bytes.
+    TooLarge,
+    /// This line of the file is the first out of form.
+    Line(u32),
+    /// The words ask for no picture.
+    Words,
+    /// The file couldn't be read.
+    Read,
+    /// The picture couldn't be written.
+    Write,
+    /// Memory ran out.
+    Memory,
+}

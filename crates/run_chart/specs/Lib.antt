@@ -1,0 +1,4 @@
+pub mod Reading
+pub mod Bearers
+pub mod Charts
+pub mod Turns

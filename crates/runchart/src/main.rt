@@ -1,0 +1,9 @@
+//! `runchart`: draws a picture of a run from its report.
+#![tactic(auto)]
+
+use run_chart::program;
+use std::process::ExitCode;
+
+fn main(rt: HostRuntime) -> ExitCode {
+    ExitCode::from(program(&rt, rt.stdout(), rt.stderr()))
+}
