@@ -16,7 +16,7 @@ _stackc() {
   if [ "$current" = "=" ]; then current=""; elif [ "$before" = "=" ]; then before=${COMP_WORDS[COMP_CWORD - 2]}; fi
   [ "${COMP_WORDS[1]-}" != --trial ] || [ "$COMP_CWORD" -eq 1 ] || at=2
   if [ "$COMP_CWORD" -eq "$at" ]; then
-    word="check synth replay explain load node audit"
+    word="check synth pack replay explain load node audit"
     [ "$at" -eq 2 ] || word="$word --help --version --trial"
     mapfile -t COMPREPLY < <(compgen -W "$word" -- "$current")
     return
@@ -25,6 +25,7 @@ _stackc() {
   case $job in
   check) options="" kinds="layers" ;;
   synth) options="" kinds="layers" ;;
+  pack) options="" kinds="layers" ;;
   replay) options="--run --wire --count" kinds="layers script" ;;
   explain) options="" kinds="layers script" ;;
   load) options="--seed --events --members --run --raw" kinds="layers" ;;

@@ -1,0 +1,72 @@
+#!/usr/bin/env python3
+"""Runs the program itself to each of its statuses, and compares what it writes and what it says."""
+import os
+import socket
+import subprocess
+import sys
+import tempfile
+
+from tree import TOP
+
+PROGRAM = os.environ["STACKC"]
+FILES = {
+    "counter.layers": None,
+    "hi.script": None,
+    "bad.layers": b"stack { absent; }\n",
+    "bad.script": b"group 1 stamp 1 members 1\ncast 0\n",
+    "crossed.report": b"deliver 0 cast 0 61\ndeliver 1 cast 1 62\ndeliver 1 cast 0 61\nend 3\n",
+}
+# The words, the status, the output and what is said.
+CASES = [
+    (["check", "counter.layers"], 0, b"accepted 1\n", b""),
+    (["replay", "counter.layers", "hi.script"], 0, b"packet 1 0 all cnt.num(0) 6869\ndeliver 1 cast 0 6869\nend 2\n", b""),
+    (["check", "bad.layers"], 1, b"", b"file: unknown 1:9\n"),
+    (["audit", "counter.layers", "--law", "same"], 1, b"", b"file: line 1\n"),
+    (["replay", b"counter\xff.layers", "hi.script"], 2, b"", b"words: refused\n"),
+    (["check"], 2, b"", b"words: refused\n"),
+    (["replay", "counter.layers", "bad.script"], 3, b"", b"script: line 2\n"),
+    (["check", "none.layers"], 4, b"", b"read fault\n"),
+    (["audit", "crossed.report", "--law", "total"], 8, b"breach 1 2\n", b"breach\n"),
+]
+
+
+def run(words, folder, out=subprocess.PIPE):
+    ran = subprocess.run([PROGRAM, *words], cwd=folder, stdin=subprocess.DEVNULL, stdout=out, stderr=subprocess.PIPE, timeout=60)
+    return ran.returncode, ran.stdout, ran.stderr
+
+
+def busy_plan(folder):
+    """A plan whose only member's address is taken, and the socket that takes it."""
+    taken = socket.socket(socket.AF_INET, socket.SOCK_DGRAM)
+    taken.bind(("127.0.0.1", 0))
+    with open(os.path.join(folder, "busy.plan"), "w", encoding="ascii") as file:
+        file.write(f"group 1 stamp 1 members 1\npeer 0 127.0.0.1:{taken.getsockname()[1]}\n")
+    return taken
+
+
+def main():
+    wrong = 0
+    with tempfile.TemporaryDirectory(prefix="stackc-") as folder:
+        for name, text in FILES.items():
+            if text is None:
+                with open(os.path.join(TOP, "examples", "hi.script" if name.endswith(".script") else "counter.layers"), "rb") as file:
+                    text = file.read()
+            with open(os.path.join(folder, name), "wb") as file:
+                file.write(text)
+        tried = [(words, (status, out, said), run(words, folder)) for words, status, out, said in CASES]
+        with open("/dev/full", "wb") as full:
+            words = ["check", "counter.layers"]
+            tried.append((words, (5, None, b"write fault\n"), run(words, folder, full)))
+        with busy_plan(folder):
+            words = ["node", "counter.layers", "busy.plan", "--turns", "1", "--me", "0"]
+            tried.append((words, (6, b"", b"link fault\n"), run(words, folder)))
+        for words, wanted, got in tried:
+            if wanted != got:
+                wrong += 1
+                print(f"{words}: {got}, and not {wanted}")
+    print(f"statuses: {len(tried)} runs, {wrong} not as wanted")
+    sys.exit(wrong != 0)
+
+
+if __name__ == "__main__":
+    main()
