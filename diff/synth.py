@@ -1,5 +1,5 @@
 #!/usr/bin/env python3
-"""Compares the program's `synth` with the independent reading of bypasses (fusing.py).
+"""Compares the program's `synth` and `pack` with the independent reading of bypasses (fusing.py).
 
 Run it from any folder: diff/synth.py FILES [COUNT] [SEED] [PROGRAM]. FILES is `library`, for random stacks of the library's layers; `random`, for random
 layer files that are accepted, some made as those of diff/check.py, some drawn so that guards have much to say (drawing.py), and a few that are about as
@@ -110,12 +110,16 @@ class Comparison:
         layers = fusing.layers_of(text)
         made = fusing.all_made(layers)
         self.count(made)
-        wanted = "".join(line + "\n" for line in fusing.lines_of(layers, made))
-        ran = subprocess.run([self.program, "synth", self.path], stdout=subprocess.PIPE, stderr=subprocess.PIPE, check=False)
+        self.compare_job("synth", text, fusing.lines_of(layers, made))
+        self.compare_job("pack", text, fusing.packed_lines(layers, made))
+        fusing.forget()
+
+    def compare_job(self, job, text, lines):
+        wanted = "".join(line + "\n" for line in lines)
+        ran = subprocess.run([self.program, job, self.path], stdout=subprocess.PIPE, stderr=subprocess.PIPE, check=False)
         got = (ran.stdout.decode(), ran.stderr.decode().strip(), ran.returncode)
         if got != (wanted, "", 0):
             self.differs(text, got, wanted)
-        fusing.forget()
 
     def count(self, made):
         for case, one in ((case, one) for _, cases in made for case, one in enumerate(cases) if one):
