@@ -7,6 +7,7 @@ mod Handlers
 mod Heads
 mod JudgedOnce
 mod Layers
+mod Lists
 mod Lookups
 mod Refusals
 mod Rows

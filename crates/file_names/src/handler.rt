@@ -24,7 +24,6 @@ use std::alloc::{AllocError, Global};
 const MOST_NAMES: usize = 64;
 
 /// The head of a handler in the scope of its layer's own names, which gets the locals of the head.
-#[tactic(auto, using(file_scope::proofs::Finds::finds_both, crate::proofs::Heads::head_declares))]
 fn head(
     alloc: Global,
     found: &mut Found,
@@ -41,7 +40,6 @@ fn head(
 }
 
 /// The condition and the block of a handler, in the scope of its layer's own names.
-#[tactic(auto, using(file_scope::proofs::Finds::finds_both))]
 fn inside(
     alloc: Global,
     found: &mut Found,
@@ -60,7 +58,6 @@ fn inside(
 }
 
 /// A handler, in the scope of its layer's own names. The names of its maxima are added to those of its layer.
-#[tactic(auto, using(file_scope::proofs::Finds::finds_both, crate::proofs::Handlers::gathered))]
 fn handler(
     alloc: Global,
     found: &mut Found,
@@ -80,7 +77,7 @@ fn handler(
 }
 
 /// The handlers of a layer, in the scope of its own names, and the names of their maxima.
-#[tactic(auto, using(file_scope::proofs::Finds::finds_none, file_scope::proofs::Finds::part_more, crate::proofs::Gathered::words_more))]
+#[tactic(auto, using(file_scope::proofs::Finds::finds_none))]
 pub fn handlers(
     alloc: Global,
     found: &mut Found,

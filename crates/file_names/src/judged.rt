@@ -37,7 +37,7 @@ pub struct Judged<'a> {
 }
 
 /// The layers that a file writes, each with the table of its own words.
-#[tactic(auto, using(file_scope::proofs::Finds::finds_none, file_scope::proofs::Lists::trees_more, file_scope::proofs::Finds::part_more, file_scope::proofs::Layers::made_within, file_scope::proofs::Layers::made_at))]
+#[tactic(auto, using(file_scope::proofs::Finds::finds_none, file_scope::proofs::Layers::made_within))]
 fn written(
     alloc: Global,
     found: &mut Found,

@@ -56,7 +56,6 @@ fn is_of(form: Form, declaration: &Declaration) -> bool
 }
 
 /// The names of the declarations of a form.
-#[tactic(auto, using(crate::proofs::Rows::kept_more, crate::proofs::Rows::passed_over))]
 fn names_of(
     alloc: Global,
     form: Form,
@@ -74,7 +73,6 @@ fn names_of(
 }
 
 /// The names of all declarations.
-#[tactic(auto, using(file_scope::proofs::Lists::trees_more))]
 fn all_names(alloc: Global, declarations: &[Declaration]) -> Result<Vec<Name>, AllocError>
     ensures { IfOk result (λ all. all.items ≡ map spec.declared_name (map declaration_tree declarations.now)) }
 {
@@ -124,7 +122,7 @@ fn declared(alloc: Global, found: &mut Found, layer: &Layer, own: &Words) -> Res
 }
 
 /// One handler too many for each of these.
-#[tactic(auto, using(file_scope::proofs::Finds::finds_none, crate::proofs::Layers::handler_more))]
+#[tactic(auto, using(file_scope::proofs::Finds::finds_none))]
 fn all_too_many(found: &mut Found, handlers: &[Handler])
     ensures { Finds found.old (map (λ h. fault.too_many h.at) (map handler_tree handlers.now)) found.new }
 {

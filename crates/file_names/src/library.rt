@@ -34,7 +34,7 @@ fn judge(alloc: Global, of_library: &Layer, own: &Words) -> Result<Called, Alloc
 }
 
 /// The layers of the library, each with the table of its own words.
-#[tactic(auto, using(file_scope::proofs::Lists::trees_more, file_scope::proofs::Layers::made_within, file_scope::proofs::Layers::made_at))]
+#[tactic(auto, using(file_scope::proofs::Layers::made_within))]
 pub fn library(alloc: Global, layers: &[Layer], tables: &[Words]) -> Result<Vec<Called>, AllocError>
     requires { tables.now ≡ map own_words (map layer_tree layers.now) }
     ensures { IfOk result (λ all. all.items ≡ map called_of (map layer_tree layers.now)) }

@@ -54,7 +54,6 @@ fn is_number(item: &Item) -> bool
 }
 
 /// The names of items.
-#[tactic(auto, using(file_scope::proofs::Lists::trees_more))]
 fn names(alloc: Global, items: &[Item]) -> Result<Vec<Name>, AllocError>
     ensures { IfOk result (λ all. all.items ≡ map (λ i. i.name) (map item_tree items.now)) }
 {
@@ -66,7 +65,6 @@ fn names(alloc: Global, items: &[Item]) -> Result<Vec<Name>, AllocError>
 }
 
 /// The names of the items that are numbers.
-#[tactic(auto, using(crate::proofs::Rows::kept_more, crate::proofs::Rows::passed_over))]
 fn numbers(alloc: Global, items: &[Item]) -> Result<Vec<Name>, AllocError>
     ensures { IfOk result (λ all. all.items ≡ map (λ i. i.name) (filter (λ i. allows a_number i.sort) (map item_tree items.now))) }
 {

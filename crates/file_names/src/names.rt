@@ -11,7 +11,7 @@ use layer_ast::Name;
 use std::alloc::{AllocError, Global};
 
 /// Names, none of which may be there twice.
-#[tactic(auto, using(file_scope::proofs::Finds::finds_none, crate::proofs::Twice::alone, crate::proofs::Twice::twice_next))]
+#[tactic(auto, using(file_scope::proofs::Finds::finds_none, crate::proofs::Twice::alone))]
 pub fn twice(alloc: Global, found: &mut Found, names: &[Name]) -> Result<(), AllocError>
     ensures { OnOk result (Finds found.old (twice_among [] names.now) found.new) }
 {

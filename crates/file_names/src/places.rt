@@ -1,23 +1,26 @@
 //! The places of a file.
 
-ghost use Rattle.std.specs.Prelude.{[], filter_map, flat_map, map, OnOk};
+ghost use Rattle.std.specs.Prelude.{◌≡◌, [], filter_map, flat_map, map, OnOk};
 ghost use Rattle.std.specs.Option.{option_map_or};
-ghost use Rattle.layer_ast.specs.View.{file_tree, place_tree};
+ghost use Rattle.layer_ast.specs.View.{file_tree, layer_tree, place_tree};
 ghost use Rattle.fault_mean.specs.Faults.{name_fault_at};
-ghost use Rattle.fault_mean.specs.NameFaults.{layer_name_faults, place_faults};
+ghost use Rattle.fault_mean.specs.NameFaults.{layer_name_faults, place_faults, place_faults_in};
 ghost use Rattle.fault_mean.specs.Places.{called_at, faults_of_judged};
+ghost use Rattle.file_scope.specs.Words.{own_words};
 ghost use Rattle.file_names.specs.Found.{Finds};
+ghost use Rattle.file_names.specs.Gathered.{sizes_of};
 ghost use Rattle.file_names.specs.Places.{called_faults};
 
 use crate::found::{Cause, Found, note};
 use crate::judged::Judged;
 use crate::place::place_in;
-use file_scope::Scope;
-use layer_ast::Place;
+use crate::sizes::Sizes;
+use file_scope::{Scope, Words};
+use layer_ast::{Layer, Place};
 use std::alloc::{AllocError, Global};
 
 /// The layer of the library that a place names, if it does: its faults stand at this place.
-#[tactic(auto, using(file_scope::proofs::Finds::finds_none, file_scope::proofs::Layers::within_made, crate::proofs::Calls::hidden, crate::proofs::Calls::uncalled, crate::proofs::Calls::called_once))]
+#[tactic(auto, using(file_scope::proofs::Layers::within_made))]
 fn called(found: &mut Found, judged: &Judged, place: &Place)
     ensures { Finds found.old (called_faults (file_tree judged.now.file.now) (place_tree place.now)) found.new }
 {
@@ -40,20 +43,41 @@ pub fn calls(found: &mut Found, judged: &Judged, places: &[Place])
     }
 }
 
+/// A place of this layer, with the table of the layer's own words.
+fn place_at(
+    alloc: Global,
+    found: &mut Found,
+    layer: &Layer,
+    own: &Words,
+    place: &Place,
+    sizes: &Sizes,
+) -> Result<(), AllocError>
+    requires own { own.now ≡ own_words (layer_tree layer.now) }
+    requires sizes { sizes.now ≡ sizes_of (layer_tree layer.now) }
+    ensures { OnOk result (Finds found.old (place_faults_in (place_tree place.now) (layer_tree layer.now)) found.new) }
+{
+    let scope = Scope::of(alloc, layer, own);
+    place_in(alloc, found, &scope, place, sizes)?;
+    Ok(())
+}
+
 /// A place: its layer is one of the file, or else of the library.
-#[tactic(auto, using(file_scope::proofs::Layers::within_file, file_scope::proofs::Layers::within_made, file_scope::proofs::Layers::made_at, crate::proofs::Calls::written_place, crate::proofs::Calls::library_place, crate::proofs::Calls::no_place))]
+#[tactic(auto, using(file_scope::proofs::Layers::within_file, file_scope::proofs::Layers::within_made, file_scope::proofs::Layers::made_at))]
 fn place(alloc: Global, found: &mut Found, judged: &Judged, place: &Place) -> Result<(), AllocError>
     ensures { OnOk result (Finds found.old (place_faults (file_tree judged.now.file.now) (place_tree place.now)) found.new) }
 {
     match judged.written_names.position(&place.name.word) {
         Some(k) => {
-            let scope = Scope::of(alloc, &judged.file.layers[k], &judged.tables.layers[k]);
-            place_in(alloc, found, &scope, place, &judged.written[k])?;
+            let layer = &judged.file.layers[k];
+            let own = &judged.tables.layers[k];
+            place_at(alloc, found, layer, own, place, &judged.written[k])?;
         }
         None => match judged.library_names.position(&place.name.word) {
             Some(k) => {
-                let scope = Scope::of(alloc, &judged.file.library[k], &judged.tables.library[k]);
-                place_in(alloc, found, &scope, place, &judged.library[k].sizes)?;
+                let layer = &judged.file.library[k];
+                let own = &judged.tables.library[k];
+                let called = &judged.library[k];
+                place_at(alloc, found, layer, own, place, &called.sizes)?;
             }
             None => note(found, Cause::Unknown, place.name.at),
         },

@@ -48,7 +48,6 @@ fn note_capacity(words: &mut Words, declaration: &Declaration) -> Result<(), All
 }
 
 /// The names that are capacities of declarations, each once.
-#[tactic(auto, using(crate::proofs::Gathered::words_more))]
 pub fn capacities(alloc: Global, declarations: &[Declaration]) -> Result<Words, AllocError>
     ensures { IfOk result (λ words. words ≡ fold noted [] (flat_map capacity_words (map declaration_tree declarations.now))) }
 {

@@ -18,7 +18,6 @@ pub struct Tables {
 }
 
 /// The words that declarations declare.
-#[tactic(auto, using(file_scope::proofs::Lists::trees_more))]
 fn own_words(alloc: Global, declarations: &[Declaration]) -> Result<Words, AllocError>
     ensures { IfOk result (λ words. words ≡ map (λ d. (spec.declared_name d).word) (map declaration_tree declarations.now)) }
 {
@@ -30,7 +29,6 @@ fn own_words(alloc: Global, declarations: &[Declaration]) -> Result<Words, Alloc
 }
 
 /// The tables of some layers.
-#[tactic(auto, using(file_scope::proofs::Lists::trees_more))]
 fn tables_of(alloc: Global, layers: &[Layer]) -> Result<Vec<Words>, AllocError>
     ensures { IfOk result (λ tables. tables.items ≡ map words_of_layer (map layer_tree layers.now)) }
 {
@@ -54,7 +52,6 @@ impl Tables {
 }
 
 /// The names of layers.
-#[tactic(auto, using(file_scope::proofs::Lists::trees_more))]
 pub fn layer_names(alloc: Global, layers: &[Layer]) -> Result<Vec<Name>, AllocError>
     ensures { IfOk result (λ names. names.items ≡ map (λ layer. layer.name) (map layer_tree layers.now)) }
 {
@@ -66,7 +63,6 @@ pub fn layer_names(alloc: Global, layers: &[Layer]) -> Result<Vec<Name>, AllocEr
 }
 
 /// The names of places.
-#[tactic(auto, using(file_scope::proofs::Lists::trees_more))]
 pub fn place_names(alloc: Global, places: &[Place]) -> Result<Vec<Name>, AllocError>
     ensures { IfOk result (λ names. names.items ≡ map (λ place. place.name) (map place_tree places.now)) }
 {
@@ -78,7 +74,6 @@ pub fn place_names(alloc: Global, places: &[Place]) -> Result<Vec<Name>, AllocEr
 }
 
 /// The names of the params that a place gives.
-#[tactic(auto, using(file_scope::proofs::Lists::trees_more))]
 pub fn given_names(alloc: Global, given: &[Given]) -> Result<Vec<Name>, AllocError>
     ensures { IfOk result (λ names. names.items ≡ map (λ g. g.name) (map given_tree given.now)) }
 {
@@ -90,7 +85,6 @@ pub fn given_names(alloc: Global, given: &[Given]) -> Result<Vec<Name>, AllocErr
 }
 
 /// The words of the params that a place gives.
-#[tactic(auto, using(file_scope::proofs::Lists::trees_more))]
 pub fn given_words(alloc: Global, given: &[Given]) -> Result<Words, AllocError>
     ensures { IfOk result (λ words. words ≡ map (λ g. g.name.word) (map given_tree given.now)) }
 {

@@ -9,7 +9,7 @@ ghost use Rattle.file_parse.specs.Parts.{arguments_within, some_arguments_within
 ghost use Rattle.file_parse.specs.Reading.{Parses, ParsesAll, SeesPart, SeesOneOf};
 
 use crate::expressions::{built, expression};
-use crate::readers::{Fault, close, open, past, push_item};
+use crate::readers::{Fault, close, open, past, push_item, read};
 use layer_ast::{Argument, Arguments, Lexed, Sign, Token};
 use std::alloc::Global;
 
@@ -21,9 +21,9 @@ pub fn arguments_in_parentheses(
 ) -> Result<(Arguments, &[Lexed]), Fault>
     ensures { ParsesAll arguments_within arguments_tree (one LeftParen ∷ an_argument ∷ arguments_behind ∷ one RightParen ∷ []) room tokens.now result }
 {
-    let (inside, rest) = open(room, Sign::LeftParen, tokens)?;
-    let (arguments, rest) = arguments(alloc, inside, rest)?;
-    let rest = close(Sign::RightParen, rest)?;
+    let (inside, rest) = read!(open(room, Sign::LeftParen, tokens));
+    let (arguments, rest) = read!(arguments(alloc, inside, rest));
+    let rest = read!(close(Sign::RightParen, rest), arguments);
     Ok((arguments, rest))
 }
 
@@ -35,9 +35,9 @@ pub fn some_arguments_in_parentheses(
 ) -> Result<(Option<Arguments>, &[Lexed]), Fault>
     ensures { ParsesAll some_arguments_within (option_map arguments_tree) (one LeftParen ∷ one_or_no_arguments ∷ one RightParen ∷ []) room tokens.now result }
 {
-    let (inside, rest) = open(room, Sign::LeftParen, tokens)?;
-    let (arguments, rest) = some_arguments(alloc, inside, rest)?;
-    let rest = close(Sign::RightParen, rest)?;
+    let (inside, rest) = read!(open(room, Sign::LeftParen, tokens));
+    let (arguments, rest) = read!(some_arguments(alloc, inside, rest));
+    let rest = read!(close(Sign::RightParen, rest), arguments);
     Ok((arguments, rest))
 }
 
@@ -52,7 +52,7 @@ fn some_arguments(
     if !begins_argument(tokens) {
         return Ok((None, tokens));
     }
-    let (fields, rest) = arguments(alloc, room, tokens)?;
+    let (fields, rest) = read!(arguments(alloc, room, tokens));
     Ok((Some(fields), rest))
 }
 
@@ -77,8 +77,8 @@ fn begins_argument(tokens: &[Lexed]) -> bool
 fn arguments(alloc: Global, room: u32, tokens: &[Lexed]) -> Result<(Arguments, &[Lexed]), Fault>
     ensures { ParsesAll print.arguments arguments_tree (an_argument ∷ arguments_behind ∷ []) room tokens.now result }
 {
-    let (first, rest) = argument(alloc, room, tokens)?;
-    let (more, rest) = more_arguments(alloc, room, rest)?;
+    let (first, rest) = read!(argument(alloc, room, tokens));
+    let (more, rest) = read!(more_arguments(alloc, room, rest), first);
     Ok((Arguments { first, rest: more }, rest))
 }
 
@@ -93,7 +93,7 @@ fn more_arguments(
     let mut all = Vec::new(alloc);
     let mut rest = tokens;
     while let Some(behind) = past(Sign::Comma, rest) {
-        let (next, behind) = argument(alloc, room, behind)?;
+        let (next, behind) = read!(argument(alloc, room, behind));
         push_item(&mut all, next)?;
         rest = behind;
     }
@@ -105,10 +105,10 @@ fn argument(alloc: Global, room: u32, tokens: &[Lexed]) -> Result<(Argument, &[L
     ensures { Parses print.argument argument_tree an_argument room tokens.now result }
 {
     if begins_built(tokens) {
-        let (content, rest) = built(alloc, room, tokens)?;
+        let (content, rest) = read!(built(alloc, room, tokens));
         return Ok((Argument::Content(content), rest));
     }
-    let (value, rest) = expression(alloc, room, tokens)?;
+    let (value, rest) = read!(expression(alloc, room, tokens));
     Ok((Argument::Value(value), rest))
 }
 

@@ -33,7 +33,7 @@ pub fn declarations(
     let mut all = Vec::new(alloc);
     let mut rest = tokens;
     while begins_declaration(rest) {
-        let (next, behind) = declaration(alloc, room, rest)?;
+        let (next, behind) = read!(declaration(alloc, room, rest));
         all.push(next)?;
         rest = behind;
     }
@@ -76,9 +76,9 @@ fn param(first: Lexed, tokens: &[Lexed]) -> Result<(Declaration, &[Lexed]), Faul
     ensures shorter { IfOk result (λ r. length r.1.now ≤ length tokens.now) }
 {
     let (name, rest) = read!(name(tokens));
-    let rest = sign(Sign::Assign, rest)?;
-    let (value, rest) = number(rest)?;
-    let rest = sign(Sign::Semicolon, rest)?;
+    let rest = read!(sign(Sign::Assign, rest));
+    let (value, rest) = read!(number(rest));
+    let rest = read!(sign(Sign::Semicolon, rest));
     let at = first.at;
     Ok((Declaration::Param { at, name, value }, rest))
 }
@@ -120,9 +120,9 @@ fn int(
     ensures shorter { IfOk result (λ r. length r.1.now ≤ length tokens.now) }
 {
     let (name, rest) = read!(name(tokens));
-    let (shape, rest) = shape(room, rest)?;
-    let (initial, rest) = initial(alloc, room, rest)?;
-    let rest = sign(Sign::Semicolon, rest)?;
+    let (shape, rest) = read!(shape(room, rest));
+    let (initial, rest) = read!(initial(alloc, room, rest));
+    let rest = read!(sign(Sign::Semicolon, rest), initial);
     let at = first.at;
     Ok((
         Declaration::Int {
@@ -143,9 +143,9 @@ fn shape(room: u32, tokens: &[Lexed]) -> Result<(Shape, &[Lexed]), Fault>
         return Ok((Shape::One, tokens));
     };
     let _ = room_inside(room, rest)?;
-    let rest = sign(Sign::N, rest)?;
+    let rest = read!(sign(Sign::N, rest));
     let (is_square, rest) = square(rest)?;
-    let rest = close(Sign::RightBracket, rest)?;
+    let rest = read!(close(Sign::RightBracket, rest));
     if is_square {
         return Ok((Shape::Square, rest));
     }
@@ -159,7 +159,7 @@ fn square(tokens: &[Lexed]) -> Result<(bool, &[Lexed]), Fault>
     let Some(rest) = past(Sign::Star, tokens) else {
         return Ok((false, tokens));
     };
-    let rest = sign(Sign::N, rest)?;
+    let rest = read!(sign(Sign::N, rest));
     Ok((true, rest))
 }
 
@@ -174,7 +174,7 @@ fn initial(
     let Some(rest) = past(Sign::Assign, tokens) else {
         return Ok((None, tokens));
     };
-    let (value, rest) = expression(alloc, room, rest)?;
+    let (value, rest) = read!(expression(alloc, room, rest));
     Ok((Some(value), rest))
 }
 
@@ -194,7 +194,7 @@ fn queue(
 {
     let (name, rest) = read!(name(tokens));
     let (capacity, rest) = read!(capacity(room, rest));
-    let (items, rest) = items(alloc, room, rest)?;
+    let (items, rest) = read!(items(alloc, room, rest));
     Ok((queue_of(first.at, name, capacity, items), rest))
 }
 
@@ -237,12 +237,12 @@ fn capacity_of_array(room: u32, tokens: &[Lexed]) -> Result<(QueueCapacity, &[Le
     ensures { ParsesAll print_capacity capacity_tree
         (one LeftBracket ∷ one N ∷ one RightBracket ∷ one LeftBracket ∷ a_size ∷ one RightBracket ∷ []) room tokens.now result }
 {
-    let (_, rest) = open(room, Sign::LeftBracket, tokens)?;
-    let rest = sign(Sign::N, rest)?;
-    let rest = close(Sign::RightBracket, rest)?;
-    let (_, rest) = open(room, Sign::LeftBracket, rest)?;
+    let (_, rest) = read!(open(room, Sign::LeftBracket, tokens));
+    let rest = read!(sign(Sign::N, rest));
+    let rest = read!(close(Sign::RightBracket, rest));
+    let (_, rest) = read!(open(room, Sign::LeftBracket, rest));
     let (size, rest) = read!(size(rest));
-    let rest = close(Sign::RightBracket, rest)?;
+    let rest = read!(close(Sign::RightBracket, rest));
     Ok((QueueCapacity::OfArray(size), rest))
 }
 
@@ -250,9 +250,9 @@ fn capacity_of_array(room: u32, tokens: &[Lexed]) -> Result<(QueueCapacity, &[Le
 fn capacity_of_one(room: u32, tokens: &[Lexed]) -> Result<(QueueCapacity, &[Lexed]), Fault>
     ensures { ParsesAll print_capacity capacity_tree (one LeftBracket ∷ a_size ∷ one RightBracket ∷ []) room tokens.now result }
 {
-    let (_, rest) = open(room, Sign::LeftBracket, tokens)?;
+    let (_, rest) = read!(open(room, Sign::LeftBracket, tokens));
     let (size, rest) = read!(size(rest));
-    let rest = close(Sign::RightBracket, rest)?;
+    let rest = read!(close(Sign::RightBracket, rest));
     Ok((QueueCapacity::One(size), rest))
 }
 
@@ -271,12 +271,12 @@ fn items(alloc: Global, room: u32, tokens: &[Lexed]) -> Result<(Items, &[Lexed])
     ensures { ParsesAll print_items items_tree
         (one Of ∷ one LeftParen ∷ a_name ∷ one Colon ∷ a_sort ∷ items_behind ∷ one RightParen ∷ one Semicolon ∷ []) room tokens.now result }
 {
-    let rest = sign(Sign::Of, tokens)?;
-    let (_, rest) = open(room, Sign::LeftParen, rest)?;
+    let rest = read!(sign(Sign::Of, tokens));
+    let (_, rest) = read!(open(room, Sign::LeftParen, rest));
     let (first, rest) = read!(item(rest));
-    let (more, rest) = more_items(alloc, rest)?;
-    let rest = close(Sign::RightParen, rest)?;
-    let rest = sign(Sign::Semicolon, rest)?;
+    let (more, rest) = read!(more_items(alloc, rest));
+    let rest = read!(close(Sign::RightParen, rest), more);
+    let rest = read!(sign(Sign::Semicolon, rest), more);
     Ok((Items { first, rest: more }, rest))
 }
 
@@ -299,8 +299,8 @@ fn item(tokens: &[Lexed]) -> Result<(Item, &[Lexed]), Fault>
     ensures { ParsesAllFlat print.item item_tree an_item tokens.now result }
 {
     let (name, rest) = read!(name(tokens));
-    let rest = sign(Sign::Colon, rest)?;
-    let (sort, rest) = sort(rest)?;
+    let rest = read!(sign(Sign::Colon, rest));
+    let (sort, rest) = read!(sort(rest));
     Ok((Item { name, sort }, rest))
 }
 
@@ -317,9 +317,9 @@ fn header(
     ensures shorter { IfOk result (λ r. length r.1.now ≤ length tokens.now) }
 {
     let (name, rest) = read!(name(tokens));
-    let (fields, rest) = some_names_in_parentheses(alloc, room, rest)?;
-    let (ending, rest) = ending(rest)?;
-    let rest = sign(Sign::Semicolon, rest)?;
+    let (fields, rest) = read!(some_names_in_parentheses(alloc, room, rest));
+    let (ending, rest) = read!(ending(rest), fields);
+    let rest = read!(sign(Sign::Semicolon, rest), fields);
     let at = first.at;
     Ok((
         Declaration::Header {

@@ -69,6 +69,16 @@ pub fn expression(
     }
 }
 
+/// Reads an expression into a box, so that a reader holds no tree by value where it may leave.
+#[cycle(expression)]
+fn boxed(alloc: Global, room: u32, tokens: &[Lexed]) -> Result<(Box<Expression>, &[Lexed]), Fault>
+    ensures { Parses print.expression (λ e. expression_tree e.value) an_expression room tokens.now result }
+{
+    let (value, rest) = read!(expression(alloc, room, tokens));
+    let value = Box::new(alloc, value)?;
+    Ok((value, rest))
+}
+
 /// Reads an expression that begins with a parenthesis, from behind that.
 #[tactic(auto, using(crate::proofs::Fit::fits_first))]
 #[cycle(expression)]
@@ -82,12 +92,10 @@ fn binary(
     ensures { Parses print.expression expression_tree an_expression room (first ∷ tokens.now) result }
 {
     let inside = room_inside(room, tokens)?;
-    let (left, rest) = expression(alloc, inside, tokens)?;
-    let (operator, rest) = operator(rest)?;
-    let (right, rest) = expression(alloc, inside, rest)?;
-    let rest = close(Sign::RightParen, rest)?;
-    let left = Box::new(alloc, left)?;
-    let right = Box::new(alloc, right)?;
+    let (left, rest) = read!(boxed(alloc, inside, tokens));
+    let (operator, rest) = read!(operator(rest));
+    let (right, rest) = read!(boxed(alloc, inside, rest));
+    let rest = read!(close(Sign::RightParen, rest));
     let at = first.at;
     Ok((
         Expression::Binary {
@@ -114,24 +122,39 @@ fn named(
     ensures { Parses print.expression expression_tree an_expression room (first ∷ tokens.now) result }
 {
     let name = Name { at: first.at, word };
-    let Some(_) = past(Sign::LeftBracket, tokens) else {
+    let Some(rest) = past(Sign::LeftBracket, tokens) else {
         return Ok((Expression::Named { name, index: None }, tokens));
     };
-    let (indices, rest) = indices(alloc, room, tokens)?;
-    let Some(Element { row, column }) = indices else {
-        return Ok((Expression::Named { name, index: None }, rest));
-    };
-    let row = Box::new(alloc, row)?;
+    let inside = room_inside(room, rest)?;
+    let (row, rest) = read!(boxed(alloc, inside, rest));
+    let rest = read!(close(Sign::RightBracket, rest));
+    let (column, rest) = read!(boxed_index(alloc, room, rest));
     let Some(column) = column else {
         let index = Some(row);
         return Ok((Expression::Named { name, index }, rest));
     };
-    let column = Box::new(alloc, column)?;
     Ok((Expression::Square { name, row, column }, rest))
 }
 
-/// Reads the indices behind a name, where there are any.
+/// Reads an index in square brackets into a box, where there is one.
 #[cycle(expression)]
+fn boxed_index(
+    alloc: Global,
+    room: u32,
+    tokens: &[Lexed],
+) -> Result<(Option<Box<Expression>>, &[Lexed]), Fault>
+    ensures { Parses print.index (option_map (λ e. expression_tree e.value)) an_index room tokens.now result }
+{
+    let Some(rest) = past(Sign::LeftBracket, tokens) else {
+        return Ok((None, tokens));
+    };
+    let inside = room_inside(room, rest)?;
+    let (index, rest) = read!(boxed(alloc, inside, rest));
+    let rest = read!(close(Sign::RightBracket, rest));
+    Ok((Some(index), rest))
+}
+
+/// Reads the indices behind a name, where there are any.
 pub fn indices(
     alloc: Global,
     room: u32,
@@ -143,14 +166,13 @@ pub fn indices(
         return Ok((None, tokens));
     };
     let inside = room_inside(room, rest)?;
-    let (row, rest) = expression(alloc, inside, rest)?;
-    let rest = close(Sign::RightBracket, rest)?;
-    let (column, rest) = index(alloc, room, rest)?;
+    let (row, rest) = read!(expression(alloc, inside, rest));
+    let rest = read!(close(Sign::RightBracket, rest), row);
+    let (column, rest) = read!(index(alloc, room, rest), row);
     Ok((Some(Element { row, column }), rest))
 }
 
 /// Reads an index in square brackets, where there is one.
-#[cycle(expression)]
 fn index(
     alloc: Global,
     room: u32,
@@ -162,8 +184,8 @@ fn index(
         return Ok((None, tokens));
     };
     let inside = room_inside(room, rest)?;
-    let (index, rest) = expression(alloc, inside, rest)?;
-    let rest = close(Sign::RightBracket, rest)?;
+    let (index, rest) = read!(expression(alloc, inside, rest));
+    let rest = read!(close(Sign::RightBracket, rest), index);
     Ok((Some(index), rest))
 }
 
@@ -180,8 +202,8 @@ fn rows(
     ensures { Parses print.expression expression_tree an_expression room (first ∷ tokens.now) result }
 {
     let (inside, rest) = open(room, Sign::LeftParen, tokens)?;
-    let (queue, rest) = queue(alloc, inside, rest)?;
-    let rest = close(Sign::RightParen, rest)?;
+    let (queue, rest) = read!(queue(alloc, inside, rest));
+    let rest = read!(close(Sign::RightParen, rest));
     let at = first.at;
     Ok((Expression::Rows { at, queue }, rest))
 }
@@ -198,8 +220,8 @@ fn item(
     requires { first.token ≡ Token.Sign Sign.AtRow }
     ensures { Parses print.expression expression_tree an_expression room (first ∷ tokens.now) result }
 {
-    let (QueueRow { queue, row }, rest) = row(alloc, room, tokens)?;
-    let rest = sign(Sign::Dot, rest)?;
+    let (QueueRow { queue, row }, rest) = read!(row(alloc, room, tokens));
+    let rest = read!(sign(Sign::Dot, rest));
     let (label, rest) = read!(name(rest));
     let at = first.at;
     Ok((
@@ -226,9 +248,8 @@ fn size(
     ensures { Parses print.expression expression_tree an_expression room (first ∷ tokens.now) result }
 {
     let (inside, rest) = open(room, Sign::LeftParen, tokens)?;
-    let (message, rest) = message(alloc, inside, rest)?;
-    let rest = close(Sign::RightParen, rest)?;
-    let message = Box::new(alloc, message)?;
+    let (message, rest) = read!(boxed_message(alloc, inside, rest));
+    let rest = read!(close(Sign::RightParen, rest));
     let at = first.at;
     Ok((Expression::Size { at, message }, rest))
 }
@@ -247,9 +268,8 @@ fn apply(
     ensures { Parses print.expression expression_tree an_expression room (first ∷ tokens.now) result }
 {
     let (inside, rest) = open(room, Sign::LeftParen, tokens)?;
-    let (operand, rest) = expression(alloc, inside, rest)?;
-    let rest = close(Sign::RightParen, rest)?;
-    let operand = Box::new(alloc, operand)?;
+    let (operand, rest) = read!(boxed(alloc, inside, rest));
+    let rest = read!(close(Sign::RightParen, rest));
     let at = first.at;
     Ok((
         Expression::Apply {
@@ -274,11 +294,10 @@ fn pick(
     ensures { Parses print.expression expression_tree an_expression room (first ∷ tokens.now) result }
 {
     let (inside, rest) = open(room, Sign::LeftParen, tokens)?;
-    let (condition, rest) = expression(alloc, inside, rest)?;
-    let rest = sign(Sign::Comma, rest)?;
-    let (Pair { first: one, second }, rest) = two_expressions(alloc, inside, rest)?;
-    let rest = close(Sign::RightParen, rest)?;
-    let condition = Box::new(alloc, condition)?;
+    let (condition, rest) = read!(boxed(alloc, inside, rest));
+    let rest = read!(sign(Sign::Comma, rest));
+    let (Pair { first: one, second }, rest) = read!(two_expressions(alloc, inside, rest));
+    let rest = read!(close(Sign::RightParen, rest));
     let at = first.at;
     Ok((
         Expression::Pick {
@@ -296,11 +315,9 @@ fn pick(
 fn two_expressions(alloc: Global, room: u32, tokens: &[Lexed]) -> Result<(Pair, &[Lexed]), Fault>
     ensures { ParsesAll print_pair pair_tree (an_expression ∷ one Comma ∷ an_expression ∷ []) room tokens.now result }
 {
-    let (first, rest) = expression(alloc, room, tokens)?;
-    let rest = sign(Sign::Comma, rest)?;
-    let (second, rest) = expression(alloc, room, rest)?;
-    let first = Box::new(alloc, first)?;
-    let second = Box::new(alloc, second)?;
+    let (first, rest) = read!(boxed(alloc, room, tokens));
+    let rest = read!(sign(Sign::Comma, rest));
+    let (second, rest) = read!(boxed(alloc, room, rest));
     Ok((Pair { first, second }, rest))
 }
 
@@ -310,11 +327,7 @@ pub fn queue(alloc: Global, room: u32, tokens: &[Lexed]) -> Result<(Queue, &[Lex
     ensures { ParsesAll print.queue queue_tree (a_name ∷ an_index ∷ []) room tokens.now result }
 {
     let (name, rest) = read!(name(tokens));
-    let (index, rest) = index(alloc, room, rest)?;
-    let Some(index) = index else {
-        return Ok((Queue { name, index: None }, rest));
-    };
-    let index = Some(Box::new(alloc, index)?);
+    let (index, rest) = read!(boxed_index(alloc, room, rest));
     Ok((Queue { name, index }, rest))
 }
 
@@ -324,11 +337,10 @@ fn row(alloc: Global, room: u32, tokens: &[Lexed]) -> Result<(QueueRow, &[Lexed]
     ensures { ParsesAll print_row row_tree (one LeftParen ∷ a_name ∷ an_index ∷ one Comma ∷ an_expression ∷ one RightParen ∷ []) room tokens.now result }
 {
     let (inside, rest) = open(room, Sign::LeftParen, tokens)?;
-    let (queue, rest) = queue(alloc, inside, rest)?;
-    let rest = sign(Sign::Comma, rest)?;
-    let (row, rest) = expression(alloc, inside, rest)?;
-    let rest = close(Sign::RightParen, rest)?;
-    let row = Box::new(alloc, row)?;
+    let (queue, rest) = read!(queue(alloc, inside, rest));
+    let rest = read!(sign(Sign::Comma, rest));
+    let (row, rest) = read!(boxed(alloc, inside, rest));
+    let rest = read!(close(Sign::RightParen, rest));
     Ok((QueueRow { queue, row }, rest))
 }
 
@@ -345,8 +357,22 @@ fn message(
         let (name, rest) = read!(name(tokens));
         return Ok((MessageExpression::Bare(name), rest));
     }
-    let (built, rest) = built(alloc, room, tokens)?;
+    let (built, rest) = read!(built(alloc, room, tokens));
     Ok((MessageExpression::Built(built), rest))
+}
+
+/// Reads a message into a box.
+#[cycle(expression)]
+fn boxed_message(
+    alloc: Global,
+    room: u32,
+    tokens: &[Lexed],
+) -> Result<(Box<MessageExpression>, &[Lexed]), Fault>
+    ensures { Parses print.message (λ m. message_tree m.value) a_message room tokens.now result }
+{
+    let (value, rest) = read!(message(alloc, room, tokens));
+    let value = Box::new(alloc, value)?;
+    Ok((value, rest))
 }
 
 /// Whether the next token is a name.
@@ -390,7 +416,7 @@ fn held(
     requires { first.token ≡ Token.Sign Sign.Held }
     ensures { Parses print.built built_tree a_built room (first ∷ tokens.now) result }
 {
-    let (QueueRow { queue, row }, rest) = row(alloc, room, tokens)?;
+    let (QueueRow { queue, row }, rest) = read!(row(alloc, room, tokens));
     let at = first.at;
     Ok((Built::Held { at, queue, row }, rest))
 }
@@ -403,17 +429,16 @@ fn cut(alloc: Global, room: u32, first: Lexed, tokens: &[Lexed]) -> Result<(Buil
     ensures { Parses print.built built_tree a_built room (first ∷ tokens.now) result }
 {
     let (inside, rest) = open(room, Sign::LeftParen, tokens)?;
-    let (message, rest) = message(alloc, inside, rest)?;
-    let rest = sign(Sign::Comma, rest)?;
+    let (message, rest) = read!(boxed_message(alloc, inside, rest));
+    let rest = read!(sign(Sign::Comma, rest));
     let (
         Pair {
             first: from,
             second: length,
         },
         rest,
-    ) = two_expressions(alloc, inside, rest)?;
-    let rest = close(Sign::RightParen, rest)?;
-    let message = Box::new(alloc, message)?;
+    ) = read!(two_expressions(alloc, inside, rest));
+    let rest = read!(close(Sign::RightParen, rest));
     let at = first.at;
     Ok((
         Built::Cut {
@@ -439,12 +464,10 @@ fn tail(
     ensures { Parses print.built built_tree a_built room (first ∷ tokens.now) result }
 {
     let (inside, rest) = open(room, Sign::LeftParen, tokens)?;
-    let (message, rest) = message(alloc, inside, rest)?;
-    let rest = sign(Sign::Comma, rest)?;
-    let (from, rest) = expression(alloc, inside, rest)?;
-    let rest = close(Sign::RightParen, rest)?;
-    let message = Box::new(alloc, message)?;
-    let from = Box::new(alloc, from)?;
+    let (message, rest) = read!(boxed_message(alloc, inside, rest));
+    let rest = read!(sign(Sign::Comma, rest));
+    let (from, rest) = read!(boxed(alloc, inside, rest));
+    let rest = read!(close(Sign::RightParen, rest));
     let at = first.at;
     Ok((Built::Tail { at, message, from }, rest))
 }
@@ -462,12 +485,10 @@ fn join(
     ensures { Parses print.built built_tree a_built room (first ∷ tokens.now) result }
 {
     let (inside, rest) = open(room, Sign::LeftParen, tokens)?;
-    let (one, rest) = message(alloc, inside, rest)?;
-    let rest = sign(Sign::Comma, rest)?;
-    let (second, rest) = message(alloc, inside, rest)?;
-    let rest = close(Sign::RightParen, rest)?;
-    let one = Box::new(alloc, one)?;
-    let second = Box::new(alloc, second)?;
+    let (one, rest) = read!(boxed_message(alloc, inside, rest));
+    let rest = read!(sign(Sign::Comma, rest));
+    let (second, rest) = read!(boxed_message(alloc, inside, rest));
+    let rest = read!(close(Sign::RightParen, rest));
     let at = first.at;
     Ok((
         Built::Join {

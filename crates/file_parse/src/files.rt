@@ -66,10 +66,10 @@ fn layer_body(
     ensures shorter { IfOk result (λ r. length r.1.now ≤ length tokens.now) }
 {
     let (name, rest) = read!(name(tokens));
-    let (inside, rest) = open(room, Sign::LeftBrace, rest)?;
-    let (declarations, rest) = declarations(alloc, inside, rest)?;
-    let (handlers, rest) = handlers(alloc, inside, rest)?;
-    let rest = close(Sign::RightBrace, rest)?;
+    let (inside, rest) = read!(open(room, Sign::LeftBrace, rest));
+    let (declarations, rest) = read!(declarations(alloc, inside, rest));
+    let (handlers, rest) = read!(handlers(alloc, inside, rest), declarations);
+    let rest = read!(close(Sign::RightBrace, rest), declarations, handlers);
     let at = first.at;
     Ok((
         Layer {

@@ -24,7 +24,7 @@ pub fn handlers(
     let mut all = Vec::new(alloc);
     let mut rest = tokens;
     while begins_handler(rest) {
-        let (next, behind) = handler(alloc, room, rest)?;
+        let (next, behind) = read!(handler(alloc, room, rest));
         all.push(next)?;
         rest = behind;
     }
@@ -68,11 +68,11 @@ fn handling(
     ensures read { Parses print.handler handler_tree a_handler room (first ∷ tokens.now) result }
     ensures shorter { IfOk result (λ r. length r.1.now ≤ length tokens.now) }
 {
-    let (kind, rest) = kind(tokens)?;
-    let (names, rest) = names_in_parentheses(alloc, room, rest)?;
-    let (popped, rest) = popped(alloc, room, rest)?;
-    let (expected, rest) = expected(alloc, room, rest)?;
-    let (block, rest) = block(alloc, room, rest)?;
+    let (kind, rest) = read!(kind(tokens));
+    let (names, rest) = read!(names_in_parentheses(alloc, room, rest));
+    let (popped, rest) = read!(popped(alloc, room, rest), names);
+    let (expected, rest) = read!(expected(alloc, room, rest), names, popped);
+    let (block, rest) = read!(block(alloc, room, rest), names, popped, expected);
     let at = first.at;
     Ok((
         Handler {
@@ -96,7 +96,7 @@ fn popped(alloc: Global, room: u32, tokens: &[Lexed]) -> Result<(Option<Popped>,
         return Ok((None, tokens));
     };
     let (name, rest) = read!(name(rest));
-    let (fields, rest) = some_names_in_parentheses(alloc, room, rest)?;
+    let (fields, rest) = read!(some_names_in_parentheses(alloc, room, rest));
     Ok((Some(Popped { name, fields }), rest))
 }
 
@@ -126,6 +126,6 @@ fn common(
     requires { first.token ≡ Token.Sign Sign.Common }
     ensures { Parses print.expected expected_tree an_expected room (first ∷ tokens.now) result }
 {
-    let (condition, rest) = expression(alloc, room, tokens)?;
+    let (condition, rest) = read!(expression(alloc, room, tokens));
     Ok((Expected::Common(condition), rest))
 }

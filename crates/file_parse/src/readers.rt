@@ -17,12 +17,22 @@ pub enum Fault {
     Memory,
 }
 
-/// What was read, as `?` gives it. The check knows no `?` at a name beside a reference.
+/// What was read, as `?` gives it. The check knows no `?` at a name beside a reference. Values behind it are let go by a call before
+/// the reader leaves: where they are let go in place, each exit costs the check what all their forms cost.
 macro_rules! read {
     ($result:expr) => {
         match $result {
             Ok(read) => read,
             Err(fault) => return Err(fault),
+        }
+    };
+    ($result:expr, $($held:ident),+) => {
+        match $result {
+            Ok(read) => read,
+            Err(fault) => {
+                $(drop($held);)+
+                return Err(fault);
+            }
         }
     };
 }

@@ -21,9 +21,9 @@ use std::alloc::Global;
 pub fn block(alloc: Global, room: u32, tokens: &[Lexed]) -> Result<(Block, &[Lexed]), Fault>
     ensures { ParsesAll print.block block_tree a_block room tokens.now result }
 {
-    let (inside, rest) = open(room, Sign::LeftBrace, tokens)?;
-    let (statements, rest) = statements(alloc, inside, rest)?;
-    let rest = close(Sign::RightBrace, rest)?;
+    let (inside, rest) = read!(open(room, Sign::LeftBrace, tokens));
+    let (statements, rest) = read!(statements(alloc, inside, rest));
+    let rest = read!(close(Sign::RightBrace, rest), statements);
     Ok((Block { statements }, rest))
 }
 
@@ -94,9 +94,7 @@ fn bind(
     ensures shorter { IfOk result (λ r. length r.1.now ≤ length tokens.now) }
 {
     let (name, rest) = read!(name(tokens));
-    let rest = sign(Sign::Assign, rest)?;
-    let (value, rest) = expression(alloc, room, rest)?;
-    let rest = sign(Sign::Semicolon, rest)?;
+    let (value, rest) = read!(assigned(alloc, room, rest));
     let at = first.at;
     Ok((Statement::Let { at, name, value }, rest))
 }
@@ -115,7 +113,7 @@ fn set(
 {
     let (name, rest) = read!(name(tokens));
     let Some(_) = past(Sign::LeftBracket, rest) else {
-        let (value, rest) = assigned(alloc, room, rest)?;
+        let (value, rest) = read!(assigned(alloc, room, rest));
         let at = first.at;
         let index = None;
         return Ok((
@@ -128,8 +126,8 @@ fn set(
             rest,
         ));
     };
-    let (indices, rest) = indices(alloc, room, rest)?;
-    let (value, rest) = assigned(alloc, room, rest)?;
+    let (indices, rest) = read!(indices(alloc, room, rest));
+    let (value, rest) = read!(assigned(alloc, room, rest), indices);
     Ok((assignment(first.at, name, indices, value), rest))
 }
 
@@ -137,9 +135,9 @@ fn set(
 fn assigned(alloc: Global, room: u32, tokens: &[Lexed]) -> Result<(Expression, &[Lexed]), Fault>
     ensures { ParsesAll print_assigned expression_tree (one Assign ∷ an_expression ∷ one Semicolon ∷ []) room tokens.now result }
 {
-    let rest = sign(Sign::Assign, tokens)?;
-    let (value, rest) = expression(alloc, room, rest)?;
-    let rest = sign(Sign::Semicolon, rest)?;
+    let rest = read!(sign(Sign::Assign, tokens));
+    let (value, rest) = read!(expression(alloc, room, rest));
+    let rest = read!(sign(Sign::Semicolon, rest), value);
     Ok((value, rest))
 }
 
@@ -186,9 +184,9 @@ fn push(
     ensures read { Parses print.statement statement_tree a_statement room (first ∷ tokens.now) result }
     ensures shorter { IfOk result (λ r. length r.1.now ≤ length tokens.now) }
 {
-    let (queue, rest) = queue(alloc, room, tokens)?;
-    let (items, rest) = arguments_in_parentheses(alloc, room, rest)?;
-    let (otherwise, rest) = else_block(alloc, room, rest)?;
+    let (queue, rest) = read!(queue(alloc, room, tokens));
+    let (items, rest) = read!(arguments_in_parentheses(alloc, room, rest), queue);
+    let (otherwise, rest) = read!(else_block(alloc, room, rest), queue, items);
     let at = first.at;
     Ok((
         Statement::Push {
@@ -214,10 +212,10 @@ fn take(
     ensures read { Parses print.statement statement_tree a_statement room (first ∷ tokens.now) result }
     ensures shorter { IfOk result (λ r. length r.1.now ≤ length tokens.now) }
 {
-    let (queue, rest) = queue(alloc, room, tokens)?;
-    let (names, rest) = names_in_parentheses(alloc, room, rest)?;
-    let (block, rest) = block(alloc, room, rest)?;
-    let (otherwise, rest) = else_block(alloc, room, rest)?;
+    let (queue, rest) = read!(queue(alloc, room, tokens));
+    let (names, rest) = read!(names_in_parentheses(alloc, room, rest), queue);
+    let (block, rest) = read!(block(alloc, room, rest), queue, names);
+    let (otherwise, rest) = read!(else_block(alloc, room, rest), queue, names, block);
     let at = first.at;
     Ok((
         Statement::Take {
@@ -254,9 +252,9 @@ fn condition(
     ensures shorter { IfOk result (λ r. length r.1.now ≤ length tokens.now) }
 {
     let (likely, rest) = likely(tokens);
-    let (condition, rest) = expression(alloc, room, rest)?;
-    let (block, rest) = block(alloc, room, rest)?;
-    let (otherwise, rest) = otherwise(alloc, room, rest)?;
+    let (condition, rest) = read!(expression(alloc, room, rest));
+    let (block, rest) = read!(block(alloc, room, rest), condition);
+    let (otherwise, rest) = read!(otherwise(alloc, room, rest), condition, block);
     Ok((
         decision(first.at, likely, condition, block, otherwise),
         rest,
@@ -332,11 +330,11 @@ fn each(
     ensures shorter { IfOk result (λ r. length r.1.now ≤ length tokens.now) }
 {
     let (name, rest) = read!(name(tokens));
-    let rest = sign(Sign::Below, rest)?;
-    let (below, rest) = expression(alloc, room, rest)?;
-    let rest = sign(Sign::Max, rest)?;
-    let (most, rest) = read!(size(rest));
-    let (block, rest) = block(alloc, room, rest)?;
+    let rest = read!(sign(Sign::Below, rest));
+    let (below, rest) = read!(expression(alloc, room, rest));
+    let rest = read!(sign(Sign::Max, rest), below);
+    let (most, rest) = read!(size(rest), below);
+    let (block, rest) = read!(block(alloc, room, rest), below);
     let at = first.at;
     Ok((
         Statement::Each {
@@ -363,10 +361,10 @@ fn emission(
     ensures read { Parses print.statement statement_tree a_statement room (first ∷ tokens.now) result }
     ensures shorter { IfOk result (λ r. length r.1.now ≤ length tokens.now) }
 {
-    let (kind, rest) = kind(tokens)?;
-    let (arguments, rest) = arguments_in_parentheses(alloc, room, rest)?;
-    let (pushed, rest) = pushed(alloc, room, rest)?;
-    let rest = sign(Sign::Semicolon, rest)?;
+    let (kind, rest) = read!(kind(tokens));
+    let (arguments, rest) = read!(arguments_in_parentheses(alloc, room, rest));
+    let (pushed, rest) = read!(pushed(alloc, room, rest), arguments);
+    let rest = read!(sign(Sign::Semicolon, rest), arguments, pushed);
     let at = first.at;
     Ok((
         Statement::Emit {

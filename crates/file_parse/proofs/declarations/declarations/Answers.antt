@@ -4,5 +4,5 @@ use Rattle.file_parse.proofs.declarations.declarations.Goals as goal
 pub loop-alloc-preserved : goal.loop-alloc-preserved
 loop-alloc-preserved c =
     rw c.in_ok-push.ensures.items (
-    declaration_gathered _ _ _ _ _ _ c.loop-alloc.invariant c.loop-alloc-test.ensures c.in_ok-next.ensures.read
+    declaration_gathered _ _ _ _ _ _ c.loop-alloc.invariant c.loop-alloc-test.ensures c.in-Ok.ensures.read
     )

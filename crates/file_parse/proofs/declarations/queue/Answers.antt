@@ -1,5 +1,4 @@
 use Rattle.std.proofs.Common.{[], ◌∷◌, ◌∙◌}
-use Rattle.std.proofs.lemmas.Result.{err_from_is_err_and}
 use Rattle.layer_ast.specs.declared.tokens.Sign.TheVariants as sign
 use Rattle.layer_ast.specs.declared.tokens.Token.TheVariants as token
 use Rattle.layer_ast.specs.Print as print
@@ -9,14 +8,12 @@ use Rattle.file_parse.specs.Parts.{print_items}
 use Rattle.file_parse.proofs.Exits.{starts, fault_passes}
 use Rattle.file_parse.proofs.declarations.queue.Goals as goal
 
-pub returns-in_err-items-clause-read : goal.returns-in_err-items-clause-read
-returns-in_err-items-clause-read c =
-    let p = err_from_is_err_and c.from_residual.result c.from_residual.ensures.1 in
-    rw (p.1, p.2) (
+pub returns-in-Err-items-clause-read : goal.returns-in-Err-items-clause-read
+returns-in-Err-items-clause-read c =
     fault_passes print_items items_tree
     (one sign.Of ∷ one sign.LeftParen ∷ a_name ∷ one sign.Colon ∷ a_sort ∷ more_items ∷ one sign.RightParen
     ∷ one sign.Semicolon ∷ []) c.args.room c.in-Ok-capacity.read.1.now print.declaration declaration_tree (a_declaration ∷ [])
-    c.args.room (c.args.first ∷ c.args.second ∷ c.args.tokens.now) c.in_err-items.field-0.0 c.in_err-items.ensures
+    c.args.room (c.args.first ∷ c.args.second ∷ c.args.tokens.now) c.in-Err-items.fault c.in-Err-items.ensures
     (λ n refused.
     record {
       stops = λ stack.
@@ -29,4 +26,3 @@ returns-in_err-items-clause-read c =
           ∙ (c.in-Ok.ensures.goes_on c.args.room (one sign.LeftBracket ∷ a_capacity ∷ one sign.RightBracket ∷ behind)
           ∙ (c.in-Ok-capacity.ensures.goes_on behind ∙ refused.stops stack)));
     })
-    )

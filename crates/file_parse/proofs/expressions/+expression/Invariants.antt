@@ -5,7 +5,16 @@ abbrev pub decreases-apply : goal.decreases-apply
 decreases-apply l = 4 * length l.tokens.now + 1
 
 abbrev pub decreases-binary : goal.decreases-binary
-decreases-binary l = 4 * length l.tokens.now + 1
+decreases-binary l = 4 * length l.tokens.now + 2
+
+abbrev pub decreases-boxed : goal.decreases-boxed
+decreases-boxed l = 4 * length l.tokens.now + 1
+
+abbrev pub decreases-boxed_index : goal.decreases-boxed_index
+decreases-boxed_index l = 4 * length l.tokens.now
+
+abbrev pub decreases-boxed_message : goal.decreases-boxed_message
+decreases-boxed_message l = 4 * length l.tokens.now + 2
 
 abbrev pub decreases-built : goal.decreases-built
 decreases-built l = 4 * length l.tokens.now
@@ -18,12 +27,6 @@ decreases-expression l = 4 * length l.tokens.now
 
 abbrev pub decreases-held : goal.decreases-held
 decreases-held l = 4 * length l.tokens.now + 1
-
-abbrev pub decreases-index : goal.decreases-index
-decreases-index l = 4 * length l.tokens.now
-
-abbrev pub decreases-indices : goal.decreases-indices
-decreases-indices l = 4 * length l.tokens.now
 
 abbrev pub decreases-item : goal.decreases-item
 decreases-item l = 4 * length l.tokens.now + 1
@@ -38,7 +41,7 @@ abbrev pub decreases-named : goal.decreases-named
 decreases-named l = 4 * length l.tokens.now + 1
 
 abbrev pub decreases-two_expressions : goal.decreases-two_expressions
-decreases-two_expressions l = 4 * length l.tokens.now + 1
+decreases-two_expressions l = 4 * length l.tokens.now + 2
 
 abbrev pub decreases-pick : goal.decreases-pick
 decreases-pick l = 4 * length l.tokens.now + 1

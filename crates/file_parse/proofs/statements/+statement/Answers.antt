@@ -1,5 +1,4 @@
 use Rattle.std.proofs.Common.{[], ◌∷◌, ◌++◌, ◌∙◌}
-use Rattle.std.proofs.lemmas.Result.{err_from_is_err_and}
 use Rattle.layer_ast.specs.declared.tokens.Sign.TheVariants as sign
 use Rattle.layer_ast.specs.declared.tokens.Token.TheVariants as token
 use Rattle.layer_ast.specs.Print as print
@@ -16,20 +15,17 @@ statements-loop-alloc-preserved t c =
     statement_gathered _ _ _ _ _ _ c.loop-alloc.invariant c.loop-alloc-test.ensures c.in_ok-next.ensures.read
     )
 
-pub take-returns-in_err-otherwise-clause-read : goal.take-returns-in_err-otherwise-clause-read
-take-returns-in_err-otherwise-clause-read t c =
-    let p = err_from_is_err_and c.from_residual-in_err-otherwise.result c.from_residual-in_err-otherwise.ensures.1 in
-    rw (p.1, p.2) (
-    fault_passes block_behind_else block_tree (one sign.Else ∷ a_block) c.args.room c.in_ok-block.rest.now print.statement
-    statement_tree (a_statement ∷ []) c.args.room (c.args.first ∷ c.args.tokens.now) c.in_err-otherwise.field-0.0
-    c.in_err-otherwise.ensures
+pub take-returns-in-Err-else_block-clause-read : goal.take-returns-in-Err-else_block-clause-read
+take-returns-in-Err-else_block-clause-read t c =
+    fault_passes block_behind_else block_tree (one sign.Else ∷ a_block) c.args.room c.in-Ok-block.read.1.now print.statement
+    statement_tree (a_statement ∷ []) c.args.room (c.args.first ∷ c.args.tokens.now) c.in-Err-else_block.fault
+    c.in-Err-else_block.ensures
     (λ n refused.
     record {
       stops = λ stack.
           let behind = one sign.Else ∷ a_block ++ stack in
           starts a_statement c.args.first (token.Sign sign.Take) c.args.tokens.now c.args.room stack c.requires
-          ∙ (c.in_ok-queue.ensures.goes_on (one sign.LeftParen ∷ a_name ∷ more_names ∷ one sign.RightParen ∷ a_block ++ behind)
-          ∙ (c.in_ok-names.ensures.goes_on (a_block ++ behind)
-          ∙ (c.in_ok-block.ensures.goes_on behind ∙ refused.stops stack)));
+          ∙ (c.in-Ok.ensures.goes_on (one sign.LeftParen ∷ a_name ∷ more_names ∷ one sign.RightParen ∷ a_block ++ behind)
+          ∙ (c.in-Ok-names_in_parentheses.ensures.goes_on (a_block ++ behind)
+          ∙ (c.in-Ok-block.ensures.goes_on behind ∙ refused.stops stack)));
     })
-    )
