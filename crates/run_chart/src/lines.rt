@@ -46,7 +46,6 @@ pub(crate) fn in_range<'t, 'a>(range: Range, texts: &'t [&'a [u8]]) -> &'t [&'a 
 }
 
 /// The lines of a picture that begins with the line of this number.
-#[tactic(auto, using(crate::proofs::Loops::placed_on))]
 pub(crate) fn placed<'a>(
     alloc: Global,
     first: u32,

@@ -10,7 +10,7 @@ ghost use Rattle.run_chart.specs.Reading.{line_shown, says_shown};
 use crate::lines::Line;
 use crate::place::down;
 use crate::says::Says;
-use crate::text::Text;
+use crate::text::{Ends, Text};
 use chart_mean::Sent;
 use std::alloc::{AllocError, Global};
 use std::collections::HashMap;
@@ -63,8 +63,7 @@ fn draw_mark(sent: Option<Sent>, line: &Line<'_>, text: &mut Text) -> Result<(),
 fn draw_title(line: &Line<'_>, text: &mut Text) -> Result<(), AllocError>
     ensures { OnOk result (text.new ≡ text.old ++ spec.title (line_shown line.now)) }
 {
-    text.put(b"<g id='L")?;
-    text.number(line.number)?;
+    text.put_number(b"<g id='L", line.number)?;
     text.put(b"'><title>")?;
     text.escaped(line.text)?;
     text.put(b"</title>")
@@ -77,12 +76,13 @@ fn draw_arrow(sent: Option<Sent>, x: u64, y: u64, text: &mut Text) -> Result<(),
     let Some(sent) = sent else {
         return Ok(());
     };
-    text.put(b"<line class='arrow'")?;
-    text.attribute(b"x1", sent.x)?;
-    text.attribute(b"y1", down(u32::from(sent.member)))?;
-    text.attribute(b"x2", x)?;
-    text.attribute(b"y2", y)?;
-    text.put(b"/>")
+    let ends = Ends {
+        x1: sent.x,
+        y1: down(u32::from(sent.member)),
+        x2: x,
+        y2: y,
+    };
+    text.put_line(b"<line class='arrow'", ends, b"/>")
 }
 
 /// Appends a line's sign.

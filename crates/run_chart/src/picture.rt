@@ -11,7 +11,7 @@ use crate::marks::draw_marks;
 use crate::place::{AXIS, LEFT, down};
 use crate::rows::draw_rows;
 use crate::style::style;
-use crate::text::Text;
+use crate::text::{Ends, Text};
 use chart_mean::{Ending, Range};
 use run_audit::{AuditError, Law, audit};
 use std::alloc::{AllocError, Global};
@@ -83,10 +83,8 @@ fn draw_opening(width: u64, height: u64, text: &mut Text) -> Result<(), AllocErr
     text.put(b"<svg xmlns='http://www.w3.org/2000/svg'")?;
     text.attribute(b"width", width)?;
     text.attribute(b"height", height)?;
-    text.put(b" viewBox='0 0 ")?;
-    text.number(width)?;
-    text.put(b" ")?;
-    text.number(height)?;
+    text.put_number(b" viewBox='0 0 ", width)?;
+    text.put_number(b" ", height)?;
     text.put(b"'>\n")
 }
 
@@ -94,10 +92,11 @@ fn draw_opening(width: u64, height: u64, text: &mut Text) -> Result<(), AllocErr
 fn draw_axis(end: u64, text: &mut Text) -> Result<(), AllocError>
     ensures { OnOk result (text.new ≡ text.old ++ spec.axis_line end) }
 {
-    text.put(b"<line class='axis'")?;
-    text.attribute(b"x1", LEFT)?;
-    text.attribute(b"y1", AXIS)?;
-    text.attribute(b"x2", end)?;
-    text.attribute(b"y2", AXIS)?;
-    text.put(b"/>\n")
+    let ends = Ends {
+        x1: LEFT,
+        y1: AXIS,
+        x2: end,
+        y2: AXIS,
+    };
+    text.put_line(b"<line class='axis'", ends, b"/>\n")
 }

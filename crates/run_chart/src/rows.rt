@@ -1,5 +1,5 @@
 //! The rows of members.
-ghost use Rattle.std.specs.Prelude.{◌≡◌, ◌++◌, IfOk, OnOk, map};
+ghost use Rattle.std.specs.Prelude.{◌≡◌, ◌==◌, ◌++◌, IfOk, None, OnOk, Some, if◌then◌else◌, map};
 ghost use Rattle.chart_mean.specs.Row as spec;
 ghost use Rattle.run_chart.specs.Reading.{line_shown, says_shown};
 ghost use Rattle.run_chart.specs.Turns.{TurnsTo};
@@ -7,7 +7,7 @@ ghost use Rattle.run_chart.specs.Turns.{TurnsTo};
 use crate::lines::Line;
 use crate::place::{LEFT, down};
 use crate::says::Says;
-use crate::text::Text;
+use crate::text::{Ends, Text};
 use chart_mean::{Stay, Turn};
 use std::alloc::AllocError;
 
@@ -41,11 +41,8 @@ fn draw_row(member: u32, end: u64, lines: &[Line<'_>], text: &mut Text) -> Resul
 fn draw_heading(member: u32, text: &mut Text) -> Result<(), AllocError>
     ensures { OnOk result (text.new ≡ text.old ++ spec.heading member) }
 {
-    text.put(b"<text class='member'")?;
-    text.attribute(b"x", LEFT - 12)?;
-    text.attribute(b"y", down(member) + 5)?;
-    text.put(b">")?;
-    text.number(u64::from(member))?;
+    text.put_at(b"<text class='member'", LEFT - 12, down(member) + 5)?;
+    text.put_number(b">", u64::from(member))?;
     text.put(b"</text>\n")
 }
 
@@ -83,9 +80,20 @@ fn stay_of(member: u32, says: &Says<'_>) -> Option<Stay>
     ensures { result ≡ spec.stay_of member (says_shown says.now) }
 {
     match *says {
-        Says::View(m, ltime, mask) if u32::from(m) == member => Some(Stay::View(ltime, mask)),
-        Says::Out(m) if u32::from(m) == member => Some(Stay::Out),
+        Says::View(told, ltime, mask) => stay_at(member, told, Stay::View(ltime, mask)),
+        Says::Out(told) => stay_at(member, told, Stay::Out),
         _ => None,
+    }
+}
+
+/// A stay that is told of a member, if it is this one.
+fn stay_at(member: u32, told: u8, stay: Stay) -> Option<Stay>
+    ensures { result ≡ (if told == member then Some stay else None) }
+{
+    if u32::from(told) == member {
+        Some(stay)
+    } else {
+        None
     }
 }
 
@@ -116,8 +124,7 @@ fn draw_untold(member: u32, x: u64, end: u64, text: &mut Text) -> Result<(), All
 fn draw_view(member: u32, x: u64, end: u64, ltime: u32, text: &mut Text) -> Result<(), AllocError>
     ensures { OnOk result (text.new ≡ text.old ++ spec.tinted member x end ltime) }
 {
-    text.put(b"<g class='view")?;
-    text.number(u64::from(ltime % TINTS))?;
+    text.put_number(b"<g class='view", u64::from(ltime % TINTS))?;
     text.put(b"'>")?;
     draw_band(member, x, end, text)
 }
@@ -126,9 +133,7 @@ fn draw_view(member: u32, x: u64, end: u64, ltime: u32, text: &mut Text) -> Resu
 fn draw_band(member: u32, x: u64, end: u64, text: &mut Text) -> Result<(), AllocError>
     ensures { OnOk result (text.new ≡ text.old ++ spec.band member x end) }
 {
-    text.put(b"<rect")?;
-    text.attribute(b"x", x)?;
-    text.attribute(b"y", down(member) - 12)?;
+    text.put_at(b"<rect", x, down(member) - 12)?;
     text.attribute(b"width", end.saturating_sub(x))?;
     text.put(b" height='24'/>")?;
     draw_midst(member, x, end, text)
@@ -137,24 +142,22 @@ fn draw_band(member: u32, x: u64, end: u64, text: &mut Text) -> Result<(), Alloc
 fn draw_midst(member: u32, x: u64, end: u64, text: &mut Text) -> Result<(), AllocError>
     ensures { OnOk result (text.new ≡ text.old ++ spec.midst member x end) }
 {
-    text.put(b"<line")?;
-    text.attribute(b"x1", x)?;
-    text.attribute(b"y1", down(member))?;
-    text.attribute(b"x2", end)?;
-    text.attribute(b"y2", down(member))?;
-    text.put(b"/>")
+    let y = down(member);
+    let ends = Ends {
+        x1: x,
+        y1: y,
+        x2: end,
+        y2: y,
+    };
+    text.put_line(b"<line", ends, b"/>")
 }
 
 /// Appends a band's label: the view's logical time and its mask.
 fn draw_label(member: u32, x: u64, ltime: u32, mask: u32, text: &mut Text) -> Result<(), AllocError>
     ensures { OnOk result (text.new ≡ text.old ++ spec.label member x ltime mask) }
 {
-    text.put(b"<text")?;
-    text.attribute(b"x", x)?;
-    text.attribute(b"y", down(member) - 16)?;
-    text.put(b" dx='4'>view ")?;
-    text.number(u64::from(ltime))?;
-    text.put(b" mask ")?;
-    text.number(u64::from(mask))?;
+    text.put_at(b"<text", x, down(member) - 16)?;
+    text.put_number(b" dx='4'>view ", u64::from(ltime))?;
+    text.put_number(b" mask ", u64::from(mask))?;
     text.put(b"</text>")
 }

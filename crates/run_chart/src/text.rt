@@ -1,5 +1,5 @@
 //! Text as it is built up.
-ghost use Rattle.std.specs.Prelude.{◌≡◌, ◌++◌, [], OnOk};
+ghost use Rattle.std.specs.Prelude.{◌≡◌, ◌++◌, [], OnOk, codes};
 ghost use Rattle.std.specs.Fmt.{decimal};
 ghost use Rattle.chart_mean.specs.Escape.{escaped, escaped_byte};
 ghost use Rattle.chart_mean.specs.Mark.{numbered};
@@ -7,6 +7,15 @@ ghost use Rattle.chart_mean.specs.Mark.{numbered};
 use itoa::Buffer;
 use std::alloc::{AllocError, Global};
 use std::marker::Model;
+
+/// Where a line begins and ends.
+#[derive(Clone, Copy)]
+pub(crate) struct Ends {
+    pub x1: u64,
+    pub y1: u64,
+    pub x2: u64,
+    pub y2: u64,
+}
 
 /// The bytes of a text, which contracts see as a list.
 #[derive(Drop)]
@@ -42,8 +51,7 @@ impl Text {
     pub(crate) fn put(&mut self, bytes: &[u8]) -> Result<(), AllocError>
         ensures { OnOk result (self.new ≡ self.old ++ bytes.now) }
     {
-        self.bytes.extend_from_slice(bytes)?;
-        Ok(())
+        self.bytes.extend_from_slice(bytes)
     }
 
     /// Appends a number in decimal.
@@ -52,6 +60,42 @@ impl Text {
     {
         let mut buffer = Buffer::new();
         self.put(buffer.format(number).as_bytes())
+    }
+
+    /// Appends these bytes, and behind them a number in decimal.
+    pub(crate) fn put_number(&mut self, bytes: &[u8], number: u64) -> Result<(), AllocError>
+        ensures { OnOk result (self.new ≡ self.old ++ (bytes.now ++ decimal number)) }
+    {
+        self.put(bytes)?;
+        self.number(number)
+    }
+
+    /// Appends what begins an element, and the place where that stands.
+    pub(crate) fn put_at(&mut self, opening: &[u8], x: u64, y: u64) -> Result<(), AllocError>
+        ensures { OnOk result (self.new ≡ self.old ++ (opening.now ++ numbered (codes "x") x ++ numbered (codes "y") y)) }
+    {
+        self.put(opening)?;
+        self.attribute(b"x", x)?;
+        self.attribute(b"y", y)
+    }
+
+    /// Appends a line.
+    pub(crate) fn put_line(
+        &mut self,
+        opening: &[u8],
+        ends: Ends,
+        closing: &[u8],
+    ) -> Result<(), AllocError>
+        ensures { OnOk result (self.new ≡ self.old ++ (opening.now
+            ++ numbered (codes "x1") ends.x1 ++ numbered (codes "y1") ends.y1 ++ numbered (codes "x2") ends.x2 ++ numbered (codes "y2") ends.y2
+            ++ closing.now)) }
+    {
+        self.put(opening)?;
+        self.attribute(b"x1", ends.x1)?;
+        self.attribute(b"y1", ends.y1)?;
+        self.attribute(b"x2", ends.x2)?;
+        self.attribute(b"y2", ends.y2)?;
+        self.put(closing)
     }
 
     /// Appends an attribute of a number.
