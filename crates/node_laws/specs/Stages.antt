@@ -8,7 +8,7 @@ use Rattle.script_mean.specs.declared.event.ScriptEvent.{ScriptEvent}
 use Rattle.script_mean.specs.declared.event.ScriptEvent.TheVariants.{Tick, Raw}
 use Rattle.script_mean.specs.declared.plan.NodePlan.{NodePlan}
 use Rattle.run_mean.specs.Journal.{Heard, datagram, silence, failure, planned_events}
-use Rattle.output_mean.specs.Output.{failures}
+use Rattle.group_mean.specs.Node.{failures}
 use Rattle.node_laws.specs.Doings.{Doing, does, asks, bears, asking, while_patient, doings_from}
 
 -- A node's plan, its own members and how many turns it makes.

@@ -17,8 +17,8 @@ use Rattle.run_mean.specs.Mode.{Mode}
 use Rattle.run_mean.specs.Journal.{failure, handed, node_lines, node_run, note_lines}
 use Rattle.run_mean.specs.Report.{end_line, moments}
 use Rattle.run_mean.specs.World.{World, happens}
-use Rattle.output_mean.specs.Output.{node_words}
-use Rattle.output_mean.specs.Output.{NodeWords, Surroundings, failures, handed_by, noted, played}
+use Rattle.group_mean.specs.Node.{node_words}
+use Rattle.group_mean.specs.Node.{NodeWords, Surroundings, failures, handed_by, noted, played}
 use Rattle.outside.specs.Lines.{Gains, Wrote}
 use Rattle.outside.specs.Tells as output
 use Rattle.outside.proofs.Gaining.{gains_then}

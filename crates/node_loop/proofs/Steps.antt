@@ -12,7 +12,7 @@ use Rattle.stack_mean.specs.Plan.{Plan}
 use Rattle.run_mean.specs.Journal.{Heard}
 use Rattle.run_mean.specs.Report.{end_line}
 use Rattle.run_mean.specs.World.{happens}
-use Rattle.output_mean.specs.Output.{failures}
+use Rattle.group_mean.specs.Node.{failures}
 use Rattle.outside.specs.Lines.{Gains, Wrote}
 use Rattle.outside.proofs.Gaining.{gains_then}
 use Rattle.group_feed.specs.Standing.{Peopled}

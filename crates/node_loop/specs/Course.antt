@@ -11,7 +11,7 @@ use Rattle.script_mean.specs.declared.event.ScriptEvent.{ScriptEvent}
 use Rattle.run_mean.specs.Journal.{Heard, failure}
 use Rattle.run_mean.specs.Report.{end_line}
 use Rattle.run_mean.specs.World.{World}
-use Rattle.output_mean.specs.Output.{failures}
+use Rattle.group_mean.specs.Node.{failures}
 use Rattle.outside.specs.Lines.{Gains}
 use Rattle.group_feed.specs.Standing.{Peopled}
 use Rattle.node_laws.specs.Acts.{Act, puts, acts_of, sends_in}

@@ -10,7 +10,7 @@ use Rattle.script_mean.specs.declared.plan.NodePlan.{NodePlan}
 use Rattle.stack_mean.specs.Plans.{plans_of}
 use Rattle.run_mean.specs.Journal.{Heard, failure, Handed, note_lines, node_lines}
 use Rattle.run_mean.specs.World.{World, first_world}
-use Rattle.output_mean.specs.Output.{Surroundings, NodeWords, failed, failures, noted, played, handed_by}
+use Rattle.group_mean.specs.Node.{Surroundings, NodeWords, failed, failures, noted, played, handed_by}
 use Rattle.run_mean.specs.Report.{end_line}
 use Rattle.outside.specs.Lines.{Gains, Wrote}
 use Rattle.outside.specs.Tells as sink_lines

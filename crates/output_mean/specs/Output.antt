@@ -1,5 +1,5 @@
 -- What each job writes, over the bytes of its files: the headline is the case of a replay.
-use Rattle.std.specs.Prelude.{◌≡◌, ℕ, ◌+◌, ◌*◌, ◌==◌, ◌<◌, ◌≤◌, All, Bool, true, false, List, [], ◌∷◌, ◌++◌, codes, count_by, length, Ok}
+use Rattle.std.specs.Prelude.{◌≡◌, ℕ, ◌+◌, ◌*◌, ◌<◌, ◌≤◌, All, Bool, List, [], ◌∷◌, ◌++◌, codes, length, Ok}
 use Rattle.std.specs.Fmt.{decimal}
 use Rattle.std.specs.List.{concat}
 use Rattle.audit_mean.specs.Finding.{audit_of}
@@ -12,18 +12,15 @@ use Rattle.script_mean.specs.NodePlan.{node_plan}
 use Rattle.script_mean.specs.Script.{script_of}
 use Rattle.script_mean.specs.declared.plan.NodePlan.{NodePlan}
 use Rattle.script_mean.specs.declared.script.Script.{Script}
-use Rattle.stack_mean.specs.Acceptance.{rows_of, most_rows}
 use Rattle.stack_mean.specs.Plans.{plans_of}
 use Rattle.run_mean.specs.Mode.{Mode}
-use Rattle.run_mean.specs.Journal.{Heard, failure, Note, notes_of, node_run, note_lines, node_lines, Handed, handed}
-use Rattle.run_mean.specs.Report.{Moment, output_in}
+use Rattle.run_mean.specs.Journal.{Heard, failure, note_lines, node_lines, Handed}
+use Rattle.run_mean.specs.Report.{output_in}
 use Rattle.run_mean.specs.Tally.{tally, accepted_lines}
 use Rattle.miss_mean.specs.Text.{explained_lines}
+use Rattle.group_mean.specs.Node.{Surroundings, NodeWords, failed, failures, noted, played, handed_by}
+use Rattle.group_mean.specs.Room.{HasRoom}
 use Rattle.output_mean.specs.Judged.{Means}
-
--- The rows of a member are few enough, in a group of so many members.
-abbrev pub HasRoom : List LayerTree → ℕ → Type 0
-HasRoom stack members = rows_of stack members ≤ most_rows
 
 -- `check`: the file means an accepted stack, whose places are counted.
 pub record Checks (file out : List ℕ) : Type 0 where
@@ -58,27 +55,6 @@ pub record Loads (file : List ℕ) (seed events members : ℕ) (raw : Bool) (mod
   pub room : HasRoom stack members
   pub written : out ≡ concat (tally stack (plans_of stack) mode (generate seed events members raw))
 
--- What the clock and the network of a node told: the moment of each turn, what each own member heard in each turn, and the packet of each
--- sending that failed, by its number.
-pub record Surroundings : Type 0 where
-  pub clock : List ℕ
-  pub heard : List Heard
-  pub lost : List ℕ
-
--- How often the sending of a packet failed.
-abbrev pub failed : Surroundings → ℕ → ℕ
-failed s k = count_by (λ lost. lost == k) s.lost
-
--- What the words of a node say: how many turns it makes, its own members, how many failed receives it bears, and its mode.
-pub record NodeWords : Type 0 where
-  pub turns : ℕ
-  pub me : List ℕ
-  pub patience : ℕ
-  pub mode : Mode
-
-abbrev pub node_words : ℕ → List ℕ → ℕ → Mode → NodeWords
-node_words turns me patience mode = record { turns = turns; me = me; patience = patience; mode = mode }
-
 -- A node whose files are good: an accepted stack, and a plan of a group that has its members.
 pub record IsNode (file plan_text : List ℕ) (me : List ℕ) : Type 0 where
   pub stack : List LayerTree
@@ -87,25 +63,6 @@ pub record IsNode (file plan_text : List ℕ) (me : List ℕ) : Type 0 where
   pub spelled : node_plan plan_text ≡ Ok plan
   pub members : All (λ id. id < length plan.peers) me
   pub room : HasRoom stack (length plan.peers)
-
--- The notes of a node, and the moments of its journal: a list of script events, whatever the surroundings told.
-abbrev pub noted : NodePlan → NodeWords → Surroundings → List Note
-noted plan words s = notes_of plan words.me words.turns words.patience s.clock s.heard
-
-abbrev pub played : List LayerTree → NodePlan → NodeWords → Surroundings → List Moment
-played stack plan words s = node_run stack (plans_of stack) plan (noted plan words s)
-
--- What a node hands to the network.
-abbrev pub handed_by : List LayerTree → NodePlan → NodeWords → Surroundings → List Handed
-handed_by stack plan words s = handed words.mode stack (plans_of stack) (played stack plan words s)
-
--- How many receives failed.
-abbrev pub is_failure : Heard → Bool
-is_failure failure = true
-is_failure _ = false
-
-abbrev pub failures : List Heard → ℕ
-failures heard = count_by is_failure heard
 
 -- `node`: own members of the plan's group run over a network through all turns, each with a moment and an answer for each own member, of
 -- which no more failed than are borne. What is written and what is handed to the network are those of the journal.

@@ -4,7 +4,7 @@ use Rattle.std.specs.Prelude.{Ok, Err}
 use Rattle.std.proofs.lemmas.Result.{err_from_is_err_and}
 use Rattle.packet_laws.specs.Strays.{AreNumbered}
 use Rattle.member_laws.proofs.Numbered.{plans_are_numbered}
-use Rattle.output_mean.specs.Output.{node_words}
+use Rattle.group_mean.specs.Node.{node_words}
 use Rattle.outside.specs.Tells.{tells_of}
 use Rattle.node_loop.specs.Around.{around, surrounding}
 use Rattle.node_loop.specs.Course.{now, plans_in, stack_in}
