@@ -8,7 +8,7 @@ use Rattle.stack_mean.specs.Plans.{plans_of}
 use Rattle.event_graph.specs.Answer.{stack_tree}
 use Rattle.stack_shapes.specs.Trees.{plans_tree}
 use Rattle.stack_shapes.specs.Shapes.{short_shapes}
-use Rattle.output_mean.specs.Output.{HasRoom}
+use Rattle.group_mean.specs.Room.{HasRoom}
 use Rattle.bypass_member.specs.declared.error.OpenError.{OpenError}
 use Rattle.bypass_member.specs.declared.error.OpenError.TheVariants.{TooLarge, Memory}
 use Rattle.group_open.specs.Ready.{Starts}

@@ -17,7 +17,7 @@ use Rattle.stack_shapes.specs.Starts.{starts_of, starts_tree}
 use Rattle.file_layer.specs.Making.{making}
 use Rattle.miss_laws.specs.Asked.{AllAsked}
 use Rattle.miss_laws.specs.Told.{AreChecksOf}
-use Rattle.output_mean.specs.Output.{HasRoom}
+use Rattle.group_mean.specs.Room.{HasRoom}
 use Rattle.group_open.specs.Ready.{IsAtFirst, Starts}
 use Rattle.bypass_member.specs.declared.error.OpenError.{OpenError}
 use Rattle.bypass_member.specs.declared.error.OpenError.TheVariants.{TooLarge, Memory}

@@ -5,9 +5,10 @@ ghost use Rattle.std.specs.Option.{option_map};
 ghost use Rattle.std.specs.Rc.{rc_value};
 ghost use Rattle.bypass_codes.specs.Codes.{codes_of};
 ghost use Rattle.bypass_laws.specs.Making.{IsSound};
+ghost use Rattle.bypass_laws.specs.Stack.{AreOfStack};
 ghost use Rattle.bypass_member.specs.Serving.{AreCodesOf};
 ghost use Rattle.event_graph.specs.Answer.{stack_tree};
-ghost use Rattle.job_text.specs.Shown.{shown_mode};
+ghost use Rattle.group_mean.specs.Shown.{shown_mode};
 ghost use Rattle.miss_laws.specs.Asked.{all_asked};
 ghost use Rattle.stack_mean.specs.Plans.{plans_of};
 ghost use Rattle.stack_shapes.specs.Shapes.{short_shapes};
@@ -17,7 +18,7 @@ ghost use Rattle.group_open.specs.Opening.{AreExamining, CanRun, CodesFor};
 
 use bypass_codes::Codes;
 use event_graph::Stack;
-use job_text::Mode;
+use group_mean::Mode;
 use stack_checks::StackChecks;
 use stack_shapes::StackShapes;
 use std::alloc::{AllocError, Global};
@@ -33,7 +34,19 @@ fn code_of(alloc: Global, bypasses: &Bypasses) -> Result<Rc<Codes>, AllocError>
     Ok(Rc::new(alloc, codes)?)
 }
 
-/// That of a stack's bypasses.
+/// The same of bypasses that are a stack's.
+pub(crate) fn given_code(
+    alloc: Global,
+    bypasses: &Bypasses,
+    _stack: &Stack,
+) -> Result<Rc<Codes>, AllocError>
+    requires { AreOfStack (stack_tree _stack.now) (bypasses_tree bypasses.now) }
+    ensures { IfOk result (λ codes. AreCodesOf (stack_tree _stack.now) (rc_value codes)) }
+{
+    code_of(alloc, bypasses)
+}
+
+/// That of the bypasses that are made of a stack.
 fn stack_code(alloc: Global, stack: &Stack, shapes: &StackShapes) -> Result<Rc<Codes>, AllocError>
     requires sound { IsSound (stack_tree stack.now) }
     requires plans { plans_tree shapes.now.plans ≡ plans_of (stack_tree stack.now) }
@@ -41,7 +54,7 @@ fn stack_code(alloc: Global, stack: &Stack, shapes: &StackShapes) -> Result<Rc<C
     ensures { IfOk result (λ codes. AreCodesOf (stack_tree stack.now) (rc_value codes)) }
 {
     let bypasses = synth(alloc, stack, shapes)?;
-    code_of(alloc, &bypasses)
+    given_code(alloc, &bypasses, stack)
 }
 
 /// The same, if members run by it.

@@ -5,8 +5,10 @@ mod codes;
 mod examining;
 mod opening;
 mod preparing;
+mod room;
 mod run;
 
 pub use examining::open_examined;
-pub use opening::open;
+pub use opening::{open, open_with};
+pub use room::has_room;
 pub use run::{Examination, Opened, Run};

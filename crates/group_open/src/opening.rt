@@ -3,21 +3,25 @@
 ghost use Rattle.std.specs.Prelude.{◌≤◌};
 ghost use Rattle.std.specs.Option.{option_map};
 ghost use Rattle.std.specs.Rc.{rc_value};
+ghost use Rattle.bypass_laws.specs.Stack.{AreOfStack};
 ghost use Rattle.bypass_member.specs.Modes.{mode_with};
 ghost use Rattle.chain_laws.specs.Runs.{TypedStack};
 ghost use Rattle.event_graph.specs.Answer.{stack_tree};
-ghost use Rattle.job_text.specs.Shown.{shown_mode};
+ghost use Rattle.group_mean.specs.Shown.{shown_mode};
 ghost use Rattle.group_open.specs.Opening.{Begins, CanRun, IsPrepared, Opens};
 ghost use Rattle.msg_core.specs.View.{most_members};
+ghost use Rattle.run_mean.specs.Mode.{bypass};
+ghost use Rattle.trace_core.specs.Bypasses.{bypasses_tree};
 
-use crate::preparing::prepare;
+use crate::preparing::{prepare, prepare_with};
 use crate::run::{Begun, Opened, Parts, Run};
 use bypass_member::{OpenError, Opening};
 use event_graph::Stack;
-use job_text::Mode;
+use group_mean::Mode;
 use msg_core::Memory;
 use report_text::Pen;
 use std::alloc::Global;
+use trace_core::Bypasses;
 use world_core::World;
 
 /// Begins a group of so many members with what it is made of.
@@ -63,23 +67,19 @@ pub(crate) fn begin(
     }
 }
 
-/// Opens a group of so many members over a stack, which run it in a mode.
-pub fn open(
+/// Opens a group of so many members with what it is made of.
+fn start(
     alloc: Global,
-    mode: Mode,
-    stack: Stack,
+    parts: Parts,
     group: u32,
     stamp: u32,
     members: u8,
 ) -> Result<Opened, OpenError>
-    requires runs { CanRun (shown_mode mode) (stack_tree stack) }
+    requires typed { TypedStack (stack_tree parts.stack) }
+    requires prepared { IsPrepared (mode_with (option_map rc_value parts.codes)) (stack_tree parts.stack) parts }
     requires members { (1 ≤ members) × (members ≤ most_members) }
-    ensures { Opens (shown_mode mode) (stack_tree stack) group stamp members result }
+    ensures { Opens (mode_with (option_map rc_value parts.codes)) (stack_tree parts.stack) group stamp members result }
 {
-    let parts = match prepare(alloc, mode, stack) {
-        Ok(parts) => parts,
-        Err(Memory) => return Err(OpenError::Memory),
-    };
     match begin(alloc, parts, group, stamp, members) {
         Ok(begun) => {
             let Begun {
@@ -101,5 +101,44 @@ pub fn open(
             })
         }
         Err(error) => Err(error),
+    }
+}
+
+/// Opens a group of so many members over a stack, which run it in a mode.
+pub fn open(
+    alloc: Global,
+    mode: Mode,
+    stack: Stack,
+    group: u32,
+    stamp: u32,
+    members: u8,
+) -> Result<Opened, OpenError>
+    requires runs { CanRun (shown_mode mode) (stack_tree stack) }
+    requires members { (1 ≤ members) × (members ≤ most_members) }
+    ensures { Opens (shown_mode mode) (stack_tree stack) group stamp members result }
+{
+    match prepare(alloc, mode, stack) {
+        Ok(parts) => start(alloc, parts, group, stamp, members),
+        Err(Memory) => Err(OpenError::Memory),
+    }
+}
+
+/// Opens a group of so many members over a stack, which run it by bypasses that are given, and are the stack's.
+pub fn open_with(
+    alloc: Global,
+    bypasses: &Bypasses,
+    stack: Stack,
+    group: u32,
+    stamp: u32,
+    members: u8,
+) -> Result<Opened, OpenError>
+    requires typed { TypedStack (stack_tree stack) }
+    requires of_stack { AreOfStack (stack_tree stack) (bypasses_tree bypasses.now) }
+    requires members { (1 ≤ members) × (members ≤ most_members) }
+    ensures { Opens bypass (stack_tree stack) group stamp members result }
+{
+    match prepare_with(alloc, bypasses, stack) {
+        Ok(parts) => start(alloc, parts, group, stamp, members),
+        Err(Memory) => Err(OpenError::Memory),
     }
 }

@@ -4,16 +4,19 @@ ghost use Rattle.std.specs.Prelude.{IfOk};
 ghost use Rattle.std.specs.Option.{option_map};
 ghost use Rattle.std.specs.Rc.{rc_value};
 ghost use Rattle.bypass_laws.specs.Making.{IsSound};
+ghost use Rattle.bypass_laws.specs.Stack.{AreOfStack};
 ghost use Rattle.event_graph.specs.Answer.{stack_tree};
-ghost use Rattle.job_text.specs.Shown.{shown_mode};
+ghost use Rattle.group_mean.specs.Shown.{shown_mode};
+ghost use Rattle.run_mean.specs.Mode.{bypass};
+ghost use Rattle.trace_core.specs.Bypasses.{bypasses_tree};
 ghost use Rattle.group_open.specs.Opening.{ArePartsOf, CanRun, IsDrawn, IsExaminable, IsPrepared};
 
-use crate::codes::{codes_for, examining_codes};
+use crate::codes::{codes_for, examining_codes, given_code};
 use crate::run::{Drawn, Parts};
 use bypass_codes::Codes;
 use event_graph::Stack;
 use file_layer::Maker;
-use job_text::Mode;
+use group_mean::Mode;
 use msg_core::Memory;
 use report_lines::NamedStack;
 use stack_checks::StackChecks;
@@ -21,6 +24,7 @@ use stack_shapes::StackShapes;
 use std::alloc::Global;
 use std::rc::Rc;
 use step_outputs::Outputs;
+use trace_core::Bypasses;
 
 /// Draws the plans of a stack and the shapes of its entries.
 fn draw(alloc: Global, stack: Stack) -> Result<Drawn, Memory>
@@ -70,6 +74,20 @@ pub(crate) fn prepare(alloc: Global, mode: Mode, stack: Stack) -> Result<Parts, 
     let drawn = draw(alloc, stack)?;
     let codes = codes_for(alloc, mode, drawn.stack.stack(), &drawn.shapes)?;
     parts_of(alloc, drawn, codes)
+}
+
+/// What a run by bypasses is made of that are given.
+pub(crate) fn prepare_with(
+    alloc: Global,
+    bypasses: &Bypasses,
+    stack: Stack,
+) -> Result<Parts, Memory>
+    requires { AreOfStack (stack_tree stack) (bypasses_tree bypasses.now) }
+    ensures { IfOk result (IsPrepared bypass (stack_tree stack)) }
+{
+    let drawn = draw(alloc, stack)?;
+    let codes = given_code(alloc, bypasses, drawn.stack.stack())?;
+    parts_of(alloc, drawn, Some(codes))
 }
 
 /// What a group is made of that is examined.

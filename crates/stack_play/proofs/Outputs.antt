@@ -6,7 +6,7 @@ use Rattle.outside.specs.declared.sink.SinkError.{SinkError}
 use Rattle.outside.specs.declared.sink.SinkError.TheVariants.{Failed, Memory}
 use Rattle.run_mean.specs.Mode.{Mode}
 use Rattle.layer_mean.specs.Tree.{LayerTree}
-use Rattle.output_mean.specs.Output.{HasRoom}
+use Rattle.group_mean.specs.Room.{HasRoom}
 use Rattle.script_mean.specs.declared.script.Script.{Script}
 use Rattle.stack_mean.specs.Plan.{Plan}
 use Rattle.run_mean.specs.Report.{end_line, output_in, run_of}

@@ -3,7 +3,7 @@ use Rattle.std.specs.Prelude.{◌≡◌, ◌⊎◌, ℕ, ◌<◌, List, Result, 
 use Rattle.std.specs.List.{concat}
 use Rattle.layer_mean.specs.Tree.{LayerTree}
 use Rattle.stack_mean.specs.Acceptance.{rows_of, most_rows}
-use Rattle.output_mean.specs.Output.{HasRoom}
+use Rattle.group_mean.specs.Room.{HasRoom}
 use Rattle.outside.specs.Tells.{Tells}
 use Rattle.outside.specs.Lines.{Begins, Gains, Fails}
 use Rattle.outside.specs.declared.sink.SinkError.{SinkError}

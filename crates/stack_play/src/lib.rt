@@ -10,4 +10,4 @@ mod reporting;
 pub use counting::play_load;
 pub use error::PlayError;
 pub use explaining::explain_steps;
-pub use reporting::play;
+pub use reporting::{play, play_with};

@@ -2,12 +2,17 @@
 
 ghost use Rattle.std.specs.Prelude.{◌≡◌, ◌^◌, ◌<◌, ◌≤◌, ◌∷◌, OnOk, length};
 ghost use Rattle.std.specs.List.{flat_map, sum_by};
+ghost use Rattle.std.specs.Rc.{rc_value};
+ghost use Rattle.bypass_laws.specs.Stack.{AreOfStack};
+ghost use Rattle.chain_laws.specs.Runs.{TypedStack};
+ghost use Rattle.run_mean.specs.Mode.{bypass};
+ghost use Rattle.trace_core.specs.Bypasses.{bypasses_tree};
 ghost use Rattle.script_mean.specs.Event.{member_of};
 ghost use Rattle.script_mean.specs.Script.{IsRunnable};
 ghost use Rattle.stack_mean.specs.Plans.{plans_of};
 ghost use Rattle.event_graph.specs.Answer.{stack_tree};
 ghost use Rattle.stack_shapes.specs.Trees.{plans_tree};
-ghost use Rattle.job_text.specs.Shown.{shown_mode};
+ghost use Rattle.group_mean.specs.Shown.{shown_mode};
 ghost use Rattle.run_mean.specs.Report.{end_line, mode_if, moment_lines, output_in, run_of, visits_of};
 ghost use Rattle.run_mean.specs.World as mean;
 ghost use Rattle.outside.specs.Lines.{Wrote};
@@ -21,14 +26,15 @@ ghost use Rattle.stack_play.specs.Turns.{Keeps, TellsEvent, visits_if};
 use crate::error::{PlayError, unopened, with_room};
 use event_graph::Stack;
 use group_feed::Feed;
-use group_open::{Opened, Run, open};
-use job_text::Mode;
+use group_mean::Mode;
+use group_open::{Opened, Run, open, open_with};
 use msg_core::Memory;
 use outside::{Sink, SinkError};
 use report_text::{Manner, Outcome, Pen, write_end, write_event, write_visits};
 use script_mean::{Script, ScriptEvent, member_of};
 use std::alloc::Global;
 use step_outputs::an_accepted_stack_is_light;
+use trace_core::Bypasses;
 
 /// Plays a script in the world in which it begins, in a mode, and writes its report: with the packets' bytes and the number of visits where these
 /// are wanted.
@@ -55,23 +61,69 @@ pub fn play<O: Sink>(
         script.stamp,
         script.members,
     ) {
-        Ok(opened) => {
-            let Opened {
-                stack,
-                plans,
-                mut run,
-            } = opened;
-            let manner = Manner {
-                stack: &stack,
-                plans: &plans,
-                wire,
-            };
-            let wrote = write_report(manner, &mut run, script, count, out);
-            run.close();
-            with_room(wrote)
-        }
+        Ok(opened) => with_room(play_opened(opened, script, wire, count, out)),
         Err(error) => Err(unopened(error)),
     }
+}
+
+/// Plays a script by bypasses that are given, and are the stack's: to the same report as `play` in bypass mode.
+pub fn play_with<O: Sink>(
+    alloc: Global,
+    bypasses: &Bypasses,
+    stack: Stack,
+    script: &Script,
+    wire: bool,
+    count: bool,
+    out: &mut O,
+) -> Result<(), PlayError>
+    requires typed { TypedStack (stack_tree stack) }
+    requires of_stack { AreOfStack (stack_tree stack) (bypasses_tree bypasses.now) }
+    requires runs { IsRunnable script.now }
+    requires few { length script.now.events ≤ most_events }
+    ensures { Plays (stack_tree stack) script.now.members (output_in (stack_tree stack) (plans_of (stack_tree stack)) script.now bypass wire count)
+        (tells_of O.Sink out.old) (tells_of O.Sink out.new) result }
+{
+    match open_with(
+        alloc,
+        bypasses,
+        stack,
+        script.group,
+        script.stamp,
+        script.members,
+    ) {
+        Ok(opened) => with_room(play_opened(opened, script, wire, count, out)),
+        Err(error) => Err(unopened(error)),
+    }
+}
+
+/// Plays a script in a group that begins, and lets the group go.
+fn play_opened<O: Sink>(
+    opened: Opened,
+    script: &Script,
+    wire: bool,
+    count: bool,
+    out: &mut O,
+) -> Result<(), SinkError>
+    requires first { IsAtFirst opened.run.world.mode (stack_tree opened.stack) (plans_tree (rc_value opened.plans)) script.now.group script.now.stamp
+        script.now.members opened.run }
+    requires runs { IsRunnable script.now }
+    requires few { length script.now.events ≤ most_events }
+    ensures { Wrote (output_in (stack_tree opened.stack) (plans_tree (rc_value opened.plans)) script.now opened.run.world.mode wire count)
+        (tells_of O.Sink out.old) (tells_of O.Sink out.new) result }
+{
+    let Opened {
+        stack,
+        plans,
+        mut run,
+    } = opened;
+    let manner = Manner {
+        stack: &stack,
+        plans: &plans,
+        wire,
+    };
+    let wrote = write_report(manner, &mut run, script, count, out);
+    run.close();
+    wrote
 }
 
 /// Writes the report of a run that begins.

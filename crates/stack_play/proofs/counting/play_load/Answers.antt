@@ -1,6 +1,6 @@
 use Rattle.std.proofs.Common.{rules}
 use Rattle.event_graph.specs.Answer.{stack_tree}
-use Rattle.job_text.specs.Shown.{shown_mode}
+use Rattle.group_mean.specs.Shown.{shown_mode}
 use Rattle.run_mean.specs.Tally.{tally}
 use Rattle.stack_mean.specs.Plans.{plans_of}
 use Rattle.stack_play.proofs.Held.{first_as_it_is}
