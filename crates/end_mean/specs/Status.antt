@@ -7,6 +7,9 @@ use Rattle.layer_ast.specs.Spelling.{kind_word}
 use Rattle.script_mean.specs.Script.{ScriptFault, too_long, bad_line, no_member}
 use Rattle.audit_mean.specs.Finding as finding
 use Rattle.audit_mean.specs.Finding.{AuditFault}
+use Rattle.pack_mean.specs.Accepted as traces
+use Rattle.pack_mean.specs.Accepted.{PackFault, differs}
+use Rattle.pack_mean.specs.File.{heading}
 
 -- why a file is refused: its length; a token, by the place of the first fault; a name; a type; the graph of
 -- its events, by place and kind of a cycle or the largest weight
@@ -32,7 +35,7 @@ pub data SecondFault : Type 0 where
   too_many_rows : SecondFault
 
 -- how the program ends: the whole output was written, or it was and is a breach of a law; a file or the words are refused, a
--- file of an audit being a report; a read, a write or a link failed; memory ran out
+-- file of an audit being a report, and a third file one of traces; a read, a write or a link failed; memory ran out
 pub data Ended : Type 0 where
   done : Ended
   breached : Ended
@@ -40,6 +43,7 @@ pub data Ended : Type 0 where
   report_refused : (fault : AuditFault) → Ended
   words_refused : Ended
   second_refused : (fault : SecondFault) → Ended
+  traces_refused : (fault : PackFault) → Ended
   read_failed : Ended
   write_failed : Ended
   link_failed : Ended
@@ -57,6 +61,7 @@ status_number write_failed = 5
 status_number link_failed = 6
 status_number no_memory = 7
 status_number breached = 8
+status_number (traces_refused fault) = 9
 
 -- a cause with its line and column
 abbrev pub placed : List ℕ → At → List ℕ
@@ -91,6 +96,12 @@ second_cause (misspelled (bad_line line)) = codes "line " ++ decimal line
 second_cause (misspelled (no_member line)) = codes "member " ++ decimal line
 second_cause too_many_rows = codes "rows"
 
+-- the cause for which a file of traces is refused: one of its traces does something else at this act
+abbrev pub traces_cause : PackFault → List ℕ
+traces_cause traces.too_large = codes "too large"
+traces_cause (traces.bad_line line) = codes "line " ++ decimal line
+traces_cause (differs entry case act) = heading entry case ++ codes " op " ++ decimal act
+
 -- the line on the standard error, which is missing where the whole output was written and is no breach
 abbrev pub error_line : Ended → List ℕ
 error_line done = []
@@ -99,6 +110,7 @@ error_line (file_refused fault) = codes "file: " ++ file_cause fault ++ codes "\
 error_line (report_refused fault) = codes "file: " ++ report_cause fault ++ codes "\n"
 error_line words_refused = codes "words: refused\n"
 error_line (second_refused fault) = codes "script: " ++ second_cause fault ++ codes "\n"
+error_line (traces_refused fault) = codes "bypass: " ++ traces_cause fault ++ codes "\n"
 error_line read_failed = codes "read fault\n"
 error_line write_failed = codes "write fault\n"
 error_line link_failed = codes "link fault\n"

@@ -4,5 +4,5 @@
 mod status_lines;
 
 pub use crate::status_lines::{
-    say_file_faults, say_report_faults, say_second_faults, say_statuses,
+    say_file_faults, say_report_faults, say_second_faults, say_statuses, say_traces_faults,
 };

@@ -3,7 +3,9 @@ ghost use Rattle.std.specs.Prelude.{◌≡◌, [], codes};
 ghost use Rattle.layer_ast.specs.declared.tokens.Kind.TheVariants.{BlockOk};
 ghost use Rattle.script_mean.specs.Script.{too_long, bad_line, no_member};
 ghost use Rattle.audit_mean.specs.Finding as finding;
-ghost use Rattle.end_mean.specs.Status.{error_line, status_number, done, breached, file_refused, report_refused, words_refused, second_refused, read_failed, write_failed, link_failed, no_memory};
+ghost use Rattle.layer_mean.specs.declared.run.Case.TheVariants.{First, Second};
+ghost use Rattle.pack_mean.specs.Accepted as traces;
+ghost use Rattle.end_mean.specs.Status.{error_line, status_number, done, breached, file_refused, report_refused, words_refused, second_refused, traces_refused, read_failed, write_failed, link_failed, no_memory};
 ghost use Rattle.end_mean.specs.Status.{too_large, bad_token, unexpected, unknown, twice, over_limit, wrong_kind, arity, direction, header, initial, cycle, too_many, too_many_joins, misspelled, too_many_rows};
 
 /// The lines of a file's faults.
@@ -32,6 +34,15 @@ pub fn say_second_faults()
     ensures rows { error_line (second_refused too_many_rows) ≡ codes "script: rows\n" }
 {}
 
+/// The lines of the faults of a file of traces.
+pub fn say_traces_faults()
+    ensures length { error_line (traces_refused traces.too_large) ≡ codes "bypass: too large\n" }
+    ensures form { error_line (traces_refused (traces.bad_line 1)) ≡ codes "bypass: line 1\n" }
+    ensures cast { error_line (traces_refused (traces.differs 0 First 0)) ≡ codes "bypass: entry cast case 1 op 0\n" }
+    ensures send { error_line (traces_refused (traces.differs 1 Second 12)) ≡ codes "bypass: entry send case 2 op 12\n" }
+    ensures plan { error_line (traces_refused (traces.differs 5 First 4095)) ≡ codes "bypass: entry plan 3 case 1 op 4095\n" }
+{}
+
 /// The lines of a report's faults.
 pub fn say_report_faults()
     ensures length { error_line (report_refused finding.too_large) ≡ codes "file: too large\n" }
@@ -46,6 +57,7 @@ pub fn say_statuses()
     ensures breach { (status_number breached ≡ 8) × (error_line breached ≡ codes "breach\n") }
     ensures words { (status_number words_refused ≡ 2) × (error_line words_refused ≡ codes "words: refused\n") }
     ensures second { status_number (second_refused too_many_rows) ≡ 3 }
+    ensures traces { status_number (traces_refused traces.too_large) ≡ 9 }
     ensures read { (status_number read_failed ≡ 4) × (error_line read_failed ≡ codes "read fault\n") }
     ensures write { (status_number write_failed ≡ 5) × (error_line write_failed ≡ codes "write fault\n") }
     ensures link { (status_number link_failed ≡ 6) × (error_line link_failed ≡ codes "link fault\n") }

@@ -21,6 +21,7 @@ pub record Given : Type 0 where
   pub me : Option Text
   pub patience : Option Text
   pub law : Option Text
+  pub traces : Option Text
   pub wire : Bool
   pub count : Bool
   pub raw : Bool
@@ -46,6 +47,7 @@ given_in rows = do
     me = first_of (codes "me") rows;
     patience = first_of (codes "patience") rows;
     law = first_of (codes "law") rows;
+    traces = first_of (codes "with") rows;
     wire = is_set (codes "wire") rows;
     count = is_set (codes "count") rows;
     raw = is_set (codes "raw") rows;

@@ -11,13 +11,14 @@ use Rattle.msg_core.specs.View.{most_members, last_member}
 use Rattle.run_mean.specs.Mode.{Mode, layered, bypass}
 
 -- what the program is to do: judge a file; print its bypasses; write the traces of these as a file; replay a script, with the packets' bytes or
--- the number of visits if wanted; tell why the steps of a script weren't common; replay a script that is made from a seed, with datagrams in it
+-- the number of visits if wanted, by the bypasses of the stack or by those whose traces a file holds; tell why the steps of a script weren't common; replay a script that is made from a seed, with datagrams in it
 -- if wanted; run members over a network of which so many receives may fail; judge a law of the group on a report
 pub data Job : Type 0 where
   check : (file : Text) → Job
   synth : (file : Text) → Job
   pack : (file : Text) → Job
   replay : (file script : Text) (mode : Mode) (wire count : Bool) → Job
+  replay_with : (file script traces : Text) (wire count : Bool) → Job
   explain : (file script : Text) → Job
   load : (file : Text) (seed events members : ℕ) (raw : Bool) (mode : Mode) → Job
   node : (file plan : Text) (turns : ℕ) (members : List ℕ) (patience : ℕ) (mode : Mode) → Job
@@ -29,7 +30,7 @@ extras given =
     (codes "second", is_some given.second) ∷ (codes "run", is_some given.run) ∷ (codes "seed", is_some given.seed) ∷
     (codes "events", is_some given.events) ∷ (codes "members", is_some given.members) ∷
     (codes "turns", is_some given.turns) ∷ (codes "me", is_some given.me) ∷ (codes "patience", is_some given.patience) ∷
-    (codes "law", is_some given.law) ∷ (codes "wire", given.wire) ∷ (codes "count", given.count) ∷ (codes "raw", given.raw) ∷ []
+    (codes "law", is_some given.law) ∷ (codes "with", is_some given.traces) ∷ (codes "wire", given.wire) ∷ (codes "count", given.count) ∷ (codes "raw", given.raw) ∷ []
 
 -- a job refuses each word that it doesn't list
 abbrev pub with_only : List Text → Given → Option (Unit {0})
@@ -117,13 +118,19 @@ pack_job given = do
   _ ← with_only [] given
   Some (pack given.file)
 
--- `replay FILE SCRIPT`, may have `--run MODE`, `--wire` and `--count`
+-- a replay in a mode: only one by bypasses may be given the traces of a file
+abbrev pub replay_by : Given → (script : Text) → Mode → Option Text → Option Job
+replay_by given script mode None = Some (replay given.file script mode given.wire given.count)
+replay_by given script bypass (Some traces) = Some (replay_with given.file script traces given.wire given.count)
+replay_by given script layered (Some traces) = None
+
+-- `replay FILE SCRIPT`, may have `--run MODE`, `--with TRACES`, `--wire` and `--count`
 abbrev pub replay_job : Given → Option Job
 replay_job given = do
-  _ ← with_only (codes "second" ∷ codes "run" ∷ codes "wire" ∷ codes "count" ∷ []) given
+  _ ← with_only (codes "second" ∷ codes "run" ∷ codes "with" ∷ codes "wire" ∷ codes "count" ∷ []) given
   script ← given.second
   mode ← mode_of given.run
-  Some (replay given.file script mode given.wire given.count)
+  replay_by given script mode given.traces
 
 -- `explain FILE SCRIPT`
 abbrev pub explain_job : Given → Option Job

@@ -4,7 +4,7 @@ ghost use Rattle.clap.specs.Faults.{is_simple_and_free};
 ghost use Rattle.job_mean.specs.Command.{command};
 ghost use Rattle.audit_mean.specs.declared.law.Law.TheVariants.{Sender, Total, Same};
 ghost use Rattle.run_mean.specs.Mode.{layered, bypass};
-ghost use Rattle.job_mean.specs.Job.{job_of_words, check, synth, pack, replay, explain, load, node, audit};
+ghost use Rattle.job_mean.specs.Job.{job_of_words, check, synth, pack, replay, replay_with, explain, load, node, audit};
 
 /// The command is one of which `clap` promises what it finds, and that it refuses just what the definition
 /// refuses.
@@ -20,6 +20,8 @@ pub fn name_jobs()
     ensures replays { job_of_words (codes "replay" ∷ codes "a" ∷ codes "b" ∷ codes "--run" ∷ codes "layered" ∷ []) ≡ Some (replay (codes "a") (codes "b") layered false false) }
     ensures replays_by_default { job_of_words (codes "replay" ∷ codes "a" ∷ codes "b" ∷ []) ≡ Some (replay (codes "a") (codes "b") bypass false false) }
     ensures in_any_order { job_of_words (codes "--count" ∷ codes "replay" ∷ codes "--run=bypass" ∷ codes "a" ∷ codes "--wire" ∷ codes "b" ∷ []) ≡ Some (replay (codes "a") (codes "b") bypass true true) }
+    ensures replays_traces { job_of_words (codes "replay" ∷ codes "a" ∷ codes "b" ∷ codes "--with" ∷ codes "t" ∷ []) ≡ Some (replay_with (codes "a") (codes "b") (codes "t") false false) }
+    ensures replays_traces_by_bypasses { job_of_words (codes "replay" ∷ codes "--with=t" ∷ codes "a" ∷ codes "--wire" ∷ codes "--run=bypass" ∷ codes "b" ∷ codes "--count" ∷ []) ≡ Some (replay_with (codes "a") (codes "b") (codes "t") true true) }
     ensures explains { job_of_words (codes "explain" ∷ codes "a" ∷ codes "b" ∷ []) ≡ Some (explain (codes "a") (codes "b")) }
     ensures loads { job_of_words (codes "load" ∷ codes "a" ∷ codes "--seed=4294967295" ∷ codes "--events" ∷ codes "99999" ∷ codes "--members" ∷ codes "32" ∷ []) ≡ Some (load (codes "a") 4294967295 99999 32 false bypass) }
     ensures loads_datagrams { job_of_words (codes "load" ∷ codes "a" ∷ codes "--raw" ∷ codes "--seed=7" ∷ codes "--events=0" ∷ codes "--members=1" ∷ codes "--run=layered" ∷ []) ≡ Some (load (codes "a") 7 0 1 true layered) }

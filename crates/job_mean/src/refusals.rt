@@ -8,6 +8,7 @@ pub fn refuse_by_clap()
     ensures no_file { job_of_words (codes "check" ∷ []) ≡ None }
     ensures fourth_word { job_of_words (codes "replay" ∷ codes "a" ∷ codes "b" ∷ codes "c" ∷ []) ≡ None }
     ensures option_twice { job_of_words (codes "replay" ∷ codes "a" ∷ codes "b" ∷ codes "--run=layered" ∷ codes "--run=layered" ∷ []) ≡ None }
+    ensures traces_twice { job_of_words (codes "replay" ∷ codes "a" ∷ codes "b" ∷ codes "--with=t" ∷ codes "--with=t" ∷ []) ≡ None }
     ensures flag_twice { job_of_words (codes "replay" ∷ codes "a" ∷ codes "b" ∷ codes "--wire" ∷ codes "--wire" ∷ []) ≡ None }
     ensures raw_twice { job_of_words (codes "load" ∷ codes "a" ∷ codes "--seed=1" ∷ codes "--events=1" ∷ codes "--members=1" ∷ codes "--raw" ∷ codes "--raw" ∷ []) ≡ None }
     ensures flag_with_a_value { job_of_words (codes "replay" ∷ codes "a" ∷ codes "b" ∷ codes "--wire=true" ∷ []) ≡ None }
@@ -34,6 +35,10 @@ pub fn refuse_by_job()
     ensures nothing_to_explain { job_of_words (codes "explain" ∷ codes "a" ∷ []) ≡ None }
     ensures mode_for_explain { job_of_words (codes "explain" ∷ codes "a" ∷ codes "b" ∷ codes "--run=bypass" ∷ []) ≡ None }
     ensures another_mode { job_of_words (codes "replay" ∷ codes "a" ∷ codes "b" ∷ codes "--run=Layered" ∷ []) ≡ None }
+    ensures traces_for_layers { job_of_words (codes "replay" ∷ codes "a" ∷ codes "b" ∷ codes "--run=layered" ∷ codes "--with=t" ∷ []) ≡ None }
+    ensures traces_for_explain { job_of_words (codes "explain" ∷ codes "a" ∷ codes "b" ∷ codes "--with=t" ∷ []) ≡ None }
+    ensures traces_for_load { job_of_words (codes "load" ∷ codes "a" ∷ codes "--seed=1" ∷ codes "--events=1" ∷ codes "--members=1" ∷ codes "--with=t" ∷ []) ≡ None }
+    ensures traces_for_node { job_of_words (codes "node" ∷ codes "a" ∷ codes "b" ∷ codes "--turns=1" ∷ codes "--me=0" ∷ codes "--with=t" ∷ []) ≡ None }
     ensures seed_for_replay { job_of_words (codes "replay" ∷ codes "a" ∷ codes "b" ∷ codes "--seed=1" ∷ []) ≡ None }
     ensures script_for_load { job_of_words (codes "load" ∷ codes "a" ∷ codes "b" ∷ codes "--seed=1" ∷ codes "--events=1" ∷ codes "--members=1" ∷ []) ≡ None }
     ensures no_seed { job_of_words (codes "load" ∷ codes "a" ∷ codes "--events=1" ∷ codes "--members=1" ∷ []) ≡ None }

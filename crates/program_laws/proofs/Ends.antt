@@ -1,6 +1,6 @@
 -- The ends of a run exclude each other.
 use Rattle.std.proofs.Common.{arith, ◌≡◌, refl, sym, ◌∙◌, ap, subst, ℕ, ◌+◌, ◌<◌, true, List, [], ◌∷◌, ◌++◌, length, Option, Some, None, inl, inr}
-use Rattle.std.specs.Prelude.{◌⊎◌, nat_lt, IsSomeAnd, Result, Ok, Err, if◌then◌else◌}
+use Rattle.std.specs.Prelude.{nat_lt, IsSomeAnd, Result, Ok, Err, if◌then◌else◌}
 use Rattle.clap.specs.Walk.{Text}
 use Rattle.layer_mean.specs.Tree.{LayerTree}
 use Rattle.script_mean.specs.NodePlan.{node_plan}
@@ -10,18 +10,22 @@ use Rattle.stack_mean.specs.Acceptance.{rows_of}
 use Rattle.std.proofs.lemmas.Bool.{le-leb, lt-ltb}
 use Rattle.std.proofs.lemmas.List.Elements.{All-head, All-tail}
 use Rattle.std.specs.List.{All, fold, list_all}
-use Rattle.job_mean.specs.Job.{Job, check, synth, pack, replay, explain, load, node, audit, job_of_words}
-use Rattle.end_mean.specs.Status.{FileFault, SecondFault, Ended, done, breached, file_refused, report_refused, words_refused, second_refused, read_failed, write_failed, link_failed, no_memory, status_number}
+use Rattle.job_mean.specs.Job.{Job, check, synth, pack, replay, replay_with, explain, load, node, audit, job_of_words}
+use Rattle.end_mean.specs.Status.{FileFault, SecondFault, Ended, done, breached, file_refused, report_refused, words_refused, second_refused, traces_refused, read_failed, write_failed, link_failed, no_memory, status_number}
 use Rattle.audit_mean.specs.Finding.{AuditFault, audit_of}
 use Rattle.audit_mean.specs.declared.law.Law.{Law}
 use Rattle.audit_mean.specs.declared.law.Finding.{Finding}
 use Rattle.run_mean.specs.Journal.{Heard, failure}
+use Rattle.pack_mean.specs.Accepted.{PackFault, Accepts, IsFault}
 use Rattle.output_mean.specs.Judged.{Means, IsGood, Refuses}
-use Rattle.output_mean.specs.Output.{HasRoom, IsNode, is_failure, failures}
+use Rattle.group_mean.specs.Node.{is_failure, failures}
+use Rattle.group_mean.specs.Room.{HasRoom}
+use Rattle.output_mean.specs.Output.{IsNode}
 use Rattle.program_mean.specs.Second.{crowded, after_script, after_plan, second_fault}
-use Rattle.program_mean.specs.Headline.{Printer, Counted, Run, Fails, IsSound, RoseBy, second_for, WritesOf, OfJob, end_found, whole_end, WritesWhole, gone_on, HeardAll, Began, ReadsStack, RefusesFile, IsNoReport, RefusesReport, RefusesSecond, ReadsFailed, LinksFail, Ends, Says, whole, cut_off, out_of_memory}
-use Rattle.program_laws.specs.OneEnd.{Counts, CountsAll, OneEnd, Came, WordsAreDue, FilesAreDue, ReportsAreDue, MissesAreDue, IsAlone, GoodAreDue, SecondMissesAreDue, SecondsAreDue}
+use Rattle.program_mean.specs.Headline.{Printer, Counted, Run, Fails, IsSound, RoseBy, second_for, third_for, TakesTraces, WritesOf, OfJob, whole_end, WritesWhole, gone_on, HeardAll, Began, ReadsStack, RefusesFile, ReadsTraces, IsNoReport, RefusesReport, RefusesSecond, AreGood, RefusesTraces, Unread, ReadsFailed, LinksFail, Ends, Says, whole, cut_off, out_of_memory}
+use Rattle.program_laws.specs.OneEnd.{Counts, CountsAll, OneEnd, Came, WordsAreDue, FilesAreDue, ReportsAreDue, MissesAreDue, IsAlone, GoodAreDue, SecondMissesAreDue, SecondsAreDue, TracesAreDue, ThirdMissesAreDue}
 use Rattle.program_laws.proofs.Files.{one_meaning, one_refusal, good_or_refused}
+use Rattle.program_laws.proofs.Traces.{one_traces_fault, accepted_or_refused}
 
 -- What is some, and known.
 known : {A : Type 0} (o : Option A) (P : A → Type 0) (C : Type 0) → IsSomeAnd o P → ((x : A) → o ≡ Some x → P x → C) → C
@@ -79,31 +83,28 @@ against : (r : Run) (P Q : Job → (file second : List ℕ) → Type 0) (C : Typ
     ((job : Job) (file second : List ℕ) → P job file second → Q job file second → C) → C
 against r P Q C m n go = let b = both_of r P Q m n in go b.job b.file b.second b.holds.0 b.holds.1
 
--- A stack that a file means, and a second file that isn't refused over it.
-record GoodStack (job : Job) (file second : List ℕ) : Type 0 where
-  stack : List LayerTree
-  means : Means file stack
-  fine : second_fault job stack second ≡ None
-
 -- The finding of a law on a file that is a report.
 record IsReport (law : Law) (file : List ℕ) : Type 0 where
   finding : Finding
   found : audit_of law file ≡ Ok finding
 
 -- What a job needs of its files.
-abbrev Good : Job → (file second : List ℕ) → Type 0
-Good (audit name law) file second = IsReport law file
-Good job file second = GoodStack job file second
+abbrev Good : (third : Option (List ℕ)) → Job → (file second : List ℕ) → Type 0
+Good third (audit name law) file second = IsReport law file
+Good third (replay_with name script given wire count) file second =
+    AreGood (replay_with name script given wire count) file second × TakesTraces file third
+Good third job file second = AreGood job file second
 
-good_stack : (job : Job) (file second : List ℕ) → ReadsStack job → Good job file second → GoodStack job file second
-good_stack (check name) file second reads good = good
-good_stack (synth name) file second reads good = good
-good_stack (pack name) file second reads good = good
-good_stack (replay name script mode wire count) file second reads good = good
-good_stack (explain name script) file second reads good = good
-good_stack (load name seed events members raw mode) file second reads good = good
-good_stack (node name plan turns me patience mode) file second reads good = good
-good_stack (audit name law) file second reads good = absurd reads
+good_stack : (third : Option (List ℕ)) (job : Job) (file second : List ℕ) → ReadsStack job → Good third job file second → AreGood job file second
+good_stack third (check name) file second reads good = good
+good_stack third (synth name) file second reads good = good
+good_stack third (pack name) file second reads good = good
+good_stack third (replay name script mode wire count) file second reads good = good
+good_stack third (explain name script) file second reads good = good
+good_stack third (load name seed events members raw mode) file second reads good = good
+good_stack third (node name plan turns me patience mode) file second reads good = good
+good_stack third (audit name law) file second reads good = absurd reads
+good_stack third (replay_with name script given wire count) file second reads good = good.0
 
 -- A job that is refused for its second file or its members reads a stack.
 reads_stack : (job : Job) (stack : List LayerTree) (second : List ℕ) (fault : SecondFault) → second_fault job stack second ≡ Some fault →
@@ -112,6 +113,7 @@ reads_stack (check name) stack second fault refused = tt
 reads_stack (synth name) stack second fault refused = tt
 reads_stack (pack name) stack second fault refused = tt
 reads_stack (replay name script mode wire count) stack second fault refused = tt
+reads_stack (replay_with name script given wire count) stack second fault refused = tt
 reads_stack (explain name script) stack second fault refused = tt
 reads_stack (load name seed events members raw mode) stack second fault refused = tt
 reads_stack (node name plan turns me patience mode) stack second fault refused = tt
@@ -135,7 +137,7 @@ node_fine file text me n =
     ∙ rw (below_all (length n.plan.peers) me n.members) (roomy n.stack (length n.plan.peers) n.room)
 
 writes_good : (print : Printer) (job : Job) (r : Run) (file second out : List ℕ) → WritesOf print job r file second out →
-    Good job file second
+    Good r.third job file second
 writes_good print (check name) r file second out w = record { stack = w.0.stack; means = w.0.means; fine = refl }
 writes_good print (synth name) r file second out w = record { stack = w.0.stack; means = w.0.means; fine = refl }
 writes_good print (pack name) r file second out w = record { stack = w.0.stack; means = w.0.means; fine = refl }
@@ -144,6 +146,14 @@ writes_good print (replay name script mode wire count) r file second out w = rec
   means = w.0.means;
   fine = script_fine w.0.stack second w.0.script w.0.spelled w.0.room;
 }
+writes_good print (replay_with name script given wire count) r file second out w = (
+  record {
+    stack = w.0.stack;
+    means = w.0.means;
+    fine = script_fine w.0.stack second w.0.script w.0.spelled w.0.room;
+  },
+  w.1,
+)
 writes_good print (explain name script) r file second out w = record {
   stack = w.0.stack;
   means = w.0.means;
@@ -155,7 +165,7 @@ writes_good print (node name plan turns me patience mode) r file second out w =
     record { stack = w.node.stack; means = w.node.means; fine = node_fine file second me w.node }
 writes_good print (audit name law) r file second out w = record { finding = w.0.finding; found = w.0.found }
 
-links_good : (job : Job) (r : Run) (file second : List ℕ) → LinksFail job r file second → Good job file second
+links_good : (job : Job) (r : Run) (file second : List ℕ) → LinksFail job r file second → Good r.third job file second
 links_good (node name plan turns me patience mode) r file second (inl w) =
     record { stack = w.0.node.stack; means = w.0.node.means; fine = node_fine file second me w.0.node }
 links_good (node name plan turns me patience mode) r file second (inr w) =
@@ -164,15 +174,16 @@ links_good (check name) r file second w = absurd w
 links_good (synth name) r file second w = absurd w
 links_good (pack name) r file second w = absurd w
 links_good (replay name script mode wire count) r file second w = absurd w
+links_good (replay_with name script given wire count) r file second w = absurd w
 links_good (explain name script) r file second w = absurd w
 links_good (load name seed events members raw mode) r file second w = absurd w
 links_good (audit name law) r file second w = absurd w
 
 -- A run that got to good files.
 abbrev Reached : Run → Type 0
-Reached r = Met r Good
+Reached r = Met r (Good r.third)
 
-reached_by : (r : Run) (Holds : Job → (file second : List ℕ) → Type 0) → ((job : Job) (file second : List ℕ) → Holds job file second → Good job file second) →
+reached_by : (r : Run) (Holds : Job → (file second : List ℕ) → Type 0) → ((job : Job) (file second : List ℕ) → Holds job file second → Good r.third job file second) →
     OfJob r Holds → Reached r
 reached_by r Holds goods h = let m = met r Holds h in record {
   job = m.job;
@@ -213,33 +224,39 @@ stack_job r job is h = subst (λ o. IsSomeAnd o ReadsStack) is h
 refused_not_reached : (r : Run) (fault : FileFault) → Reached r → IsSomeAnd (job_of_words r.words) ReadsStack →
     IsSomeAnd r.file (λ file. Refuses file fault) → ⊥
 refused_not_reached r fault m reads h = known r.file (λ file. Refuses file fault) ⊥ h (λ file is refuses.
-    let good = good_stack m.job m.file m.second (stack_job r m.job m.is_job reads) m.holds in
+    let good = good_stack r.third m.job m.file m.second (stack_job r m.job m.is_job reads) m.holds in
     let same : m.file ≡ file = some_once m.file file (sym m.is_file ∙ is) in
     good_or_refused file good.stack fault (subst (λ text. Means text good.stack) same good.means) refuses)
 
 -- A refused second file isn't good.
-second_or_good : (job : Job) (file second : List ℕ) (stack : List LayerTree) (fault : SecondFault) → Means file stack →
-    second_fault job stack second ≡ Some fault → Good job file second → ⊥
-second_or_good job file second stack fault means refused good =
-    let g = good_stack job file second (reads_stack job stack second fault refused) good in
+second_or_fine : (job : Job) (file second : List ℕ) (stack : List LayerTree) (fault : SecondFault) → Means file stack →
+    second_fault job stack second ≡ Some fault → AreGood job file second → ⊥
+second_or_fine job file second stack fault means refused g =
     let same : stack ≡ g.stack = one_meaning file stack g.stack means g.means in
     let both : ◌≡◌ {A = Option SecondFault} (Some fault) None = sym refused ∙ ap (λ s. second_fault job s second) same ∙ g.fine in cc
 
+second_or_good : (third : Option (List ℕ)) (job : Job) (file second : List ℕ) (stack : List LayerTree) (fault : SecondFault) → Means file stack →
+    second_fault job stack second ≡ Some fault → Good third job file second → ⊥
+second_or_good third job file second stack fault means refused good =
+    second_or_fine job file second stack fault means refused (good_stack third job file second (reads_stack job stack second fault refused) good)
+
 second_not_reached : (r : Run) (fault : SecondFault) → Reached r → RefusesSecond r fault → ⊥
-second_not_reached r fault m h = against r _ Good ⊥ (met r _ h.refused) m (λ job file second refused good.
-    second_or_good job file second h.stack fault refused.0 refused.1 good)
+second_not_reached r fault m h = against r _ (Good r.third) ⊥ (met r _ h.refused) m (λ job file second refused good.
+    second_or_good r.third job file second h.stack fault refused.0 refused.1 good)
 
 -- A file that is no report isn't reached as one, nor as a stack.
-no_report_or_good : (job : Job) (file second : List ℕ) (fault : AuditFault) → IsNoReport job file fault → Good job file second → ⊥
-no_report_or_good (audit name law) file second fault none good =
+no_report_or_good : (third : Option (List ℕ)) (job : Job) (file second : List ℕ) (fault : AuditFault) → IsNoReport job file fault →
+    Good third job file second → ⊥
+no_report_or_good third (audit name law) file second fault none good =
     let both : ◌≡◌ {A = Result Finding AuditFault} (Err fault) (Ok good.finding) = sym none ∙ good.found in cc
-no_report_or_good (check name) file second fault none good = none
-no_report_or_good (synth name) file second fault none good = none
-no_report_or_good (pack name) file second fault none good = none
-no_report_or_good (replay name script mode wire count) file second fault none good = none
-no_report_or_good (explain name script) file second fault none good = none
-no_report_or_good (load name seed events members raw mode) file second fault none good = none
-no_report_or_good (node name plan turns me patience mode) file second fault none good = none
+no_report_or_good third (check name) file second fault none good = none
+no_report_or_good third (synth name) file second fault none good = none
+no_report_or_good third (pack name) file second fault none good = none
+no_report_or_good third (replay name script mode wire count) file second fault none good = none
+no_report_or_good third (replay_with name script given wire count) file second fault none good = none
+no_report_or_good third (explain name script) file second fault none good = none
+no_report_or_good third (load name seed events members raw mode) file second fault none good = none
+no_report_or_good third (node name plan turns me patience mode) file second fault none good = none
 
 no_report_or_stack : (job : Job) (file : List ℕ) (fault : AuditFault) → IsNoReport job file fault → ReadsStack job → ⊥
 no_report_or_stack (audit name law) file fault none reads = reads
@@ -247,12 +264,51 @@ no_report_or_stack (check name) file fault none reads = none
 no_report_or_stack (synth name) file fault none reads = none
 no_report_or_stack (pack name) file fault none reads = none
 no_report_or_stack (replay name script mode wire count) file fault none reads = none
+no_report_or_stack (replay_with name script given wire count) file fault none reads = none
 no_report_or_stack (explain name script) file fault none reads = none
 no_report_or_stack (load name seed events members raw mode) file fault none reads = none
 no_report_or_stack (node name plan turns me patience mode) file fault none reads = none
 
 report_not_reached : (r : Run) (fault : AuditFault) → Reached r → RefusesReport r fault → ⊥
-report_not_reached r fault m h = against r _ Good ⊥ (met r _ h.refused) m (λ job file second. no_report_or_good job file second fault)
+report_not_reached r fault m h =
+    against r _ (Good r.third) ⊥ (met r _ h.refused) m (λ job file second. no_report_or_good r.third job file second fault)
+
+-- Traces that are taken aren't refused.
+taken_or_refused : (file : List ℕ) (third : Option (List ℕ)) (stack : List LayerTree) (fault : PackFault) → Means file stack →
+    IsSomeAnd third (λ text. IsFault stack text fault) → TakesTraces file third → ⊥
+taken_or_refused file third stack fault means refused t =
+    known third (λ text. IsFault stack text fault) ⊥ refused (λ text is x.
+    accepted_or_refused stack text fault
+    (subst (λ s. Accepts s text) (one_meaning file t.stack stack t.means means) (subst (λ o. IsSomeAnd o (Accepts t.stack)) is t.accepted)) x)
+
+traces_or_good : (third : Option (List ℕ)) (job : Job) (file second : List ℕ) (stack : List LayerTree) (fault : PackFault) → ReadsTraces job →
+    Means file stack → IsSomeAnd third (λ text. IsFault stack text fault) → Good third job file second → ⊥
+traces_or_good third (replay_with name script given wire count) file second stack fault reads means refused good =
+    taken_or_refused file third stack fault means refused good.1
+traces_or_good third (check name) file second stack fault reads means refused good = reads
+traces_or_good third (synth name) file second stack fault reads means refused good = reads
+traces_or_good third (pack name) file second stack fault reads means refused good = reads
+traces_or_good third (replay name script mode wire count) file second stack fault reads means refused good = reads
+traces_or_good third (explain name script) file second stack fault reads means refused good = reads
+traces_or_good third (load name seed events members raw mode) file second stack fault reads means refused good = reads
+traces_or_good third (node name plan turns me patience mode) file second stack fault reads means refused good = reads
+traces_or_good third (audit name law) file second stack fault reads means refused good = reads
+
+traces_not_reached : (r : Run) (fault : PackFault) → Reached r → RefusesTraces r fault → ⊥
+traces_not_reached r fault m h = against r _ (Good r.third) ⊥ (met r _ h.others) m (λ job file second x good.
+    traces_or_good r.third job file second h.stack fault x.0 x.1 h.refused good)
+
+-- A job that has a file of traces reads a stack, and no report.
+traces_stack : (job : Job) → ReadsTraces job → ReadsStack job
+traces_stack (replay_with name script given wire count) reads = tt
+traces_stack (check name) reads = absurd reads
+traces_stack (synth name) reads = absurd reads
+traces_stack (pack name) reads = absurd reads
+traces_stack (replay name script mode wire count) reads = absurd reads
+traces_stack (explain name script) reads = absurd reads
+traces_stack (load name seed events members raw mode) reads = absurd reads
+traces_stack (node name plan turns me patience mode) reads = absurd reads
+traces_stack (audit name law) reads = absurd reads
 
 -- A run whose words are no job reached nothing.
 no_job : (r : Run) (P : Job → Type 0) → job_of_words r.words ≡ None → IsSomeAnd (job_of_words r.words) P → ⊥
@@ -295,6 +351,7 @@ served_or_deaf print (check name) r file second counts heard w x = x
 served_or_deaf print (synth name) r file second counts heard w x = x
 served_or_deaf print (pack name) r file second counts heard w x = x
 served_or_deaf print (replay name script mode wire count) r file second counts heard w x = x
+served_or_deaf print (replay_with name script given wire count) r file second counts heard w x = x
 served_or_deaf print (explain name script) r file second counts heard w x = x
 served_or_deaf print (load name seed events members raw mode) r file second counts heard w x = x
 served_or_deaf print (audit name law) r file second counts heard w x = x
@@ -335,6 +392,7 @@ one_report_fault (check name) file a b x y = absurd x
 one_report_fault (synth name) file a b x y = absurd x
 one_report_fault (pack name) file a b x y = absurd x
 one_report_fault (replay name script mode wire count) file a b x y = absurd x
+one_report_fault (replay_with name script given wire count) file a b x y = absurd x
 one_report_fault (explain name script) file a b x y = absurd x
 one_report_fault (load name seed events members raw mode) file a b x y = absurd x
 one_report_fault (node name plan turns me patience mode) file a b x y = absurd x
@@ -351,6 +409,40 @@ report_or_second : (r : Run) (a : AuditFault) (b : SecondFault) → RefusesRepor
 report_or_second r a b h i = against r _ _ ⊥ (met r _ h.refused) (met r _ i.refused) (λ job file second x y.
     no_report_or_stack job file a x (reads_stack job i.stack second b y.1))
 
+-- A file of traces that is looked at: those in front of it are good.
+others_good : (r : Run) (a : PackFault) → RefusesTraces r a → Met r AreGood
+others_good r a h = let m = met r _ h.others in record {
+  job = m.job;
+  is_job = m.is_job;
+  sound = m.sound;
+  file = m.file;
+  is_file = m.is_file;
+  second = m.second;
+  is_second = m.is_second;
+  holds = record { stack = h.stack; means = m.holds.1; fine = m.holds.2 };
+}
+
+-- A refused file isn't met as good, and nor is a refused second file.
+file_or_fine : (r : Run) (a : FileFault) → RefusesFile r a → Met r AreGood → ⊥
+file_or_fine r a h n = known r.file (λ file. Refuses file a) ⊥ h.refused (λ file is refuses.
+    let same : n.file ≡ file = some_once n.file file (sym n.is_file ∙ is) in
+    good_or_refused file n.holds.stack a (subst (λ text. Means text n.holds.stack) same n.holds.means) refuses)
+
+second_or_met : (r : Run) (a : SecondFault) → RefusesSecond r a → Met r AreGood → ⊥
+second_or_met r a h n = against r _ AreGood ⊥ (met r _ h.refused) n (λ job file second x good.
+    second_or_fine job file second h.stack a x.0 x.1 good)
+
+report_or_traces : (r : Run) (a : AuditFault) (b : PackFault) → RefusesReport r a → RefusesTraces r b → ⊥
+report_or_traces r a b h i = against r _ _ ⊥ (met r _ h.refused) (met r _ i.others) (λ job file second x y.
+    no_report_or_stack job file a x (traces_stack job y.0))
+
+traces_once : (r : Run) (a b : PackFault) → RefusesTraces r a → RefusesTraces r b → a ≡ b
+traces_once r a b h i = against r _ _ (a ≡ b) (met r _ h.others) (met r _ i.others) (λ job file second x y.
+    known r.third (λ text. IsFault h.stack text a) (a ≡ b) h.refused (λ text is p.
+    let stack : i.stack ≡ h.stack = one_meaning file i.stack h.stack y.1 x.1 in
+    let q : IsFault i.stack text b = subst (λ o. IsSomeAnd o (λ t. IsFault i.stack t b)) is i.refused in
+    one_traces_fault h.stack text a b p (subst (λ s. IsFault s text b) stack q)))
+
 -- A read that failed, and what was read without a fault.
 read_or_sound : (r : Run) → CountsAll r → IsSound r.reads → ReadsFailed r → ⊥
 read_or_sound r counts sound h = still_rose r.reads counts.reads sound h.rose
@@ -361,6 +453,7 @@ Stops r words_refused = job_of_words r.words ≡ None
 Stops r (file_refused fault) = RefusesFile r fault
 Stops r (report_refused fault) = RefusesReport r fault
 Stops r (second_refused fault) = RefusesSecond r fault
+Stops r (traces_refused fault) = RefusesTraces r fault
 Stops r read_failed = ReadsFailed r
 Stops r _ = ⊥
 
@@ -385,6 +478,7 @@ way print r (file_refused fault) h = stopped h
 way print r (report_refused fault) h = stopped h
 way print r words_refused h = stopped h.0
 way print r (second_refused fault) h = stopped h
+way print r (traces_refused fault) h = stopped h
 way print r read_failed h = stopped h
 way print r write_failed h = went_on h.0 (began_reached print r h.1)
 way print r link_failed h = went_on h (links_reached r h.1)
@@ -396,6 +490,7 @@ stops_before r words_refused counts h m = jobless r h m
 stops_before r (file_refused fault) counts h m = refused_not_reached r fault m h.job h.refused
 stops_before r (report_refused fault) counts h m = report_not_reached r fault m h
 stops_before r (second_refused fault) counts h m = second_not_reached r fault m h
+stops_before r (traces_refused fault) counts h m = traces_not_reached r fault m h
 stops_before r read_failed counts h m = read_or_sound r counts m.sound h
 stops_before r _ counts h m = h
 
@@ -405,30 +500,42 @@ stops_once r words_refused words_refused counts h i = refl
 stops_once r words_refused (file_refused b) counts h i = absurd (no_job r _ h i.job)
 stops_once r words_refused (report_refused b) counts h i = absurd (no_job r _ h i.refused)
 stops_once r words_refused (second_refused b) counts h i = absurd (no_job r _ h i.refused)
+stops_once r words_refused (traces_refused b) counts h i = absurd (no_job r _ h i.others)
 stops_once r words_refused read_failed counts h i = absurd (no_job r _ h i.unread)
 stops_once r words_refused _ counts h i = absurd i
 stops_once r (file_refused a) words_refused counts h i = absurd (no_job r _ i h.job)
 stops_once r (file_refused a) (file_refused b) counts h i = ap file_refused (file_once r a b h i)
 stops_once r (file_refused a) (report_refused b) counts h i = absurd (report_or_file r b a i h)
 stops_once r (file_refused a) (second_refused b) counts h i = absurd (file_or_second r a b h i)
+stops_once r (file_refused a) (traces_refused b) counts h i = absurd (file_or_fine r a h (others_good r b i))
 stops_once r (file_refused a) read_failed counts h i = absurd (read_or_sound r counts h.sound i)
 stops_once r (file_refused a) _ counts h i = absurd i
 stops_once r (report_refused a) words_refused counts h i = absurd (no_job r _ i h.refused)
 stops_once r (report_refused a) (file_refused b) counts h i = absurd (report_or_file r a b h i)
 stops_once r (report_refused a) (report_refused b) counts h i = ap report_refused (report_once r a b h i)
 stops_once r (report_refused a) (second_refused b) counts h i = absurd (report_or_second r a b h i)
+stops_once r (report_refused a) (traces_refused b) counts h i = absurd (report_or_traces r a b h i)
 stops_once r (report_refused a) read_failed counts h i = absurd (read_or_sound r counts (met r _ h.refused).sound i)
 stops_once r (report_refused a) _ counts h i = absurd i
 stops_once r (second_refused a) words_refused counts h i = absurd (no_job r _ i h.refused)
 stops_once r (second_refused a) (file_refused b) counts h i = absurd (file_or_second r b a i h)
 stops_once r (second_refused a) (report_refused b) counts h i = absurd (report_or_second r b a i h)
 stops_once r (second_refused a) (second_refused b) counts h i = ap second_refused (second_once r a b h i)
+stops_once r (second_refused a) (traces_refused b) counts h i = absurd (second_or_met r a h (others_good r b i))
 stops_once r (second_refused a) read_failed counts h i = absurd (read_or_sound r counts (met r _ h.refused).sound i)
 stops_once r (second_refused a) _ counts h i = absurd i
+stops_once r (traces_refused a) words_refused counts h i = absurd (no_job r _ i h.others)
+stops_once r (traces_refused a) (file_refused b) counts h i = absurd (file_or_fine r b i (others_good r a h))
+stops_once r (traces_refused a) (report_refused b) counts h i = absurd (report_or_traces r b a i h)
+stops_once r (traces_refused a) (second_refused b) counts h i = absurd (second_or_met r b i (others_good r a h))
+stops_once r (traces_refused a) (traces_refused b) counts h i = ap traces_refused (traces_once r a b h i)
+stops_once r (traces_refused a) read_failed counts h i = absurd (read_or_sound r counts (met r _ h.others).sound i)
+stops_once r (traces_refused a) _ counts h i = absurd i
 stops_once r read_failed words_refused counts h i = absurd (no_job r _ i h.unread)
 stops_once r read_failed (file_refused b) counts h i = absurd (read_or_sound r counts i.sound h)
 stops_once r read_failed (report_refused b) counts h i = absurd (read_or_sound r counts (met r _ i.refused).sound h)
 stops_once r read_failed (second_refused b) counts h i = absurd (read_or_sound r counts (met r _ i.refused).sound h)
+stops_once r read_failed (traces_refused b) counts h i = absurd (read_or_sound r counts (met r _ i.others).sound h)
 stops_once r read_failed read_failed counts h i = refl
 stops_once r read_failed _ counts h i = absurd i
 stops_once r _ _ counts h i = absurd h
@@ -488,6 +595,7 @@ words_are_due print r ran none = go ran.end (way print r ran.end ran.ends) (said
   stops (file_refused fault) h came = absurd (no_job r _ none h.job)
   stops (report_refused fault) h came = absurd (no_job r _ none h.refused)
   stops (second_refused fault) h came = absurd (no_job r _ none h.refused)
+  stops (traces_refused fault) h came = absurd (no_job r _ none h.others)
   stops read_failed h came = absurd (no_job r _ none h.unread)
   stops _ h came = absurd h
 
@@ -499,11 +607,14 @@ words_are_due print r ran none = go ran.end (way print r ran.end ran.ends) (said
 -- A read that failed, of a run whose file was read and is refused.
 read_or_refused : (r : Run) (file : List ℕ) (fault : FileFault) → r.file ≡ Some file → Refuses file fault → ReadsFailed r → ⊥
 read_or_refused r file fault is refuses h = known (job_of_words r.words) _ ⊥ h.unread (λ job is_job x. go job x) where
-  go : (job : Job) → ((r.file ≡ None) ⊎ ((second_for job r.second ≡ None) × IsSomeAnd r.file IsGood)) → ⊥
+  go : (job : Job) → Unread r job → ⊥
   go job (inl none) = let both : ◌≡◌ {A = Option (List ℕ)} None (Some file) = sym none ∙ is in cc
-  go job (inr x) = known r.file IsGood ⊥ x.1 (λ other too good.
+  go job (inr (inl x)) = known r.file IsGood ⊥ x.1 (λ other too good.
       let same : other ≡ file = some_once other file (sym too ∙ is) in
       good_or_refused file good.stack fault (subst (λ text. Means text good.stack) same good.means) refuses)
+  go job (inr (inr x)) = known r.file _ ⊥ x.1 (λ other too y. known (second_for job r.second) (AreGood job other) ⊥ y (λ second there good.
+      let same : other ≡ file = some_once other file (sym too ∙ is) in
+      good_or_refused file good.stack fault (subst (λ text. Means text good.stack) same good.means) refuses))
 
 -- A job that was named and its files that were read.
 met_at : (r : Run) (job : Job) (file : List ℕ) (P : Job → Type 0) (Q : List ℕ → Type 0) → job_of_words r.words ≡ Some job → r.file ≡ Some file →
@@ -527,11 +638,17 @@ files_are_due print r job file fault ran is_job reads is_file refuses = go ran.e
       let same : n.file ≡ file = some_once n.file file (sym n.is_file ∙ is_file) in
       good_or_refused file i.stack fault (subst (λ text. Means text i.stack) same n.holds.0) refuses
 
+  read_on : (b : PackFault) → RefusesTraces r b → ⊥
+  read_on b i = let n = others_good r b i in
+      let same : n.file ≡ file = some_once n.file file (sym n.is_file ∙ is_file) in
+      good_or_refused file n.holds.stack fault (subst (λ text. Means text n.holds.stack) same n.holds.means) refuses
+
   stops : (end : Ended) → Stops r end → Came r (status_number end) → Came r 1
   stops words_refused h came = absurd (named r job is_job h)
   stops (file_refused other) h came = came
   stops (report_refused other) h came = came
   stops (second_refused other) h came = absurd (looked_on other h)
+  stops (traces_refused other) h came = absurd (read_on other h)
   stops read_failed h came = absurd (read_or_refused r file fault is_file refuses h)
   stops _ h came = absurd h
 
@@ -544,13 +661,11 @@ files_are_due print r job file fault ran is_job reads is_file refuses = go ran.e
 read_or_audited : (r : Run) (name : Text) (law : Law) (file : List ℕ) → job_of_words r.words ≡ Some (audit name law) → r.file ≡ Some file →
     ReadsFailed r → ⊥
 read_or_audited r name law file is_job is_file h =
-    go (subst (λ o. IsSomeAnd o Unread) is_job h.unread) where
-      Unread : Job → Type 0
-      Unread job = (r.file ≡ None) ⊎ ((second_for job r.second ≡ None) × IsSomeAnd r.file IsGood)
-
-      go : (r.file ≡ None) ⊎ ((second_for (audit name law) r.second ≡ None) × IsSomeAnd r.file IsGood) → ⊥
+    go (subst (λ o. IsSomeAnd o (Unread r)) is_job h.unread) where
+      go : Unread r (audit name law) → ⊥
       go (inl none) = let both : ◌≡◌ {A = Option (List ℕ)} None (Some file) = sym none ∙ is_file in cc
-      go (inr x) = let both : ◌≡◌ {A = Option (List ℕ)} (Some []) None = x.0 in cc
+      go (inr (inl x)) = let both : ◌≡◌ {A = Option (List ℕ)} (Some []) None = x.0 in cc
+      go (inr (inr x)) = let both : ◌≡◌ {A = Option (List ℕ)} (Some []) None = x.0 in cc
 
 pub reports_are_due : ReportsAreDue
 reports_are_due print r name law file fault ran is_job is_file refused = go ran.end (way print r ran.end ran.ends) (said r ran.end ran.says) where
@@ -561,7 +676,7 @@ reports_are_due print r name law file fault ran is_job is_file refused = go ran.
   reached m =
       let job : m.job ≡ audit name law = some_once m.job (audit name law) (sym m.is_job ∙ is_job) in
       let same : m.file ≡ file = some_once m.file file (sym m.is_file ∙ is_file) in
-      let good : IsReport law file = subst {A = Job × List ℕ} (λ x. Good x.0 x.1 m.second) (λ k. (job k, same k)) m.holds in
+      let good : IsReport law file = subst {A = Job × List ℕ} (λ x. Good r.third x.0 x.1 m.second) (λ k. (job k, same k)) m.holds in
       let both : ◌≡◌ {A = Result Finding AuditFault} (Err fault) (Ok good.finding) = sym refused ∙ good.found in cc
 
   no_second : (b : SecondFault) → RefusesSecond r b → ⊥
@@ -569,11 +684,17 @@ reports_are_due print r name law file fault ran is_job is_file refused = go ran.
       let job : n.job ≡ audit name law = some_once n.job (audit name law) (sym n.is_job ∙ is_job) in
       subst ReadsStack job (reads_stack n.job i.stack n.second b n.holds.1)
 
+  no_third : (b : PackFault) → RefusesTraces r b → ⊥
+  no_third b i = let n = met r _ i.others in
+      let job : n.job ≡ audit name law = some_once n.job (audit name law) (sym n.is_job ∙ is_job) in
+      subst ReadsTraces job n.holds.0
+
   stops : (end : Ended) → Stops r end → Came r (status_number end) → Came r 1
   stops words_refused h came = absurd (named r (audit name law) is_job h)
   stops (file_refused other) h came = came
   stops (report_refused other) h came = came
   stops (second_refused other) h came = absurd (no_second other h)
+  stops (traces_refused other) h came = absurd (no_third other h)
   stops read_failed h came = absurd (read_or_audited r name law file is_job is_file h)
   stops _ h came = absurd h
 
@@ -600,25 +721,40 @@ no_links (check name) r file second alone fails = fails
 no_links (synth name) r file second alone fails = fails
 no_links (pack name) r file second alone fails = fails
 no_links (replay name script mode wire count) r file second alone fails = fails
+no_links (replay_with name script given wire count) r file second alone fails = fails
 no_links (explain name script) r file second alone fails = fails
 no_links (load name seed events members raw mode) r file second alone fails = fails
 no_links (audit name law) r file second alone fails = fails
 
--- A read that failed, where both files are there.
-read_or_there : (r : Run) (job : Job) (file second : List ℕ) → job_of_words r.words ≡ Some job → r.file ≡ Some file →
-    second_for job r.second ≡ Some second → ReadsFailed r → ⊥
-read_or_there r job file second is_job is_file is_second h = known (job_of_words r.words) _ ⊥ h.unread (λ other too x. which other too x) where
-  which : (other : Job) → job_of_words r.words ≡ Some other →
-      ((r.file ≡ None) ⊎ ((second_for other r.second ≡ None) × IsSomeAnd r.file IsGood)) → ⊥
-  which other too (inl none) = let both : ◌≡◌ {A = Option (List ℕ)} None (Some file) = sym none ∙ is_file in cc
-  which other too (inr x) =
-      let same : other ≡ job = some_once other job (sym too ∙ is_job) in
-      let both : ◌≡◌ {A = Option (List ℕ)} None (Some second) = sym x.0 ∙ ap (λ j. second_for j r.second) same ∙ is_second in cc
+-- A third file that a job has, and that is there.
+third_there : (third : Option (List ℕ)) (job : Job) (file second : List ℕ) → Good third job file second → third_for job third ≡ None → ⊥
+third_there None (replay_with name script given wire count) file second good none = good.1.accepted
+third_there (Some third) (replay_with name script given wire count) file second good none = cc none
+third_there third (check name) file second good none = cc none
+third_there third (synth name) file second good none = cc none
+third_there third (pack name) file second good none = cc none
+third_there third (replay name script mode wire count) file second good none = cc none
+third_there third (explain name script) file second good none = cc none
+third_there third (load name seed events members raw mode) file second good none = cc none
+third_there third (node name plan turns me patience mode) file second good none = cc none
+third_there third (audit name law) file second good none = cc none
+
+-- A read that failed behind the first, where the first two files are there: it was that of the third.
+unread_third : (r : Run) (job : Job) (file second : List ℕ) → job_of_words r.words ≡ Some job → r.file ≡ Some file →
+    second_for job r.second ≡ Some second → ReadsFailed r → (third_for job r.third ≡ None) × AreGood job file second
+unread_third r job file second is_job is_file is_second h = go (subst (λ o. IsSomeAnd o (Unread r)) is_job h.unread) where
+  go : Unread r job → (third_for job r.third ≡ None) × AreGood job file second
+  go (inl none) = absurd (let both : ◌≡◌ {A = Option (List ℕ)} None (Some file) = sym none ∙ is_file in cc)
+  go (inr (inl x)) = absurd (let both : ◌≡◌ {A = Option (List ℕ)} None (Some second) = sym x.0 ∙ is_second in cc)
+  go (inr (inr x)) = (
+    x.0,
+    subst (λ o. IsSomeAnd o (AreGood job file)) is_second (subst (λ o. IsSomeAnd o (λ f. IsSomeAnd (second_for job r.second) (AreGood job f))) is_file x.1),
+  )
 
 pub good_are_due : GoodAreDue
 good_are_due print r job file second out ran puts alone is_job is_file is_second writes =
     go ran.end (way print r ran.end ran.ends) (said r ran.end ran.says) where
-      good : Good job file second
+      good : Good r.third job file second
       good = writes_good print job r file second out writes
 
       at_job : (P : Job → (file second : List ℕ) → Type 0) → OfJob r P → P job file second
@@ -627,18 +763,25 @@ good_are_due print r job file second out ran puts alone is_job is_file is_second
       at_file : (other : FileFault) → RefusesFile r other → ⊥
       at_file other h = known r.file (λ text. Refuses text other) ⊥ h.refused (λ text is x.
           let same : text ≡ file = some_once text file (sym is ∙ is_file) in
-          let g = good_stack job file second (stack_job r job is_job h.job) good in
+          let g = good_stack r.third job file second (stack_job r job is_job h.job) good in
           good_or_refused file g.stack other g.means (subst (λ t. Refuses t other) same x))
 
       at_second : (other : SecondFault) → RefusesSecond r other → ⊥
-      at_second other h = let x = at_job _ h.refused in second_or_good job file second h.stack other x.0 x.1 good
+      at_second other h = let x = at_job _ h.refused in second_or_good r.third job file second h.stack other x.0 x.1 good
+
+      at_third : (other : PackFault) → RefusesTraces r other → ⊥
+      at_third other h = let x = at_job _ h.others in traces_or_good r.third job file second h.stack other x.0 x.1 h.refused good
+
+      unread : ReadsFailed r → ⊥
+      unread h = third_there r.third job file second good (unread_third r job file second is_job is_file is_second h).0
 
       stops : (end : Ended) → Stops r end → ⊥
       stops words_refused h = named r job is_job h
       stops (file_refused other) h = at_file other h
-      stops (report_refused other) h = no_report_or_good job file second other (at_job _ h.refused) good
+      stops (report_refused other) h = no_report_or_good r.third job file second other (at_job _ h.refused) good
       stops (second_refused other) h = at_second other h
-      stops read_failed h = read_or_there r job file second is_job is_file is_second h
+      stops (traces_refused other) h = at_third other h
+      stops read_failed h = unread h
       stops _ h = h
 
       goes : (end : Ended) → GoesOn print r end → end ≡ whole_end job file
@@ -666,12 +809,13 @@ misses_are_due print r job ran is_job none = go ran.end (way print r ran.end ran
   stops (file_refused other) h came = absurd (at_file _ h.refused)
   stops (report_refused other) h came = absurd (met_none _ (met r _ h.refused))
   stops (second_refused other) h came = absurd (met_none _ (met r _ h.refused))
+  stops (traces_refused other) h came = absurd (met_none _ (met r _ h.others))
   stops read_failed h came = came
   stops _ h came = absurd h
 
   go : (end : Ended) → Way print r end → Came r (status_number end) → Came r 4
   go end (stopped h) came = stops end h came
-  go end (went_on h m) came = absurd (met_none Good m)
+  go end (went_on h m) came = absurd (met_none (Good r.third) m)
   go end (wanted is) came = want_of r end 4 is came
 
 pub seconds_are_due : SecondsAreDue
@@ -686,8 +830,8 @@ seconds_are_due print r job file second stack fault ran is_job is_file is_second
           let same_file : m.file ≡ file = some_once m.file file (sym m.is_file ∙ is_file) in
           let same_second : m.second ≡ second =
           some_once m.second second (sym m.is_second ∙ ap (λ j. second_for j r.second) same_job ∙ is_second) in
-          second_or_good job file second stack fault means refuses
-          (subst {A = Job × List ℕ × List ℕ} (λ x. Good x.0 x.1 x.2) (λ k. (same_job k, same_file k, same_second k)) m.holds)
+          second_or_good r.third job file second stack fault means refuses
+          (subst {A = Job × List ℕ × List ℕ} (λ x. Good r.third x.0 x.1 x.2) (λ k. (same_job k, same_file k, same_second k)) m.holds)
 
       at_file : (other : FileFault) → RefusesFile r other → ⊥
       at_file other h = known r.file (λ text. Refuses text other) ⊥ h.refused (λ text is x.
@@ -698,19 +842,18 @@ seconds_are_due print r job file second stack fault ran is_job is_file is_second
       no_report b i = let m = met r _ i.refused in no_report_or_stack m.job m.file b m.holds (stack_job r m.job m.is_job reads)
 
       unread : ReadsFailed r → ⊥
-      unread h = known (job_of_words r.words) _ ⊥ h.unread (λ other too x. which other too x) where
-        which : (other : Job) → job_of_words r.words ≡ Some other →
-            ((r.file ≡ None) ⊎ ((second_for other r.second ≡ None) × IsSomeAnd r.file IsGood)) → ⊥
-        which other too (inl none) = let both : ◌≡◌ {A = Option (List ℕ)} None (Some file) = sym none ∙ is_file in cc
-        which other too (inr x) =
-            let same : other ≡ job = some_once other job (sym too ∙ is_job) in
-            let both : ◌≡◌ {A = Option (List ℕ)} None (Some second) = sym x.0 ∙ ap (λ j. second_for j r.second) same ∙ is_second in cc
+      unread h = second_or_fine job file second stack fault means refuses (unread_third r job file second is_job is_file is_second h).1
+
+      at_third : (other : PackFault) → RefusesTraces r other → ⊥
+      at_third other h = let x = holds_there r _ job file second is_job is_file is_second h.others in
+          second_or_fine job file second stack fault means refuses (record { stack = h.stack; means = x.1; fine = x.2 })
 
       stops : (end : Ended) → Stops r end → Came r (status_number end) → Came r 3
       stops words_refused h came = absurd (named r job is_job h)
       stops (file_refused other) h came = absurd (at_file other h)
       stops (report_refused other) h came = absurd (no_report other h)
       stops (second_refused other) h came = came
+      stops (traces_refused other) h came = absurd (at_third other h)
       stops read_failed h came = absurd (unread h)
       stops _ h came = absurd h
 
@@ -737,10 +880,111 @@ second_misses_are_due print r job file stack ran is_job is_file means none =
       stops (file_refused other) h came = absurd (at_file other h)
       stops (report_refused other) h came = absurd (met_none _ (met r _ h.refused))
       stops (second_refused other) h came = absurd (met_none _ (met r _ h.refused))
+      stops (traces_refused other) h came = absurd (met_none _ (met r _ h.others))
       stops read_failed h came = came
       stops _ h came = absurd h
 
       go : (end : Ended) → Way print r end → Came r (status_number end) → Came r 4
       go end (stopped h) came = stops end h came
-      go end (went_on h m) came = absurd (met_none Good m)
+      go end (went_on h m) came = absurd (met_none (Good r.third) m)
+      go end (wanted is) came = want_of r end 4 is came
+
+-- A run over first files that are good, and not at its end over all: what may have stopped it in front of its third.
+module _ (r : Run) (job : Job) (file second : List ℕ) (stack : List LayerTree) (is_job : job_of_words r.words ≡ Some job) (is_file : r.file ≡ Some file)
+    (is_second : second_for job r.second ≡ Some second) (means : Means file stack) (fine : second_fault job stack second ≡ None) where
+  there : (P : Job → (file second : List ℕ) → Type 0) → OfJob r P → P job file second
+  there P h = holds_there r P job file second is_job is_file is_second h
+
+  no_bad_file : (other : FileFault) → RefusesFile r other → ⊥
+  no_bad_file other h = known r.file (λ text. Refuses text other) ⊥ h.refused (λ text is x.
+      let same : text ≡ file = some_once text file (sym is ∙ is_file) in
+      good_or_refused file stack other means (subst (λ t. Refuses t other) same x))
+
+  no_bad_second : (other : SecondFault) → RefusesSecond r other → ⊥
+  no_bad_second other h = let x = there _ h.refused in
+      second_or_fine job file second h.stack other x.0 x.1 (record { stack = stack; means = means; fine = fine })
+
+pub traces_are_due : TracesAreDue
+traces_are_due print r job file second third stack fault ran is_job reads is_file is_second means fine is_third refused =
+    go ran.end (way print r ran.end ran.ends) (said r ran.end ran.says) where
+      refused_there : IsSomeAnd r.third (λ text. IsFault stack text fault)
+      refused_there = subst (λ o. IsSomeAnd o (λ text. IsFault stack text fault)) (sym is_third) refused
+
+      unread : (job : Job) → ReadsTraces job → third_for job r.third ≡ None → ⊥
+      unread (replay_with name script given wire count) reads none =
+          let both : ◌≡◌ {A = Option (List ℕ)} None (Some third) = sym none ∙ is_third in cc
+      unread (check name) reads none = reads
+      unread (synth name) reads none = reads
+      unread (pack name) reads none = reads
+      unread (replay name script mode wire count) reads none = reads
+      unread (explain name script) reads none = reads
+      unread (load name seed events members raw mode) reads none = reads
+      unread (node name plan turns me patience mode) reads none = reads
+      unread (audit name law) reads none = reads
+
+      no_report : (b : AuditFault) → RefusesReport r b → ⊥
+      no_report b i = no_report_or_stack job file b (there r job file second stack is_job is_file is_second means fine _ i.refused) (traces_stack job reads)
+
+      stops : (end : Ended) → Stops r end → Came r (status_number end) → Came r 9
+      stops words_refused h came = absurd (named r job is_job h)
+      stops (file_refused other) h came = absurd (no_bad_file r job file second stack is_job is_file is_second means fine other h)
+      stops (report_refused other) h came = absurd (no_report other h)
+      stops (second_refused other) h came = absurd (no_bad_second r job file second stack is_job is_file is_second means fine other h)
+      stops (traces_refused other) h came = came
+      stops read_failed h came = absurd (unread job reads (unread_third r job file second is_job is_file is_second h).0)
+      stops _ h came = absurd h
+
+      reached : Reached r → ⊥
+      reached m =
+          let same_job : m.job ≡ job = some_once m.job job (sym m.is_job ∙ is_job) in
+          let same_file : m.file ≡ file = some_once m.file file (sym m.is_file ∙ is_file) in
+          traces_or_good r.third job file m.second stack fault reads means refused_there
+          (subst {A = Job × List ℕ} (λ x. Good r.third x.0 x.1 m.second) (λ k. (same_job k, same_file k)) m.holds)
+
+      go : (end : Ended) → Way print r end → Came r (status_number end) → Came r 9
+      go end (stopped h) came = stops end h came
+      go end (went_on h m) came = absurd (reached m)
+      go end (wanted is) came = want_of r end 9 is came
+
+-- A job whose third file isn't there has one.
+has_third : (third : Option (List ℕ)) (job : Job) → third_for job third ≡ None → ReadsTraces job × (third ≡ None)
+has_third third (replay_with name script given wire count) none = (tt, none)
+has_third third (check name) none = absurd (cc none)
+has_third third (synth name) none = absurd (cc none)
+has_third third (pack name) none = absurd (cc none)
+has_third third (replay name script mode wire count) none = absurd (cc none)
+has_third third (explain name script) none = absurd (cc none)
+has_third third (load name seed events members raw mode) none = absurd (cc none)
+has_third third (node name plan turns me patience mode) none = absurd (cc none)
+has_third third (audit name law) none = absurd (cc none)
+
+pub third_misses_are_due : ThirdMissesAreDue
+third_misses_are_due print r job file second stack ran is_job is_file is_second means fine none =
+    go ran.end (way print r ran.end ran.ends) (said r ran.end ran.says) where
+      reads : ReadsTraces job
+      reads = (has_third r.third job none).0
+
+      no_report : (b : AuditFault) → RefusesReport r b → ⊥
+      no_report b i = no_report_or_stack job file b (there r job file second stack is_job is_file is_second means fine _ i.refused) (traces_stack job reads)
+
+      at_third : (P : List ℕ → Type 0) → IsSomeAnd r.third P → ⊥
+      at_third P h = subst (λ o. IsSomeAnd o P) (has_third r.third job none).1 h
+
+      stops : (end : Ended) → Stops r end → Came r (status_number end) → Came r 4
+      stops words_refused h came = absurd (named r job is_job h)
+      stops (file_refused other) h came = absurd (no_bad_file r job file second stack is_job is_file is_second means fine other h)
+      stops (report_refused other) h came = absurd (no_report other h)
+      stops (second_refused other) h came = absurd (no_bad_second r job file second stack is_job is_file is_second means fine other h)
+      stops (traces_refused other) h came = absurd (at_third _ h.refused)
+      stops read_failed h came = came
+      stops _ h came = absurd h
+
+      reached : Reached r → ⊥
+      reached m =
+          let same : m.job ≡ job = some_once m.job job (sym m.is_job ∙ is_job) in
+          third_there r.third m.job m.file m.second m.holds (ap (λ j. third_for j r.third) same ∙ none)
+
+      go : (end : Ended) → Way print r end → Came r (status_number end) → Came r 4
+      go end (stopped h) came = stops end h came
+      go end (went_on h m) came = absurd (reached m)
       go end (wanted is) came = want_of r end 4 is came

@@ -7,11 +7,12 @@ use Rattle.file_mean.specs.Library.{IsFile}
 use Rattle.audit_mean.specs.Finding.{AuditFault, audit_of}
 use Rattle.audit_mean.specs.declared.law.Law.{Law}
 use Rattle.clap.specs.Walk.{Text}
-use Rattle.job_mean.specs.Job.{Job, check, synth, pack, replay, load, node, audit, job_of_words}
+use Rattle.job_mean.specs.Job.{Job, node, audit, job_of_words}
+use Rattle.pack_mean.specs.Accepted.{PackFault, Accepts, IsFault}
 use Rattle.end_mean.specs.Status.{FileFault, SecondFault, Ended, no_memory, status_number}
 use Rattle.output_mean.specs.Judged.{Means, Refuses}
 use Rattle.program_mean.specs.Second.{second_fault}
-use Rattle.program_mean.specs.Headline.{Printer, Counted, Run, Fails, second_for, WritesOf, whole_end, ReadsStack, Ends, Ran}
+use Rattle.program_mean.specs.Headline.{Printer, Counted, Run, Fails, second_for, third_for, WritesOf, whole_end, ReadsStack, ReadsTraces, Ends, Ran}
 
 -- A text is one file at most, means one stack at most, and is refused for one cause at most; and what means a stack isn't refused.
 abbrev pub OneFile : Type 0
@@ -25,6 +26,13 @@ OneRefusal = (text : List ℕ) (a b : FileFault) → Refuses text a → Refuses 
 
 abbrev pub GoodOrRefused : Type 0
 GoodOrRefused = (text : List ℕ) (s : List LayerTree) (fault : FileFault) → Means text s → Refuses text fault → ⊥
+
+-- For a stack a file of traces is refused for one cause at most, and what is accepted isn't refused.
+abbrev pub OneTracesFault : Type 0
+OneTracesFault = (stack : List LayerTree) (text : List ℕ) (a b : PackFault) → IsFault stack text a → IsFault stack text b → a ≡ b
+
+abbrev pub AcceptedOrRefused : Type 0
+AcceptedOrRefused = (stack : List LayerTree) (text : List ℕ) (fault : PackFault) → Accepts stack text → IsFault stack text fault → ⊥
 
 -- A count that doesn't stand at its last value behind the run, and so tells each failure.
 abbrev pub Counts : Counted → Type 0
@@ -87,3 +95,15 @@ abbrev pub SecondsAreDue : Type 0
 SecondsAreDue = (print : Printer) (r : Run) (job : Job) (file second : List ℕ) (stack : List LayerTree) (fault : SecondFault) →
     Ran print r → job_of_words r.words ≡ Some job → r.file ≡ Some file → second_for job r.second ≡ Some second → Means file stack →
     second_fault job stack second ≡ Some fault → Came r 3
+
+-- A replay by the traces of a file, whose other files are good and whose file of traces is read and refused, ends with 9.
+abbrev pub TracesAreDue : Type 0
+TracesAreDue = (print : Printer) (r : Run) (job : Job) (file second third : List ℕ) (stack : List LayerTree) (fault : PackFault) → Ran print r →
+    job_of_words r.words ≡ Some job → ReadsTraces job → r.file ≡ Some file → second_for job r.second ≡ Some second → Means file stack →
+    second_fault job stack second ≡ None → r.third ≡ Some third → IsFault stack third fault → Came r 9
+
+-- A job whose first two files are good, and whose third isn't there, ends with 4.
+abbrev pub ThirdMissesAreDue : Type 0
+ThirdMissesAreDue = (print : Printer) (r : Run) (job : Job) (file second : List ℕ) (stack : List LayerTree) → Ran print r →
+    job_of_words r.words ≡ Some job → r.file ≡ Some file → second_for job r.second ≡ Some second → Means file stack →
+    second_fault job stack second ≡ None → third_for job r.third ≡ None → Came r 4

@@ -2,6 +2,7 @@
 #![tactic(auto)]
 
 ghost use Rattle.program_laws.specs.OneEnd.{
+  AcceptedOrRefused,
   FilesAreDue,
   GoodAreDue,
   GoodOrRefused,
@@ -10,9 +11,12 @@ ghost use Rattle.program_laws.specs.OneEnd.{
   OneFile,
   OneMeaning,
   OneRefusal,
+  OneTracesFault,
   ReportsAreDue,
   SecondMissesAreDue,
   SecondsAreDue,
+  ThirdMissesAreDue,
+  TracesAreDue,
   WordsAreDue,
 };
 
@@ -34,6 +38,16 @@ pub fn one_refusal()
 /// What means a stack isn't refused.
 pub fn good_or_refused()
     ensures { GoodOrRefused }
+{}
+
+/// For a stack a file of traces is refused for one cause at most.
+pub fn one_traces_fault()
+    ensures { OneTracesFault }
+{}
+
+/// What is accepted isn't refused.
+pub fn accepted_or_refused()
+    ensures { AcceptedOrRefused }
 {}
 
 /// A run of the program has one end, but for want of memory.
@@ -74,4 +88,14 @@ pub fn seconds_are_due()
 /// A second file that isn't there ends with status 4, or memory ran out.
 pub fn second_misses_are_due()
     ensures { SecondMissesAreDue }
+{}
+
+/// A file of traces that is refused ends with status 9, or memory ran out.
+pub fn traces_are_due()
+    ensures { TracesAreDue }
+{}
+
+/// A third file that isn't there ends with status 4, or memory ran out.
+pub fn third_misses_are_due()
+    ensures { ThirdMissesAreDue }
 {}

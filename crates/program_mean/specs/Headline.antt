@@ -9,12 +9,14 @@ use Rattle.audit_mean.specs.Finding.{AuditFault, audit_of}
 use Rattle.audit_mean.specs.declared.law.Finding.{Finding}
 use Rattle.audit_mean.specs.declared.law.Finding.TheVariants.{Breach}
 use Rattle.run_mean.specs.Mode.{Mode, layered, bypass}
-use Rattle.job_mean.specs.Job.{Job, check, synth, pack, replay, explain, load, node, audit, job_of_words}
-use Rattle.end_mean.specs.Status.{FileFault, SecondFault, Ended, done, breached, file_refused, report_refused, words_refused, second_refused, read_failed, write_failed, link_failed, no_memory, status_number, error_line}
+use Rattle.pack_mean.specs.Accepted.{Accepts, PackFault, IsFault}
+use Rattle.job_mean.specs.Job.{Job, check, synth, pack, replay, replay_with, explain, load, node, audit, job_of_words}
+use Rattle.end_mean.specs.Status.{FileFault, SecondFault, Ended, done, breached, file_refused, report_refused, words_refused, second_refused, traces_refused, read_failed, write_failed, link_failed, no_memory, status_number, error_line}
 use Rattle.run_mean.specs.Journal.{Heard, Handed}
 use Rattle.run_mean.specs.Report.{report_lines, output_in}
 use Rattle.output_mean.specs.Judged.{Means, IsGood, Refuses}
-use Rattle.output_mean.specs.Output.{Checks, Replays, Explains, Loads, Surroundings, node_words, failures, Serves, CannotListen, GoesDeaf, Audits}
+use Rattle.group_mean.specs.Node.{Surroundings, node_words, failures}
+use Rattle.output_mean.specs.Output.{Checks, Replays, Explains, Loads, Serves, CannotListen, GoesDeaf, Audits}
 use Rattle.program_mean.specs.Second.{second_fault}
 
 -- A count of faults before and after a run.
@@ -22,13 +24,14 @@ pub record Counted : Type 0 where
   pub before : ℕ
   pub after : ℕ
 
--- All that surrounded a run of the program: its words; the bytes of the job's file and of its second file, each where a read met it; what a
+-- All that surrounded a run of the program: its words; the bytes of the job's file, of its second and of its third, each where a read met it; what a
 -- node's clock and network told and were handed; the counts of faults of the shelf, of the output, of the network's listens and
 -- receives, of its sends and of the standard error; what the output and the standard error gained, and the status.
 pub record Run : Type 0 where
   pub words : List Text
   pub file : Option (List ℕ)
   pub second : Option (List ℕ)
+  pub third : Option (List ℕ)
   pub surroundings : Surroundings
   pub sent : List Handed
   pub reads : Counted
@@ -54,9 +57,15 @@ RoseBy count failures = (count.after ≡ count.before + failures) ⊎ (count.aft
 -- Whether a job has a second file; one that has none reads as if it were empty.
 abbrev pub second_for : Job → Option (List ℕ) → Option (List ℕ)
 second_for (replay name script mode wire count) second = second
+second_for (replay_with name script given wire count) second = second
 second_for (explain name script) second = second
 second_for (node name plan turns me patience mode) second = second
 second_for _ second = Some []
+
+-- Whether a job has a third file, which is one of traces; one that has none reads as if it were empty.
+abbrev pub third_for : Job → Option (List ℕ) → Option (List ℕ)
+third_for (replay_with name script given wire count) third = third
+third_for _ third = Some []
 
 -- What is printed of a stack's bypasses: their guarded handlers, to be read, or their traces, to be run.
 pub data Printing : Type 0 where
@@ -73,6 +82,12 @@ pub record Prints (print : List LayerTree → List ℕ) (file out : List ℕ) : 
   pub means : Means file stack
   pub written : out ≡ print stack
 
+-- A file of traces was read, and is accepted for the stack that the stack file means.
+pub record TakesTraces (file : List ℕ) (third : Option (List ℕ)) : Type 0 where
+  pub stack : List LayerTree
+  pub means : Means file stack
+  pub accepted : IsSomeAnd third (Accepts stack)
+
 -- Nothing was handed to the network: a node alone hands it something.
 abbrev pub HandsNothing : Run → Type 0
 HandsNothing r = r.sent ≡ []
@@ -83,6 +98,8 @@ WritesOf print (check name) r file second out = Checks file out × HandsNothing 
 WritesOf print (synth name) r file second out = Prints (print handlers) file out × HandsNothing r
 WritesOf print (pack name) r file second out = Prints (print traces) file out × HandsNothing r
 WritesOf print (replay name script mode wire count) r file second out = Replays file second mode wire count out × HandsNothing r
+WritesOf print (replay_with name script given wire count) r file second out =
+    Replays file second bypass wire count out × TakesTraces file r.third × HandsNothing r
 WritesOf print (explain name script) r file second out = Explains file second out × HandsNothing r
 WritesOf print (load name seed events members raw mode) r file second out =
     Loads file seed events members raw mode out × HandsNothing r
@@ -99,7 +116,7 @@ abbrev pub whole_end : Job → (file : List ℕ) → Ended
 whole_end (audit name law) file = end_found (audit_of law file)
 whole_end _ file = done
 
--- The words are a job, both its files were read without a fault, and something holds of these.
+-- The words are a job, no read failed, its file and its second file were read, and something holds of these.
 abbrev pub OfJob : Run → (Job → (file second : List ℕ) → Type 0) → Type 0
 OfJob r Holds = IsSomeAnd (job_of_words r.words) (λ job. IsSound r.reads × IsSomeAnd r.file (λ file.
     IsSomeAnd (second_for job r.second) (λ second. Holds job file second)))
@@ -152,6 +169,11 @@ pub record RefusesFile (r : Run) (fault : FileFault) : Type 0 where
   pub refused : IsSomeAnd r.file (λ file. Refuses file fault)
   pub nothing : WroteNothing r
 
+-- A job has a file of traces: it is a replay by these.
+abbrev pub ReadsTraces : Job → Type 0
+ReadsTraces (replay_with name script given wire count) = Unit {0}
+ReadsTraces _ = ⊥
+
 -- A job is an audit, and its file is no report.
 abbrev pub IsNoReport : Job → (file : List ℕ) → AuditFault → Type 0
 IsNoReport (audit name law) file fault = audit_of law file ≡ Err fault
@@ -169,11 +191,28 @@ pub record RefusesSecond (r : Run) (fault : SecondFault) : Type 0 where
   pub refused : OfJob r (λ job file second. Means file stack × (second_fault job stack second ≡ Some fault))
   pub nothing : WroteNothing r
 
--- The words are a job of which a read failed: that of its file, or, where the file is good, that of its second file.
+-- A job's file means a stack, over which its second file isn't refused.
+pub record AreGood (job : Job) (file second : List ℕ) : Type 0 where
+  pub stack : List LayerTree
+  pub means : Means file stack
+  pub fine : second_fault job stack second ≡ None
+
+-- The words are a replay by the traces of a file whose other files are good; that file was read without a fault, and is refused.
+pub record RefusesTraces (r : Run) (fault : PackFault) : Type 0 where
+  pub stack : List LayerTree
+  pub others : OfJob r (λ job file second. ReadsTraces job × Means file stack × (second_fault job stack second ≡ None))
+  pub refused : IsSomeAnd r.third (λ text. IsFault stack text fault)
+  pub nothing : WroteNothing r
+
+-- A job's files up to one that couldn't be read: its first; or its second, where the first is good; or its third, where both are.
+abbrev pub Unread : Run → Job → Type 0
+Unread r job = (r.file ≡ None) ⊎ ((second_for job r.second ≡ None) × IsSomeAnd r.file IsGood)
+    ⊎ ((third_for job r.third ≡ None) × IsSomeAnd r.file (λ file. IsSomeAnd (second_for job r.second) (AreGood job file)))
+
+-- The words are a job of which a read failed: that of its first file, or one behind files that are good.
 pub record ReadsFailed (r : Run) : Type 0 where
   pub rose : Fails r.reads
-  pub unread : IsSomeAnd (job_of_words r.words) (λ job.
-      (r.file ≡ None) ⊎ ((second_for job r.second ≡ None) × IsSomeAnd r.file IsGood))
+  pub unread : IsSomeAnd (job_of_words r.words) (Unread r)
   pub nothing : WroteNothing r
 
 -- The words are a node's job whose files are good, and a listen failed, or one more receive than is borne.
@@ -191,6 +230,7 @@ Ends print r (file_refused fault) = RefusesFile r fault
 Ends print r (report_refused fault) = RefusesReport r fault
 Ends print r words_refused = (job_of_words r.words ≡ None) × IsSound r.reads × WroteNothing r
 Ends print r (second_refused fault) = RefusesSecond r fault
+Ends print r (traces_refused fault) = RefusesTraces r fault
 Ends print r read_failed = ReadsFailed r
 Ends print r write_failed = Fails r.puts × Began print r
 Ends print r link_failed = IsSound r.puts × OfJob r (λ job file second. LinksFail job r file second)

@@ -7,7 +7,7 @@ use Rattle.script_mean.specs.Script.{ScriptFault, no_member, script_of}
 use Rattle.script_mean.specs.declared.plan.NodePlan.{NodePlan}
 use Rattle.script_mean.specs.declared.script.Script.{Script}
 use Rattle.stack_mean.specs.Acceptance.{rows_of, most_rows}
-use Rattle.job_mean.specs.Job.{Job, check, synth, pack, replay, explain, load, node, audit}
+use Rattle.job_mean.specs.Job.{Job, check, synth, pack, replay, replay_with, explain, load, node, audit}
 use Rattle.end_mean.specs.Status.{SecondFault, misspelled, too_many_rows}
 
 -- The members of a stack have too many rows, in a group of so many.
@@ -31,6 +31,7 @@ second_fault (check file) stack text = None
 second_fault (synth file) stack text = None
 second_fault (pack file) stack text = None
 second_fault (replay file script mode wire count) stack text = after_script stack (script_of text)
+second_fault (replay_with file script traces wire count) stack text = after_script stack (script_of text)
 second_fault (explain file script) stack text = after_script stack (script_of text)
 second_fault (load file seed events members raw mode) stack text = crowded stack members
 second_fault (node file plan turns me patience mode) stack text = after_plan stack me (node_plan text)

@@ -3,7 +3,8 @@ use Rattle.std.specs.Prelude.{ℕ, List, [], ◌∷◌, ◌++◌, codes}
 use Rattle.run_mean.specs.Mode.{bypass}
 use Rattle.run_mean.specs.Journal.{Heard, silence, failure}
 use Rattle.file_mean.specs.CounterFile as counter
-use Rattle.output_mean.specs.Output.{Surroundings, NodeWords, Serves, GoesDeaf}
+use Rattle.group_mean.specs.Node.{Surroundings, NodeWords}
+use Rattle.output_mean.specs.Output.{Serves, GoesDeaf}
 
 -- Its plan, of which these turns have nothing.
 abbrev pub plan : List ℕ

@@ -43,3 +43,7 @@ returns-clause-report c = refl
 pub returns-clause-breach : goal.returns-clause-breach
 unfolding digits kinds
 returns-clause-breach c = (refl, refl)
+
+pub returns-clause-traces : goal.returns-clause-traces
+unfolding digits kinds
+returns-clause-traces c = refl

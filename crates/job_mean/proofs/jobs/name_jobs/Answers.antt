@@ -66,3 +66,11 @@ returns-clause-audits_order c = refl
 pub returns-clause-audits_views : goal.returns-clause-audits_views
 unfolding clap_on_literals
 returns-clause-audits_views c = refl
+
+pub returns-clause-replays_traces : goal.returns-clause-replays_traces
+unfolding clap_on_literals
+returns-clause-replays_traces c = refl
+
+pub returns-clause-replays_traces_by_bypasses : goal.returns-clause-replays_traces_by_bypasses
+unfolding clap_on_literals
+returns-clause-replays_traces_by_bypasses c = refl

@@ -66,3 +66,7 @@ returns-clause-end_for_a_value c = refl
 pub returns-clause-raw_twice : goal.returns-clause-raw_twice
 unfolding clap_on_literals
 returns-clause-raw_twice c = refl
+
+pub returns-clause-traces_twice : goal.returns-clause-traces_twice
+unfolding clap_on_literals
+returns-clause-traces_twice c = refl

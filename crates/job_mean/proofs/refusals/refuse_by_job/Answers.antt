@@ -86,3 +86,19 @@ returns-clause-script_for_audit c = refl
 pub returns-clause-law_for_check : goal.returns-clause-law_for_check
 unfolding clap_on_literals
 returns-clause-law_for_check c = refl
+
+pub returns-clause-traces_for_layers : goal.returns-clause-traces_for_layers
+unfolding clap_on_literals
+returns-clause-traces_for_layers c = refl
+
+pub returns-clause-traces_for_explain : goal.returns-clause-traces_for_explain
+unfolding clap_on_literals
+returns-clause-traces_for_explain c = refl
+
+pub returns-clause-traces_for_load : goal.returns-clause-traces_for_load
+unfolding clap_on_literals
+returns-clause-traces_for_load c = refl
+
+pub returns-clause-traces_for_node : goal.returns-clause-traces_for_node
+unfolding clap_on_literals
+returns-clause-traces_for_node c = refl
