@@ -1,4 +1,4 @@
-mod Fronts
+pub mod Fronts
 mod Runs
 mod Signs
 mod Places

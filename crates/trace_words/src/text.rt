@@ -13,6 +13,7 @@ use crate::name::Name;
 use itoa::Buffer;
 
 /// What is left of a line.
+#[derive(Drop)]
 pub struct Text<'a> {
     rest: &'a [u8],
 }

@@ -1,0 +1,4 @@
+mod Took
+mod Arms
+mod Cells
+mod Opened

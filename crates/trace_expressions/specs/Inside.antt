@@ -1,0 +1,17 @@
+-- What stands in brackets on a line.
+use Rattle.std.specs.Prelude.{ℕ, zero, suc, ◌≡◌, Result, Ok, Err}
+use Rattle.pack_mean.specs.Expression.{Inner, inside}
+use Rattle.trace_words.specs.View.{layers_in, named_in}
+use Rattle.trace_words.specs.declared.error.LineError.{LineError}
+use Rattle.trace_words.specs.declared.error.LineError.TheVariants.{Form, Memory}
+use Rattle.trace_words.specs.declared.scope.Scope.{Scope}
+
+-- How what stands in a bracket of a line is read, inside of which so many may be opened.
+unfoldable pub inner : Scope → ℕ → Inner
+inner s room = inside (layers_in s) (named_in s) room
+
+-- How many may be opened inside the next one, if one may.
+abbrev pub Opens : ℕ → Result ℕ LineError → Type 0
+Opens room (Ok less) = room ≡ suc less
+Opens room (Err Form) = room ≡ zero
+Opens room (Err Memory) = ⊥

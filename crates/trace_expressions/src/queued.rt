@@ -1,0 +1,10 @@
+//! A queue, as it is read.
+
+use trace_words::Spot;
+
+/// A queue: its cell, and the node of its index.
+#[derive(Clone, Copy)]
+pub struct Queue {
+    pub spot: Spot,
+    pub index: u32,
+}

@@ -1,0 +1,54 @@
+//! What cells are.
+
+ghost use Rattle.std.specs.Prelude.{◌≡◌, option_map};
+ghost use Rattle.bypass_mean.specs.Text.{layer_of};
+ghost use Rattle.event_graph.specs.Answer.{stack_tree};
+ghost use Rattle.trace_mean.specs.Fuse.{form_at};
+ghost use Rattle.typed_layer.specs.View.{form_tree};
+ghost use Rattle.trace_expressions.specs.Sorts.{sort_of};
+
+use event_graph::Stack;
+use layer_ast::Shape;
+use trace_words::{Spot, cell_at};
+use typed_layer::Form;
+
+/// What a cell is.
+#[derive(Clone, Copy)]
+pub(crate) enum Sort {
+    Number,
+    Array,
+    Square,
+    Queue,
+    Queues,
+}
+
+/// What a form makes of a cell.
+fn sort_in(form: &Form) -> Sort
+    ensures { result ≡ sort_of (form_tree form.now) }
+{
+    match form {
+        Form::Numbers { shape, initial: _ } => match shape {
+            Shape::One => Sort::Number,
+            Shape::Array => Sort::Array,
+            Shape::Square => Sort::Square,
+        },
+        Form::Queue {
+            capacity: _,
+            items: _,
+        } => Sort::Queue,
+        Form::Queues {
+            capacity: _,
+            items: _,
+        } => Sort::Queues,
+    }
+}
+
+/// What a cell is, if it is there.
+pub(crate) fn sort_at(stack: &Stack, spot: Spot) -> Option<Sort>
+    ensures { result ≡ option_map sort_of (form_at (layer_of (stack_tree stack.now) spot.place) spot.cell) }
+{
+    match cell_at(stack, spot) {
+        Some(cell) => Some(sort_in(&cell.form)),
+        None => None,
+    }
+}

@@ -1,0 +1,4 @@
+mod Headings
+mod Bare
+mod Steps
+mod Opened

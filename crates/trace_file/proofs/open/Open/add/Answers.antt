@@ -1,0 +1,9 @@
+use Rattle.std.proofs.Common.{rules, refl}
+use Rattle.event_graph.specs.Answer.{stack_tree}
+use Rattle.trace_file.proofs.Opened.{added}
+use Rattle.trace_file.proofs.open.Open.add.Goals as goal
+
+pub returns : goal.returns
+returns c = added (stack_tree c.args.stack.now) c.args.line.now c.args.self.now c.said.new.self
+    (record c.said.new.self { left = c.in_ok-self.field-0 }) c.put.new.self c.said.result c.in_ok-operation.operation c.in_ok-self.field-0
+    c.requires c.said.ensures (search rules) (search rules) refl (search rules)

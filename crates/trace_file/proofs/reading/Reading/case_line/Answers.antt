@@ -1,0 +1,13 @@
+use Rattle.std.proofs.Common.{rules, refl}
+use Rattle.event_graph.specs.Answer.{stack_tree}
+use Rattle.trace_file.proofs.Steps.{case_added}
+use Rattle.trace_file.proofs.reading.Reading.case_line.Goals as goal
+
+pub returns-then-not-begins : goal.returns-then-not-begins
+returns-then-not-begins c = case_added (stack_tree c.args.stack.now) c.args.self.now
+    (record {
+      stage = c.args.self.now.stage;
+      due = c.args.self.now.due;
+      «open» = c.add.new.self;
+      traces = c.args.self.now.traces;
+    }) c.args.line.now c.add.result c.requires.stage refl refl refl (search rules) c.add.ensures

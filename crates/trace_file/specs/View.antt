@@ -1,0 +1,96 @@
+-- What was read of a file.
+use Rattle.std.specs.Prelude.{ℕ, ◌≡◌, Bool, List, [], ◌∷◌, ◌++◌, map, bytes_eq, codes, Option, Some, None, Result, Ok, Err, Vec}
+use Rattle.std.specs.declared.alloc.Global.{Global}
+use Rattle.layer_mean.specs.Tree.{LayerTree}
+use Rattle.trace_mean.specs.Trace as trace
+use Rattle.pack_mean.specs.Named.{nothing_named}
+use Rattle.pack_mean.specs.File as file
+use Rattle.pack_mean.specs.File.{most_operations}
+use Rattle.trace_core.specs.declared.trace.Trace.{Trace}
+use Rattle.trace_core.specs.Trees.{trace_tree}
+use Rattle.trace_words.specs.declared.error.LineError.{LineError}
+use Rattle.trace_words.specs.declared.error.LineError.TheVariants as fault
+use Rattle.trace_file.specs.declared.due.Due.{Due}
+use Rattle.trace_file.specs.declared.error.ReadError.{ReadError}
+use Rattle.trace_file.specs.declared.error.ReadError.TheVariants.{Line, Memory}
+use Rattle.trace_file.specs.declared.open.Open.{Open}
+use Rattle.trace_file.specs.declared.reading.Reading.{Reading}
+use Rattle.trace_file.specs.declared.reading.Stage.{Stage}
+use Rattle.trace_file.specs.declared.reading.Stage.TheVariants.{Idle, Within, Ended}
+use Rattle.trace_file.specs.Open.{AreParts, held_in, named_of}
+
+-- A case that is due, without the stack's own trace.
+abbrev pub bare : file.Due → file.Due
+bare d = record { entry = d.entry; case = d.case; fields = d.fields; own = [] }
+
+abbrev pub due_tree : Due → file.Due
+due_tree d = record { entry = d.entry; case = d.case; fields = d.fields; own = [] }
+
+-- What a file was read as: its traces, or its first line that is out of form. Of want of memory nothing is said.
+abbrev pub Reads : Result (List (List trace.Operation)) ℕ → Result (Vec Trace Global) ReadError → Type 0
+Reads read (Ok traces) = read ≡ Ok (map trace_tree traces.items)
+Reads read (Err (Line number)) = read ≡ Err number
+Reads read (Err Memory) = Unit {0}
+
+-- Whether a line begins the next case, or ends the file where none is due.
+abbrev pub begins : List file.Due → List ℕ → Bool
+begins [] line = bytes_eq line (codes "end")
+begins (d ∷ due) line = bytes_eq line (file.heading d.entry d.case)
+
+-- What is read then.
+abbrev pub onward : List file.Due → List (List trace.Operation) → file.Reading
+onward [] traces = record { stage = file.ended; held = []; traces = traces }
+onward (d ∷ due) traces = record { stage = file.within due (nothing_named d.fields) most_operations; held = []; traces = traces }
+
+-- A file as it is read.
+abbrev pub stage_in : List LayerTree → Stage → List Due → Open → file.Stage
+stage_in stack Idle due o = file.idle (map due_tree due)
+stage_in stack Within due o = file.within (map due_tree due) (named_of stack o) o.left
+stage_in stack Ended due o = file.ended
+
+abbrev pub traces_of : Reading → List (List trace.Operation)
+traces_of r = map trace_tree r.traces.items
+
+abbrev pub reading_in : List LayerTree → Reading → file.Reading
+reading_in stack r = record { stage = stage_in stack r.stage r.due.now r.open; held = held_in r.open; traces = traces_of r }
+
+-- What is read after the first line.
+abbrev pub begun_after : List Due → file.Reading
+begun_after due = record { stage = file.idle (map due_tree due); held = []; traces = [] }
+
+pub record IsBegun (due : List Due) (r : Reading) : Type 0 where
+  pub is : (stack : List LayerTree) → reading_in stack r ≡ begun_after due
+  pub parts : AreParts r.open
+
+-- The next case is begun, or the file has ended.
+pub record GoesOn (old new : Reading) : Type 0 where
+  pub is : (stack : List LayerTree) → reading_in stack new ≡ onward (map due_tree old.due.now) (traces_of old)
+  pub parts : AreParts new.open
+
+-- The trace of the case that was open is put after the others.
+pub record IsClosed (old new : Reading) : Type 0 where
+  pub traces : traces_of new ≡ traces_of old ++ held_in old.open ∷ []
+  pub due : new.due.now ≡ old.due.now
+
+abbrev pub Closes : Reading → Reading → {E : Type 0} → Result (Unit {0}) E → Type 0
+Closes old new (Ok done) = IsClosed old new
+Closes old new (Err e) = Unit {0}
+
+-- What is read with one line more.
+abbrev pub line_from : List LayerTree → Reading → List ℕ → Option file.Reading
+line_from stack r line = file.line_read stack (reading_in stack r) (stage_in stack r.stage r.due.now r.open) line
+
+pub record IsFurther (read : Option file.Reading) (stack : List LayerTree) (new : Reading) : Type 0 where
+  pub is : read ≡ Some (reading_in stack new)
+  pub parts : AreParts new.open
+
+abbrev pub Goes : Option file.Reading → List LayerTree → Reading → Result (Unit {0}) LineError → Type 0
+Goes read stack new (Ok done) = IsFurther read stack new
+Goes read stack new (Err fault.Form) = read ≡ None
+Goes read stack new (Err fault.Memory) = Unit {0}
+
+-- A line that is out of form is told by its number.
+abbrev pub Tells : Result (Unit {0}) LineError → ℕ → Result (Unit {0}) ReadError → Type 0
+Tells read number (Ok done) = read ≡ Ok tt
+Tells read number (Err (Line n)) = (read ≡ Err fault.Form) × (n ≡ number)
+Tells read number (Err Memory) = Unit {0}

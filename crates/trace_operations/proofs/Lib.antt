@@ -1,0 +1,7 @@
+pub mod Growing
+mod Listing
+mod Fields
+mod Chaining
+mod Sending
+mod Numbering
+mod Writing
