@@ -1,0 +1,7 @@
+mod Dues
+mod Joining
+mod Walk
+mod Plans
+mod Whole
+mod Judging
+mod Replacing

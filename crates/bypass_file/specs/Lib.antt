@@ -1,0 +1,4 @@
+pub mod Judged
+pub mod Unread
+pub mod Due
+pub mod Filling
