@@ -36,7 +36,7 @@ notes_count n = length-map (range_with_len 0 n) note_name ∙ length-range_with_
 
 module _ (stack : List LayerTree) where
   -- an operation's line is put behind those before
-  writes_one : (before : List (List ℕ)) (s : Named) (o : Operation) →
+  pub writes_one : (before : List (List ℕ)) (s : Named) (o : Operation) →
       writes true stack (written_with before s) o ≡ written_with (before ++ line_with stack before s o ∷ []) (naming stack s o)
   writes_one before s (bind e) = refl
   writes_one before s (check e) = refl

@@ -30,7 +30,7 @@ use Rattle.pack_laws.proofs.Readers.{some_same}
 use Rattle.pack_laws.proofs.Reading.{what_is_read_is_in_form}
 
 -- the fields that vary are counted alike
-fields_vary : (fields : List (Option ℕ)) → count_by (λ field. not (is_some field)) fields ≡ varying fields
+pub fields_vary : (fields : List (Option ℕ)) → count_by (λ field. not (is_some field)) fields ≡ varying fields
 fields_vary [] = refl
 fields_vary (Some v ∷ fields) = omega (arith, sum_by-cons (λ field. cond (not (is_some field)) 1 0) (Some v) fields, fields_vary fields)
 fields_vary (None ∷ fields) = omega (arith, sum_by-cons (λ field. cond (not (is_some field)) 1 0) None fields, fields_vary fields)
