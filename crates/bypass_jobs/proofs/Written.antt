@@ -28,8 +28,10 @@ module _ (name : Text) (a : Around) (stack : List LayerTree) (f : IsStack name a
   good Handlers = record {
     file = f.file;
     second = [];
+    third = [];
     found = f.found;
     beside = refl;
+    behind = refl;
     lines = own_lines Handlers stack;
     output = record {
       stack = stack;
@@ -43,8 +45,10 @@ module _ (name : Text) (a : Around) (stack : List LayerTree) (f : IsStack name a
   good Traces = record {
     file = f.file;
     second = [];
+    third = [];
     found = f.found;
     beside = refl;
+    behind = refl;
     lines = own_lines Traces stack;
     output = record {
       stack = stack;

@@ -29,6 +29,10 @@ fn said(alloc: Global, texts: &[&str]) -> Result<String, AllocError> {
             replay.wire,
             replay.count
         ),
+        Some(Job::ReplayWith(replay)) => format!(in alloc;
+            "replay {} {} with {} {} {}",
+            replay.file, replay.script, replay.traces, replay.wire, replay.count
+        ),
         Some(Job::Explain(explain)) => format!(in alloc;
             "explain {} {}",
             explain.file, explain.script
@@ -57,13 +61,17 @@ fn said(alloc: Global, texts: &[&str]) -> Result<String, AllocError> {
 #[test]
 fn reads_each_job(rt: HostRuntime) -> Result<(), Fail> {
     let alloc = rt.alloc();
-    let cases: [(&[&str], &str); 10] = [
+    let cases: [(&[&str], &str); 11] = [
         (&["check", "f"], "check f"),
         (&["synth", "--", "--f"], "synth --f"),
         (&["pack", "f"], "pack f"),
         (
             &["replay", "--wire", "f", "--run=layered", "s"],
             "replay f s true true false",
+        ),
+        (
+            &["replay", "f", "--with", "t", "s", "--count"],
+            "replay f s with t false true",
         ),
         (&["explain", "f", "s"], "explain f s"),
         (

@@ -13,7 +13,7 @@ use Rattle.script_text.specs.Answer.{Answers}
 use Rattle.script_text.specs.declared.error.ScriptError.{ScriptError}
 use Rattle.script_text.specs.declared.error.ScriptError.TheVariants.{TooLong, BadLine, NoMember, Memory}
 use Rattle.run_mean.specs.Mode.{Mode}
-use Rattle.job_mean.specs.Job.{Job, replay, explain}
+use Rattle.job_mean.specs.Job.{Job, replay, replay_with, explain}
 use Rattle.std.proofs.Common.{Bool, true, subst}
 use Rattle.end_mean.specs.Status.{Ended, second_refused, read_failed, no_memory, misspelled, too_many_rows}
 use Rattle.program_mean.specs.Second.{after_script, second_fault}
@@ -92,18 +92,23 @@ module _ (job : Job) (script : Text) (a : Around)
     untouched = same;
   }
   stops_there between stack read_failed f s same = record {
-    unfound = inr (record { file = f.file; found = f.found; stack = stack; means = f.means; none = beside None s.none });
+    unfound = inr (inl (record { file = f.file; found = f.found; stack = stack; means = f.means; none = beside None s.none }));
     rose = subst (λ n. Rose n a.reads_after) f.sound s.rose;
     untouched = same;
   }
   stops_there between stack no_memory f s same = inl same
   stops_there between stack _ f s same = absurd s
 
--- So it is of a replay, and of an explanation.
+-- So it is of a replay, by the stack's own bypasses and by those of a file, and of an explanation.
 pub stops : (name script : Text) (mode : Mode) (wire count : Bool) (a : Around) (between : ℕ) (stack : List LayerTree) (end : Ended) →
     IsStack name a.told a.reads between stack → StopsAt script_of script (option_map after_read a.told) between a.reads_after end →
     a.output_after ≡ a.output → Comes (replay name script mode wire count) a end
 stops name script mode wire count a = stops_there (replay name script mode wire count) script a (λ found is. is) (λ stack text. refl)
+
+pub with_stops : (name script given : Text) (wire count : Bool) (a : Around) (between : ℕ) (stack : List LayerTree) (end : Ended) →
+    IsStack name a.told a.reads between stack → StopsAt script_of script (option_map after_read a.told) between a.reads_after end →
+    a.output_after ≡ a.output → Comes (replay_with name script given wire count) a end
+with_stops name script given wire count a = stops_there (replay_with name script given wire count) script a (λ found is. is) (λ stack text. refl)
 
 pub explain_stops : (name script : Text) (a : Around) (between : ℕ) (stack : List LayerTree) (end : Ended) →
     IsStack name a.told a.reads between stack → StopsAt script_of script (option_map after_read a.told) between a.reads_after end →

@@ -1,6 +1,8 @@
 //! Second files, read from a shelf, and why they are refused.
 
 ghost use Rattle.std.specs.Prelude.{◌≡◌};
+ghost use Rattle.std.specs.Option.{option_map};
+ghost use Rattle.outside.specs.Shelf.{after_read};
 ghost use Rattle.job_ends.specs.Shown.{shown};
 ghost use Rattle.file_jobs.specs.Second.{Reads, refused_as};
 
@@ -14,7 +16,8 @@ const LONGEST_SECOND: u64 = 4_194_304;
 
 /// Reads the second file of a job, or finds how the job ends.
 pub fn fetch_second<S: Shelf>(alloc: Global, name: &str, shelf: &mut S) -> Result<Vec<u8>, Ending>
-    ensures { Reads name.now (S.told shelf.old) (S.faults shelf.old) (S.faults shelf.new) result }
+    ensures read { Reads name.now (S.told shelf.old) (S.faults shelf.old) (S.faults shelf.new) result }
+    ensures kept { S.told shelf.new ≡ option_map after_read (S.told shelf.old) }
 {
     let mut text = Vec::new(alloc);
     match shelf.read(name, &mut text, LONGEST_SECOND) {

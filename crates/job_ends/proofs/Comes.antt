@@ -1,20 +1,22 @@
 -- What a job comes to, from what was read and written.
-use Rattle.std.proofs.Common.{arith, ◌≡◌, refl, sym, ◌∙◌, ap, ℕ, zero, suc, ◌<◌, List, [], ◌∷◌, length, append-nil, Option, Some, None, inr}
+use Rattle.std.proofs.Common.{arith, ◌≡◌, refl, sym, subst, ◌∙◌, ap, ℕ, zero, suc, ◌<◌, List, [], ◌∷◌, length, append-nil, Option, Some, None, inr}
 use Rattle.std.specs.Prelude.{IfSome, IsSomeAnd}
 use Rattle.std.specs.List.{concat}
 use Rattle.std.specs.Option.{option_map}
 use Rattle.clap.specs.Walk.{Text}
 use Rattle.outside.specs.Shelf.{Shelved, found_in, after_read}
+use Rattle.pack_mean.specs.Accepted.{Accepts}
 use Rattle.program_laws.proofs.Files.{one_file, one_meaning}
-use Rattle.job_mean.specs.Job.{Job, check, synth, pack, replay, explain, load, node, audit}
+use Rattle.job_mean.specs.Job.{Job, check, synth, pack, replay, replay_with, explain, load, node, audit}
 use Rattle.end_mean.specs.Status.{Ended, done, breached, write_failed, no_memory}
-use Rattle.program_mean.specs.Headline.{Run, second_for, whole_end, WritesOf}
+use Rattle.program_mean.specs.Headline.{Run, second_for, third_for, whole_end, ReadsTraces, WritesOf}
 use Rattle.script_mean.specs.Generate.{generate}
 use Rattle.script_mean.specs.declared.script.Script.{Script}
 use Rattle.script_mean.specs.Script.{ScriptFault}
 use Rattle.audit_mean.specs.Finding.{AuditFault}
 use Rattle.audit_mean.specs.declared.law.Finding.{Finding}
 use Rattle.stack_mean.specs.Plans.{plans_of}
+use Rattle.run_mean.specs.Mode.{bypass}
 use Rattle.run_mean.specs.Report.{output_in}
 use Rattle.run_mean.specs.Tally.{tally, accepted_lines}
 use Rattle.output_mean.specs.Output.{finding_line}
@@ -23,7 +25,7 @@ use Rattle.bypass_mean.specs.Lines.{printed_lines}
 use Rattle.bypass_laws.specs.Making.{bypasses_of, simplest}
 use Rattle.job_ends.specs.Printed.{Lines, packed, printed_text}
 use Rattle.std.specs.Prelude.{Result, Ok}
-use Rattle.job_ends.specs.Comes.{Around, Beside, Finds, file_name, Synthesized, IsOutput, Good, Writes, Comes}
+use Rattle.job_ends.specs.Comes.{Around, Beside, Behind, Finds, file_name, Synthesized, IsOutput, Good, Writes, Comes}
 
 -- A job's output was written, or begun.
 pub written : (job : Job) (a : Around) (good : Good job a.told) (end : Ended) → a.reads_after ≡ a.reads →
@@ -61,14 +63,15 @@ printed_once print file one other x y = printed print file one x
     ∙ ap (λ s. print s (plans_of s) (bypasses_of simplest s)) (one_meaning file x.stack y.stack x.means y.means) ∙ sym (printed print file other y)
 
 -- An output as the program's definitions have it.
-pub writes_of : (job : Job) (r : Run) (file second : List ℕ) (lines : List (List ℕ)) → IsOutput job file second lines → r.sent ≡ [] →
+pub writes_of : (job : Job) (r : Run) (file second third : List ℕ) (lines : List (List ℕ)) → IsOutput job file second third lines → r.sent ≡ [] →
+    third_for job r.third ≡ Some third →
     WritesOf printed_text job r file second (concat lines)
-writes_of (check name) r file second lines o none = (record { stack = o.stack; means = o.means; written = ap concat o.written }, none)
-writes_of (synth name) r file second lines o none =
+writes_of (check name) r file second third lines o none is = (record { stack = o.stack; means = o.means; written = ap concat o.written }, none)
+writes_of (synth name) r file second third lines o none is =
     (record { stack = o.stack; means = o.means; written = ap concat (printed printed_lines file lines o) }, none)
-writes_of (pack name) r file second lines o none =
+writes_of (pack name) r file second third lines o none is =
     (record { stack = o.stack; means = o.means; written = ap concat (printed packed file lines o) }, none)
-writes_of (replay name script mode wire count) r file second lines o none = (
+writes_of (replay name script mode wire count) r file second third lines o none is = (
   record {
     stack = o.stack;
     means = o.means;
@@ -79,7 +82,19 @@ writes_of (replay name script mode wire count) r file second lines o none = (
   },
   none,
 )
-writes_of (explain name script) r file second lines o none = (
+writes_of (replay_with name script given wire count) r file second third lines o none is = (
+  record {
+    stack = o.stack;
+    means = o.means;
+    script = o.script;
+    spelled = o.spelled;
+    room = o.room;
+    written = ap concat o.written;
+  },
+  record { stack = o.stack; means = o.means; accepted = subst (λ found. IsSomeAnd found (Accepts o.stack)) (sym is) o.accepted },
+  none,
+)
+writes_of (explain name script) r file second third lines o none is = (
   record {
     stack = o.stack;
     means = o.means;
@@ -90,35 +105,41 @@ writes_of (explain name script) r file second lines o none = (
   },
   none,
 )
-writes_of (load name seed events members raw mode) r file second lines o none =
+writes_of (load name seed events members raw mode) r file second third lines o none is =
     (record { stack = o.stack; means = o.means; room = o.room; written = ap concat o.written }, none)
-writes_of (node name plan turns me patience mode) r file second lines o none = absurd o
-writes_of (audit name law) r file second lines o none =
+writes_of (node name plan turns me patience mode) r file second third lines o none is = absurd o
+writes_of (audit name law) r file second third lines o none is =
     (record { finding = o.finding; found = o.found; written = ap concat o.written ∙ append-nil (finding_line o.finding) }, none)
 
 -- Files have one output.
-pub output_once : (job : Job) (file second : List ℕ) (one other : List (List ℕ)) → IsOutput job file second one → IsOutput job file second other →
+pub output_once : (job : Job) (file second third : List ℕ) (one other : List (List ℕ)) → IsOutput job file second third one →
+    IsOutput job file second third other →
     one ≡ other
-output_once (check name) file second one other x y =
+output_once (check name) file second third one other x y =
     x.written ∙ ap accepted_lines (one_meaning file x.stack y.stack x.means y.means) ∙ sym y.written
-output_once (synth name) file second one other x y = printed_once printed_lines file one other x y
-output_once (pack name) file second one other x y = printed_once packed file one other x y
-output_once (replay name script mode wire count) file second one other x y =
+output_once (synth name) file second third one other x y = printed_once printed_lines file one other x y
+output_once (pack name) file second third one other x y = printed_once packed file one other x y
+output_once (replay name script mode wire count) file second third one other x y =
     let stack = one_meaning file x.stack y.stack x.means y.means in
     let both : ◌≡◌ {A = Result Script ScriptFault} (Ok x.script) (Ok y.script) = sym x.spelled ∙ y.spelled in
     let same : x.script ≡ y.script = cc (both) in
     x.written ∙ (λ k. output_in (stack k) (plans_of (stack k)) (same k) mode wire count) ∙ sym y.written
-output_once (explain name script) file second one other x y =
+output_once (replay_with name script given wire count) file second third one other x y =
+    let stack = one_meaning file x.stack y.stack x.means y.means in
+    let both : ◌≡◌ {A = Result Script ScriptFault} (Ok x.script) (Ok y.script) = sym x.spelled ∙ y.spelled in
+    let same : x.script ≡ y.script = cc (both) in
+    x.written ∙ (λ k. output_in (stack k) (plans_of (stack k)) (same k) bypass wire count) ∙ sym y.written
+output_once (explain name script) file second third one other x y =
     let stack = one_meaning file x.stack y.stack x.means y.means in
     let tree = one_file file x.means.file y.means.file x.means.is_file y.means.is_file in
     let both : ◌≡◌ {A = Result Script ScriptFault} (Ok x.script) (Ok y.script) = sym x.spelled ∙ y.spelled in
     let same : x.script ≡ y.script = cc (both) in
     x.written ∙ (λ k. explained_lines (tree k) (stack k) (plans_of (stack k)) (same k)) ∙ sym y.written
-output_once (load name seed events members raw mode) file second one other x y =
+output_once (load name seed events members raw mode) file second third one other x y =
     let stack = one_meaning file x.stack y.stack x.means y.means in
     x.written ∙ ap (λ s. tally s (plans_of s) mode (generate seed events members raw)) stack ∙ sym y.written
-output_once (node name plan turns me patience mode) file second one other x y = absurd x
-output_once (audit name law) file second one other x y =
+output_once (node name plan turns me patience mode) file second third one other x y = absurd x
+output_once (audit name law) file second third one other x y =
     let both : ◌≡◌ {A = Result Finding AuditFault} (Ok x.finding) (Ok y.finding) = sym x.found ∙ y.found in
     let same : x.finding ≡ y.finding = cc (both) in
     x.written ∙ ap (λ f. finding_line f ∷ []) same ∙ sym y.written
@@ -133,6 +154,7 @@ beside_once (check name) shelf one other x y = x ∙ sym y
 beside_once (synth name) shelf one other x y = x ∙ sym y
 beside_once (pack name) shelf one other x y = x ∙ sym y
 beside_once (replay name script mode wire count) shelf one other x y = sym x ∙ y
+beside_once (replay_with name script given wire count) shelf one other x y = sym x ∙ y
 beside_once (explain name script) shelf one other x y = sym x ∙ y
 beside_once (load name seed events members raw mode) shelf one other x y = x ∙ sym y
 beside_once (node name plan turns me patience mode) shelf one other x y = sym x ∙ y
@@ -145,6 +167,7 @@ second_read (check name) told text is = (None, sym is)
 second_read (synth name) told text is = (None, sym is)
 second_read (pack name) told text is = (None, sym is)
 second_read (replay name script mode wire count) told text is = (Some text, refl)
+second_read (replay_with name script given wire count) told text is = (Some text, refl)
 second_read (explain name script) told text is = (Some text, refl)
 second_read (load name seed events members raw mode) told text is = (None, sym is)
 second_read (node name plan turns me patience mode) told text is = (Some text, refl)
@@ -156,6 +179,7 @@ second_missed (check name) told is = absurd (cc is)
 second_missed (synth name) told is = absurd (cc is)
 second_missed (pack name) told is = absurd (cc is)
 second_missed (replay name script mode wire count) told is = refl
+second_missed (replay_with name script given wire count) told is = refl
 second_missed (explain name script) told is = refl
 second_missed (load name seed events members raw mode) told is = absurd (cc is)
 second_missed (node name plan turns me patience mode) told is = refl
@@ -175,7 +199,67 @@ next_second (check name) told = (None, refl)
 next_second (synth name) told = (None, refl)
 next_second (pack name) told = (None, refl)
 next_second (replay name script mode wire count) told = found_at (option_map after_read told) script
+next_second (replay_with name script given wire count) told = found_at (option_map after_read told) script
 next_second (explain name script) told = found_at (option_map after_read told) script
 next_second (load name seed events members raw mode) told = (None, refl)
 next_second (node name plan turns me patience mode) told = found_at (option_map after_read told) plan
 next_second (audit name law) told = (None, refl)
+
+-- So it is of its third file.
+pub behind_once : (job : Job) (shelf : Shelved) (one other : Option (List ℕ)) → Behind job (Some shelf) one → Behind job (Some shelf) other →
+    one ≡ other
+behind_once (replay_with name script given wire count) shelf one other x y = sym x ∙ y
+behind_once (check name) shelf one other x y = x ∙ sym y
+behind_once (synth name) shelf one other x y = x ∙ sym y
+behind_once (pack name) shelf one other x y = x ∙ sym y
+behind_once (replay name script mode wire count) shelf one other x y = x ∙ sym y
+behind_once (explain name script) shelf one other x y = x ∙ sym y
+behind_once (load name seed events members raw mode) shelf one other x y = x ∙ sym y
+behind_once (node name plan turns me patience mode) shelf one other x y = x ∙ sym y
+behind_once (audit name law) shelf one other x y = x ∙ sym y
+
+pub third_read : (job : Job) (told : Option Shelved) (text : List ℕ) → Behind job told (Some text) →
+    (third : Option (List ℕ)) × (third_for job third ≡ Some text)
+third_read (replay_with name script given wire count) told text is = (Some text, refl)
+third_read (check name) told text is = (None, sym is)
+third_read (synth name) told text is = (None, sym is)
+third_read (pack name) told text is = (None, sym is)
+third_read (replay name script mode wire count) told text is = (None, sym is)
+third_read (explain name script) told text is = (None, sym is)
+third_read (load name seed events members raw mode) told text is = (None, sym is)
+third_read (node name plan turns me patience mode) told text is = (None, sym is)
+third_read (audit name law) told text is = (None, sym is)
+
+pub third_missed : (job : Job) (told : Option Shelved) → Behind job told None → third_for job None ≡ None
+third_missed (replay_with name script given wire count) told is = refl
+third_missed (check name) told is = absurd (cc is)
+third_missed (synth name) told is = absurd (cc is)
+third_missed (pack name) told is = absurd (cc is)
+third_missed (replay name script mode wire count) told is = absurd (cc is)
+third_missed (explain name script) told is = absurd (cc is)
+third_missed (load name seed events members raw mode) told is = absurd (cc is)
+third_missed (node name plan turns me patience mode) told is = absurd (cc is)
+third_missed (audit name law) told is = absurd (cc is)
+
+pub next_third : (job : Job) (told : Option Shelved) → (third : Option (List ℕ)) × Behind job told (third_for job third)
+next_third (replay_with name script given wire count) told = found_at (option_map after_read (option_map after_read told)) given
+next_third (check name) told = (None, refl)
+next_third (synth name) told = (None, refl)
+next_third (pack name) told = (None, refl)
+next_third (replay name script mode wire count) told = (None, refl)
+next_third (explain name script) told = (None, refl)
+next_third (load name seed events members raw mode) told = (None, refl)
+next_third (node name plan turns me patience mode) told = (None, refl)
+next_third (audit name law) told = (None, refl)
+
+-- A job with a file of traces has it as its third.
+pub third_is : (job : Job) (third : Option (List ℕ)) (text : List ℕ) → ReadsTraces job → third_for job third ≡ Some text → third ≡ Some text
+third_is (replay_with name script given wire count) third text reads is = is
+third_is (check name) third text reads is = absurd reads
+third_is (synth name) third text reads is = absurd reads
+third_is (pack name) third text reads is = absurd reads
+third_is (replay name script mode wire count) third text reads is = absurd reads
+third_is (explain name script) third text reads is = absurd reads
+third_is (load name seed events members raw mode) third text reads is = absurd reads
+third_is (node name plan turns me patience mode) third text reads is = absurd reads
+third_is (audit name law) third text reads is = absurd reads

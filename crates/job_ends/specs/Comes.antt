@@ -15,21 +15,23 @@ use Rattle.script_mean.specs.Generate.{generate}
 use Rattle.script_mean.specs.Script.{script_of}
 use Rattle.script_mean.specs.declared.script.Script.{Script}
 use Rattle.stack_mean.specs.Plans.{plans_of}
-use Rattle.run_mean.specs.Mode.{Mode}
-use Rattle.job_mean.specs.Job.{Job, check, synth, pack, replay, explain, load, node, audit}
-use Rattle.end_mean.specs.Status.{FileFault, SecondFault, Ended, done, breached, file_refused, report_refused, words_refused, second_refused, read_failed, write_failed, no_memory}
+use Rattle.run_mean.specs.Mode.{Mode, bypass}
+use Rattle.job_mean.specs.Job.{Job, check, synth, pack, replay, replay_with, explain, load, node, audit}
+use Rattle.end_mean.specs.Status.{FileFault, SecondFault, Ended, done, breached, file_refused, report_refused, words_refused, second_refused, traces_refused, read_failed, write_failed, no_memory}
 use Rattle.run_mean.specs.Report.{output_in}
 use Rattle.run_mean.specs.Tally.{tally, accepted_lines}
 use Rattle.miss_mean.specs.Text.{explained_lines}
 use Rattle.bypass_mean.specs.Bypasses.{Bypasses}
 use Rattle.bypass_mean.specs.Lines.{printed_lines}
+use Rattle.pack_mean.specs.Accepted.{Accepts, PackFault, IsFault}
 use Rattle.job_ends.specs.Printed.{Lines, packed}
 use Rattle.bypass_laws.specs.Making.{bypasses_of, simplest}
 use Rattle.bypass_laws.specs.Stack.{AreOfStack}
 use Rattle.output_mean.specs.Judged.{Means, Refuses}
-use Rattle.output_mean.specs.Output.{HasRoom, finding_line}
+use Rattle.group_mean.specs.Room.{HasRoom}
+use Rattle.output_mean.specs.Output.{finding_line}
 use Rattle.program_mean.specs.Second.{second_fault}
-use Rattle.program_mean.specs.Headline.{ReadsStack, IsNoReport, whole_end}
+use Rattle.program_mean.specs.Headline.{ReadsStack, ReadsTraces, IsNoReport, whole_end}
 use Rattle.outside.specs.Tells.{Tells, tells_of}
 use Rattle.outside.specs.Lines.{Begins, Gains, Fails}
 
@@ -73,6 +75,7 @@ file_name (check file) = file
 file_name (synth file) = file
 file_name (pack file) = file
 file_name (replay file script mode wire count) = file
+file_name (replay_with file script given wire count) = file
 file_name (explain file script) = file
 file_name (load file seed events members raw mode) = file
 file_name (node file plan turns me patience mode) = file
@@ -85,9 +88,16 @@ Finds job told found = IfSome told (λ shelf. found_in shelf (file_name job) ≡
 -- What the read of its second file finds behind that; a job that has none reads as if it were empty.
 abbrev pub Beside : Job → Option Shelved → Option (List ℕ) → Type 0
 Beside (replay file script mode wire count) told found = IfSome (option_map after_read told) (λ shelf. found_in shelf script ≡ found)
+Beside (replay_with file script given wire count) told found = IfSome (option_map after_read told) (λ shelf. found_in shelf script ≡ found)
 Beside (explain file script) told found = IfSome (option_map after_read told) (λ shelf. found_in shelf script ≡ found)
 Beside (node file plan turns me patience mode) told found = IfSome (option_map after_read told) (λ shelf. found_in shelf plan ≡ found)
 Beside _ told found = found ≡ Some []
+
+-- What the read of its third file finds behind both; a job that has none reads as if it were empty.
+abbrev pub Behind : Job → Option Shelved → Option (List ℕ) → Type 0
+Behind (replay_with file script given wire count) told found =
+    IfSome (option_map after_read (option_map after_read told)) (λ shelf. found_in shelf given ≡ found)
+Behind _ told found = found ≡ Some []
 
 -- The whole output of a check over the bytes of its file, line by line.
 pub record Checked (file : List ℕ) (lines : List (List ℕ)) : Type 0 where
@@ -119,6 +129,16 @@ pub record Replayed (file text : List ℕ) (mode : Mode) (wire count : Bool) (li
   pub room : HasRoom stack script.members
   pub written : lines ≡ output_in stack (plans_of stack) script mode wire count
 
+-- That of a replay by the traces of a file.
+pub record ReplayedWith (file text third : List ℕ) (wire count : Bool) (lines : List (List ℕ)) : Type 0 where
+  pub stack : List LayerTree
+  pub means : Means file stack
+  pub script : Script
+  pub spelled : script_of text ≡ Ok script
+  pub room : HasRoom stack script.members
+  pub accepted : Accepts stack third
+  pub written : lines ≡ output_in stack (plans_of stack) script bypass wire count
+
 -- That of an explanation.
 pub record Explained (file text : List ℕ) (lines : List (List ℕ)) : Type 0 where
   pub stack : List LayerTree
@@ -135,24 +155,27 @@ pub record Loaded (file : List ℕ) (seed events members : ℕ) (raw : Bool) (mo
   pub room : HasRoom stack members
   pub written : lines ≡ tally stack (plans_of stack) mode (generate seed events members raw)
 
-abbrev pub IsOutput : Job → (file second : List ℕ) → (lines : List (List ℕ)) → Type 0
-IsOutput (check name) file second lines = Checked file lines
-IsOutput (synth name) file second lines = Synthesized printed_lines file lines
-IsOutput (pack name) file second lines = Synthesized packed file lines
-IsOutput (audit name law) file second lines = Audited file law lines
-IsOutput (replay name script mode wire count) file second lines = Replayed file second mode wire count lines
-IsOutput (explain name script) file second lines = Explained file second lines
-IsOutput (load name seed events members raw mode) file second lines = Loaded file seed events members raw mode lines
-IsOutput _ file second lines = ⊥
+abbrev pub IsOutput : Job → (file second third : List ℕ) → (lines : List (List ℕ)) → Type 0
+IsOutput (check name) file second third lines = Checked file lines
+IsOutput (synth name) file second third lines = Synthesized printed_lines file lines
+IsOutput (pack name) file second third lines = Synthesized packed file lines
+IsOutput (audit name law) file second third lines = Audited file law lines
+IsOutput (replay name script mode wire count) file second third lines = Replayed file second mode wire count lines
+IsOutput (replay_with name script given wire count) file second third lines = ReplayedWith file second third wire count lines
+IsOutput (explain name script) file second third lines = Explained file second lines
+IsOutput (load name seed events members raw mode) file second third lines = Loaded file seed events members raw mode lines
+IsOutput _ file second third lines = ⊥
 
 -- The files that a job's reads find have an output.
 pub record Good (job : Job) (told : Option Shelved) : Type 0 where
   pub file : List ℕ
   pub second : List ℕ
+  pub third : List ℕ
   pub found : Finds job told (Some file)
   pub beside : Beside job told (Some second)
+  pub behind : Behind job told (Some third)
   pub lines : List (List ℕ)
-  pub output : IsOutput job file second lines
+  pub output : IsOutput job file second third lines
 
 -- Its stack file is refused.
 pub record BadFile (job : Job) (told : Option Shelved) (fault : FileFault) : Type 0 where
@@ -177,6 +200,20 @@ pub record BadSecond (job : Job) (told : Option Shelved) (fault : SecondFault) :
   pub means : Means file stack
   pub refused : second_fault job stack second ≡ Some fault
 
+-- Its first two files are good, and its file of traces is refused.
+pub record BadTraces (job : Job) (told : Option Shelved) (fault : PackFault) : Type 0 where
+  pub file : List ℕ
+  pub second : List ℕ
+  pub third : List ℕ
+  pub found : Finds job told (Some file)
+  pub beside : Beside job told (Some second)
+  pub behind : Behind job told (Some third)
+  pub reads : ReadsTraces job
+  pub stack : List LayerTree
+  pub means : Means file stack
+  pub fine : second_fault job stack second ≡ None
+  pub refused : IsFault stack third fault
+
 -- Its file is good, and its second file isn't found.
 pub record NoSecond (job : Job) (told : Option Shelved) : Type 0 where
   pub file : List ℕ
@@ -185,9 +222,20 @@ pub record NoSecond (job : Job) (told : Option Shelved) : Type 0 where
   pub means : Means file stack
   pub none : Beside job told None
 
+-- Its first two files are good, and its third isn't found.
+pub record NoThird (job : Job) (told : Option Shelved) : Type 0 where
+  pub file : List ℕ
+  pub second : List ℕ
+  pub found : Finds job told (Some file)
+  pub beside : Beside job told (Some second)
+  pub stack : List LayerTree
+  pub means : Means file stack
+  pub fine : second_fault job stack second ≡ None
+  pub none : Behind job told None
+
 -- One of its files isn't found.
 abbrev pub Unfound : Job → Option Shelved → Type 0
-Unfound job told = Finds job told None ⊎ NoSecond job told
+Unfound job told = Finds job told None ⊎ NoSecond job told ⊎ NoThird job told
 
 -- The whole output was written, in one put a line, and the job ended as its file has it.
 pub record Whole (job : Job) (a : Around) (end : Ended) : Type 0 where
@@ -227,6 +275,7 @@ Comes job a breached = Whole job a breached
 Comes job a (file_refused fault) = Stopped (BadFile job a.told fault) a
 Comes job a (report_refused fault) = Stopped (BadReport job a.told fault) a
 Comes job a (second_refused fault) = Stopped (BadSecond job a.told fault) a
+Comes job a (traces_refused fault) = Stopped (BadTraces job a.told fault) a
 Comes job a read_failed = Missed job a
 Comes job a write_failed = CutOff job a
 Comes job a no_memory = (a.output_after ≡ a.output) ⊎ Begun job a

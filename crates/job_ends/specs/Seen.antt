@@ -4,19 +4,20 @@ use Rattle.std.specs.Io.KnownBytes.{Appends}
 use Rattle.clap.specs.Walk.{Text}
 use Rattle.job_mean.specs.Job.{Job}
 use Rattle.job_ends.specs.Printed.{printed_text}
-use Rattle.program_mean.specs.Headline.{Counted, Run, second_for, Ran}
+use Rattle.program_mean.specs.Headline.{Counted, Run, second_for, third_for, Ran}
 use Rattle.outside.specs.Said.{Errors}
-use Rattle.job_ends.specs.Comes.{Around, Finds, Beside}
+use Rattle.job_ends.specs.Comes.{Around, Finds, Beside, Behind}
 
 abbrev pub counted : ℕ → ℕ → Counted
 counted before after = record { before = before; after = after }
 
 -- A run of these words that met these files, wrote this and said this; it had no clock or network.
-abbrev pub run_of : List Text → Around → Errors → (file second : Option (List ℕ)) → (written said : List ℕ) → Run
-run_of words a e file second written said = record {
+abbrev pub run_of : List Text → Around → Errors → (file second third : Option (List ℕ)) → (written said : List ℕ) → Run
+run_of words a e file second third written said = record {
   words = words;
   file = file;
   second = second;
+  third = third;
   surroundings = record { clock = []; heard = []; lost = [] };
   sent = [];
   reads = counted a.reads a.reads_after;
@@ -34,10 +35,12 @@ run_of words a e file second written said = record {
 pub record Seen (words : List Text) (job : Option Job) (a : Around) (e : Errors) : Type 0 where
   pub file : Option (List ℕ)
   pub second : Option (List ℕ)
+  pub third : Option (List ℕ)
   pub met : IfSome job (λ j. Finds j a.told file)
   pub beside : IfSome job (λ j. Beside j a.told (second_for j second))
+  pub behind : IfSome job (λ j. Behind j a.told (third_for j third))
   pub written : List ℕ
   pub put : Appends a.output.contents a.output_after.contents written
   pub said : List ℕ
   pub heard : Appends e.before.contents e.after.contents said
-  pub ran : Ran printed_text (run_of words a e file second written said)
+  pub ran : Ran printed_text (run_of words a e file second third written said)

@@ -2,13 +2,14 @@
 use Rattle.audit_mean.specs.Finding as report
 use Rattle.script_mean.specs.Script.{too_long, bad_line, no_member}
 use Rattle.end_mean.specs.Status as status
-use Rattle.end_mean.specs.Status.{Ended, done, breached, file_refused, report_refused, words_refused, second_refused, read_failed, write_failed, link_failed, no_memory, misspelled, too_many_rows, status_number, error_line}
+use Rattle.end_mean.specs.Status.{Ended, done, breached, file_refused, report_refused, words_refused, second_refused, traces_refused, read_failed, write_failed, link_failed, no_memory, misspelled, too_many_rows, status_number, error_line}
+use Rattle.pack_mean.specs.Accepted as traces
 use Rattle.outside.specs.Said.{Errors, SaysLine, Silent}
 use Rattle.file_judge.specs.declared.error.FileError.{FileError}
 use Rattle.file_judge.specs.declared.error.FileError.TheVariants.{TooLarge, BadToken, Unexpected, Unknown, Twice, OverLimit, Kind, Arity, Direction, Header, Initial, Cycle, TooMany, TooManyJoins}
 use Rattle.file_judge.specs.declared.error.FileError.TheVariants as file
 use Rattle.job_ends.specs.declared.ending.Ending.{Ending}
-use Rattle.job_ends.specs.declared.ending.Ending.TheVariants.{Done, Breached, Words, File, ReportTooLarge, ReportLine, SecondTooLong, SecondLine, SecondMember, TooManyRows, Read, Write, Link, Memory}
+use Rattle.job_ends.specs.declared.ending.Ending.TheVariants.{Done, Breached, Words, File, ReportTooLarge, ReportLine, SecondTooLong, SecondLine, SecondMember, TooManyRows, TracesTooLarge, TracesLine, TracesDiffer, Read, Write, Link, Memory}
 
 -- the end of a job whose stack file is refused
 abbrev pub file_end : FileError → Ended
@@ -39,6 +40,9 @@ shown SecondTooLong = second_refused (misspelled too_long)
 shown (SecondLine line) = second_refused (misspelled (bad_line line))
 shown (SecondMember line) = second_refused (misspelled (no_member line))
 shown TooManyRows = second_refused too_many_rows
+shown TracesTooLarge = traces_refused traces.too_large
+shown (TracesLine line) = traces_refused (traces.bad_line line)
+shown (TracesDiffer entry case act) = traces_refused (traces.differs entry case act)
 shown Read = read_failed
 shown Write = write_failed
 shown Link = link_failed

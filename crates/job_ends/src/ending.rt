@@ -1,6 +1,7 @@
 //! How a job ended.
 
 use file_judge::FileError;
+use layer_mean::Case;
 
 /// How a job ended.
 #[derive(Clone, Copy)]
@@ -25,6 +26,13 @@ pub enum Ending {
     SecondMember(u32),
     /// A member has over 8,192 rows with messages.
     TooManyRows,
+    /// A file of traces has over 33,554,432 bytes.
+    TracesTooLarge,
+    /// This line of the file of traces is the first out of form.
+    TracesLine(u32),
+    /// The trace of this entry, counted from 0 (cast, send, the plans), in this case is the first that does something else than the stack's own, and this is the
+    /// first act at which it does.
+    TracesDiffer(u32, Case, u32),
     /// A file couldn't be read.
     Read,
     /// The output couldn't be written.

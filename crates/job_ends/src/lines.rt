@@ -1,6 +1,8 @@
 //! The lines of refusals.
 
 ghost use Rattle.std.specs.Prelude.{◌≡◌, ◌++◌, IfOk, codes};
+ghost use Rattle.pack_mean.specs.Accepted.{differs};
+ghost use Rattle.pack_mean.specs.File as file;
 ghost use Rattle.std.specs.String.{string_bytes};
 ghost use Rattle.std.specs.Fmt.{decimal};
 ghost use Rattle.layer_ast.specs.Spelling as spelling;
@@ -9,6 +11,7 @@ ghost use Rattle.job_ends.specs.Shown.{file_end};
 
 use file_judge::FileError;
 use layer_ast::{At, Kind};
+use layer_mean::Case;
 use std::alloc::{AllocError, Global};
 
 /// The line of a refused report.
@@ -30,6 +33,40 @@ pub(crate) fn second_member(alloc: Global, line: u32) -> Result<String, AllocErr
     ensures { IfOk result (λ text. string_bytes text ≡ codes "script: member " ++ decimal line ++ codes "\n") }
 {
     format!(in alloc; "script: member {line}\n")
+}
+
+/// The line of a file of traces of which a line is out of form.
+pub(crate) fn traces_line(alloc: Global, line: u32) -> Result<String, AllocError>
+    ensures { IfOk result (λ text. string_bytes text ≡ codes "bypass: line " ++ decimal line ++ codes "\n") }
+{
+    format!(in alloc; "bypass: line {line}\n")
+}
+
+/// The line of a file of traces of which one does something else.
+pub(crate) fn traces_differ(
+    alloc: Global,
+    entry: u32,
+    case: Case,
+    act: u32,
+) -> Result<String, AllocError>
+    ensures { IfOk result (λ text. string_bytes text ≡ status.error_line (status.traces_refused (differs entry case act))) }
+{
+    let case = case_number(case);
+    match entry {
+        0 => format!(in alloc; "bypass: entry cast case {case} op {act}\n"),
+        1 => format!(in alloc; "bypass: entry send case {case} op {act}\n"),
+        _ => format!(in alloc; "bypass: entry plan {} case {case} op {act}\n", entry - 2),
+    }
+}
+
+/// The number of a case.
+fn case_number(case: Case) -> u8
+    ensures { result ≡ file.case_number case }
+{
+    match case {
+        Case::First => 1,
+        Case::Second => 2,
+    }
 }
 
 /// The line of a refused stack file.

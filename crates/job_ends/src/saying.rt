@@ -3,14 +3,18 @@
 ghost use Rattle.std.specs.Prelude.{◌≡◌};
 ghost use Rattle.script_mean.specs.Script.{bad_line, no_member};
 ghost use Rattle.audit_mean.specs.Finding as report;
-ghost use Rattle.end_mean.specs.Status.{misspelled, report_refused, second_refused, status_number};
+ghost use Rattle.end_mean.specs.Status.{misspelled, report_refused, second_refused, status_number, traces_refused};
+ghost use Rattle.pack_mean.specs.Accepted as traces;
 ghost use Rattle.outside.specs.Said.{errors};
 ghost use Rattle.outside.specs.Tells.{tells_of};
 ghost use Rattle.job_ends.specs.Shown.{Said, file_end, shown};
 
 use crate::ending::Ending;
-use crate::lines::{file_line, report_line, second_line, second_member};
+use crate::lines::{
+    file_line, report_line, second_line, second_member, traces_differ, traces_line,
+};
 use file_judge::FileError;
+use layer_mean::Case;
 use outside::{Sink, say_line};
 use std::alloc::Global;
 
@@ -19,6 +23,9 @@ const FILE_REFUSED: u8 = 1;
 
 /// The status where the second file is refused, or a member has too many rows.
 const SECOND_REFUSED: u8 = 3;
+
+/// The status where a file of traces is refused.
+const TRACES_REFUSED: u8 = 9;
 
 /// The status where memory ran out.
 pub const NO_MEMORY: u8 = 7;
@@ -39,6 +46,9 @@ pub fn say<E: Sink>(alloc: Global, ending: Ending, err: &mut E) -> u8
         Ending::SecondLine(line) => say_second_line(alloc, line, err),
         Ending::SecondMember(line) => say_second_member(alloc, line, err),
         Ending::TooManyRows => say_line(b"script: rows\n", SECOND_REFUSED, err),
+        Ending::TracesTooLarge => say_line(b"bypass: too large\n", TRACES_REFUSED, err),
+        Ending::TracesLine(line) => say_traces_line(alloc, line, err),
+        Ending::TracesDiffer(entry, case, act) => say_traces_differ(alloc, entry, case, act, err),
         Ending::Read => say_line(b"read fault\n", 4, err),
         Ending::Write => say_line(b"write fault\n", 5, err),
         Ending::Link => say_line(b"link fault\n", 6, err),
@@ -96,6 +106,28 @@ fn say_second_member<E: Sink>(alloc: Global, line: u32, err: &mut E) -> u8
 {
     match second_member(alloc, line) {
         Ok(line) => say_line(line.as_bytes(), SECOND_REFUSED, err),
+        Err(_) => NO_MEMORY,
+    }
+}
+
+/// Says which line of a file of traces is out of form.
+fn say_traces_line<E: Sink>(alloc: Global, line: u32, err: &mut E) -> u8
+    ensures { Said (traces_refused (traces.bad_line line))
+        (errors (tells_of E.Sink err.old) (tells_of E.Sink err.new) result) }
+{
+    match traces_line(alloc, line) {
+        Ok(line) => say_line(line.as_bytes(), TRACES_REFUSED, err),
+        Err(_) => NO_MEMORY,
+    }
+}
+
+/// Says which trace of a file does something else than the stack's own, and where.
+fn say_traces_differ<E: Sink>(alloc: Global, entry: u32, case: Case, act: u32, err: &mut E) -> u8
+    ensures { Said (traces_refused (traces.differs entry case act))
+        (errors (tells_of E.Sink err.old) (tells_of E.Sink err.new) result) }
+{
+    match traces_differ(alloc, entry, case, act) {
+        Ok(line) => say_line(line.as_bytes(), TRACES_REFUSED, err),
         Err(_) => NO_MEMORY,
     }
 }

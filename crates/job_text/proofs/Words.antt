@@ -28,11 +28,13 @@ pub extras_of : (g : Given) →
     ((codes "second", is_some g.second) ∷ (codes "run", is_some g.run) ∷ (codes "seed", is_some g.seed) ∷
     (codes "events", is_some g.events) ∷ (codes "members", is_some g.members) ∷ (codes "turns", is_some g.turns) ∷
     (codes "me", is_some g.me) ∷ (codes "patience", is_some g.patience) ∷ (codes "law", is_some g.law) ∷
+    (codes "with", is_some g.traces) ∷
     (codes "wire", g.wire) ∷ (codes "count", g.count) ∷ (codes "raw", g.raw) ∷ []) ≡ extras (shown_given g)
 extras_of g = λ i.
     (codes "second", has g.second i) ∷ (codes "run", has g.run i) ∷ (codes "seed", has g.seed i) ∷
     (codes "events", has g.events i) ∷ (codes "members", has g.members i) ∷ (codes "turns", has g.turns i) ∷
     (codes "me", has g.me i) ∷ (codes "patience", has g.patience i) ∷ (codes "law", has g.law i) ∷
+    (codes "with", has g.traces i) ∷
     (codes "wire", g.wire) ∷ (codes "count", g.count) ∷ (codes "raw", g.raw) ∷ []
 
 -- a test of the names of what was given, as a test of all

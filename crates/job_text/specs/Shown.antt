@@ -2,26 +2,21 @@
 use Rattle.std.specs.Prelude.{ℕ, List, Option, Some, option_map}
 use Rattle.clap.specs.Walk.{Text}
 use Rattle.script_mean.specs.Words.{◌>>=◌}
-use Rattle.run_mean.specs.Mode as mode
+use Rattle.group_mean.specs.Shown.{shown_mode}
 use Rattle.job_mean.specs.Given as given
 use Rattle.job_mean.specs.Job as job
 use Rattle.job_mean.specs.Job.{a_number, a_number_or_zero, mode_of, most_node_turns, most_patience}
 use Rattle.job_text.specs.declared.given.Given.{Given}
 use Rattle.job_text.specs.declared.named.Job.{Job}
-use Rattle.job_text.specs.declared.named.Job.TheVariants.{Check, Synth, Pack, Replay, Explain, Load, Node, Audit}
-use Rattle.job_text.specs.declared.named.Mode.{Mode}
-use Rattle.job_text.specs.declared.named.Mode.TheVariants.{Layered, Bypass}
+use Rattle.job_text.specs.declared.named.Job.TheVariants.{Check, Synth, Pack, Replay, ReplayWith, Explain, Load, Node, Audit}
 use denote.Ref.{Bor}
-
-abbrev pub shown_mode : Mode → mode.Mode
-shown_mode Layered = mode.layered
-shown_mode Bypass = mode.bypass
 
 abbrev pub shown_job : Job → job.Job
 shown_job (Check file) = job.check file.now
 shown_job (Synth file) = job.synth file.now
 shown_job (Pack file) = job.pack file.now
 shown_job (Replay r) = job.replay r.file.now r.script.now (shown_mode r.mode) r.wire r.count
+shown_job (ReplayWith r) = job.replay_with r.file.now r.script.now r.traces.now r.wire r.count
 shown_job (Explain e) = job.explain e.file.now e.script.now
 shown_job (Load l) = job.load l.file.now l.seed l.events l.members l.raw (shown_mode l.mode)
 shown_job (Node n) = job.node n.file.now n.plan.now n.turns n.members.items n.patience (shown_mode n.mode)
@@ -44,6 +39,7 @@ shown_given g = record {
   me = text g.me;
   patience = text g.patience;
   law = text g.law;
+  traces = text g.traces;
   wire = g.wire;
   count = g.count;
   raw = g.raw;

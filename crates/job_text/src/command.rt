@@ -23,6 +23,7 @@ pub(crate) fn command<'a>(alloc: Global) -> Result<Command<'a>, AllocError>
     let command = with(command, option(alloc, "me"))?;
     let command = with(command, option(alloc, "patience"))?;
     let command = with(command, option(alloc, "law"))?;
+    let command = with(command, option(alloc, "with"))?;
     let command = with(command, flag(alloc, "wire"))?;
     let command = with(command, flag(alloc, "count"))?;
     with(command, flag(alloc, "raw"))

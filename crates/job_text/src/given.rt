@@ -25,6 +25,7 @@ pub(crate) struct Given<'w> {
     pub me: Option<&'w str>,
     pub patience: Option<&'w str>,
     pub law: Option<&'w str>,
+    pub traces: Option<&'w str>,
     pub wire: bool,
     pub count: bool,
     pub raw: bool,
@@ -52,6 +53,7 @@ impl<'w> Given<'w> {
             me: text(matches, "me"),
             patience: text(matches, "patience"),
             law: text(matches, "law"),
+            traces: text(matches, "with"),
             wire: is_set(matches, "wire"),
             count: is_set(matches, "count"),
             raw: is_set(matches, "raw"),
@@ -66,7 +68,7 @@ impl<'w> Given<'w> {
     }
 
     /// Each word that not every job has, and whether it was given.
-    fn extras(&self) -> [Extra; 12]
+    fn extras(&self) -> [Extra; 13]
         ensures { map (λ extra. (extra.0.now, extra.1)) result ≡ extras (shown_given self.now) }
     {
         [
@@ -79,6 +81,7 @@ impl<'w> Given<'w> {
             ("me", self.me.is_some()),
             ("patience", self.patience.is_some()),
             ("law", self.law.is_some()),
+            ("with", self.traces.is_some()),
             ("wire", self.wire),
             ("count", self.count),
             ("raw", self.raw),

@@ -2,13 +2,15 @@
 
 ghost use Rattle.std.specs.Prelude.{◌≡◌, IfOk, option_map, ◌≤◌, IfSome, length};
 ghost use Rattle.job_mean.specs.Job as spec;
-ghost use Rattle.job_text.specs.Shown.{node_of, shown_given, shown_job, shown_mode, text};
+ghost use Rattle.group_mean.specs.Shown.{shown_mode};
+ghost use Rattle.job_text.specs.Shown.{node_of, shown_given, shown_job, text};
 ghost use Rattle.msg_core.specs.View.{most_members};
 
 use crate::given::Given;
-use crate::named::{Audit, Explain, Job, Load, Mode, Node, Replay};
+use crate::named::{Audit, Explain, Job, Load, Node, Replay, ReplayWith};
 use crate::numbers::{a_number, a_number_or_zero, some_members};
 use audit_mean::Law;
+use group_mean::Mode;
 use msg_core::MOST_MEMBERS;
 use std::alloc::{AllocError, Global};
 
@@ -77,22 +79,42 @@ fn pack<'w>(given: &Given<'w>) -> Option<Job<'w>>
     }
 }
 
-/// `replay FILE SCRIPT`, may have `--run MODE`, `--wire` and `--count`.
+/// `replay FILE SCRIPT`, may have `--run MODE`, `--with TRACES`, `--wire` and `--count`.
 fn replay<'w>(given: &Given<'w>) -> Option<Job<'w>>
     ensures { option_map shown_job result ≡ spec.replay_job (shown_given given.now) }
 {
-    if !given.has_only(&["second", "run", "wire", "count"]) {
+    if !given.has_only(&["second", "run", "with", "wire", "count"]) {
         return None;
     }
     let script = given.second?;
     let mode = mode_of(given.run)?;
-    Some(Job::Replay(Replay {
-        file: given.file,
-        script,
-        mode,
-        wire: given.wire,
-        count: given.count,
-    }))
+    replay_by(given, script, mode)
+}
+
+/// A replay in a mode: only one by bypasses may be given the traces of a file.
+fn replay_by<'w>(given: &Given<'w>, script: &'w str, mode: Mode) -> Option<Job<'w>>
+    ensures { option_map shown_job result
+        ≡ spec.replay_by (shown_given given.now) script.entry.now (shown_mode mode) (shown_given given.now).traces }
+{
+    let Some(traces) = given.traces else {
+        return Some(Job::Replay(Replay {
+            file: given.file,
+            script,
+            mode,
+            wire: given.wire,
+            count: given.count,
+        }));
+    };
+    match mode {
+        Mode::Layered => None,
+        Mode::Bypass => Some(Job::ReplayWith(ReplayWith {
+            file: given.file,
+            script,
+            traces,
+            wire: given.wire,
+            count: given.count,
+        })),
+    }
 }
 
 /// `explain FILE SCRIPT`

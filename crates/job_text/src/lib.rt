@@ -11,7 +11,8 @@ mod named;
 mod numbers;
 mod reading;
 
-pub use crate::named::{Audit, Explain, Job, Load, Mode, Node, Replay};
+pub use crate::named::{Audit, Explain, Job, Load, Node, Replay, ReplayWith};
 pub use crate::reading::job;
 pub use audit_mean::Law;
+pub use group_mean::Mode;
 pub use msg_core::Memory;

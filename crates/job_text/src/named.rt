@@ -5,15 +5,7 @@ ghost use Rattle.msg_core.specs.View.{most_members};
 ghost use Rattle.job_mean.specs.Job.{most_generated};
 
 use audit_mean::Law;
-
-/// How members run a stack.
-#[derive(Clone, Copy, Debug, PartialEq, Eq)]
-pub enum Mode {
-    /// Layer by layer.
-    Layered,
-    /// By the bypasses of the stack, where they hold.
-    Bypass,
-}
+use group_mean::Mode;
 
 /// What the program is to do. Files are named as in the words.
 #[derive(Drop)]
@@ -25,6 +17,7 @@ pub enum Job<'w> {
     /// Writes the traces of these as a file.
     Pack(&'w str),
     Replay(Replay<'w>),
+    ReplayWith(ReplayWith<'w>),
     Explain(Explain<'w>),
     Load(Load<'w>),
     Node(Node<'w>),
@@ -37,6 +30,18 @@ pub struct Replay<'w> {
     pub file: &'w str,
     pub script: &'w str,
     pub mode: Mode,
+    /// Whether each packet's bytes are written.
+    pub wire: bool,
+    /// Whether the number of visits is written.
+    pub count: bool,
+}
+
+/// Replays a script over a stack file by the bypasses whose traces a file holds.
+#[derive(Clone, Copy)]
+pub struct ReplayWith<'w> {
+    pub file: &'w str,
+    pub script: &'w str,
+    pub traces: &'w str,
     /// Whether each packet's bytes are written.
     pub wire: bool,
     /// Whether the number of visits is written.

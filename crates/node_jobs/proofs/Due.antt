@@ -17,7 +17,8 @@ use Rattle.end_mean.specs.Status.{FileFault, SecondFault, Ended, done, file_refu
 use Rattle.job_ends.specs.Printed.{printed_text}
 use Rattle.program_mean.specs.Headline.{Run}
 use Rattle.output_mean.specs.Judged.{Means, Refuses}
-use Rattle.output_mean.specs.Output.{IsNode, failures}
+use Rattle.group_mean.specs.Node.{failures}
+use Rattle.output_mean.specs.Output.{IsNode}
 use Rattle.program_mean.specs.Second.{after_plan, crowded}
 use Rattle.program_laws.proofs.Files.{one_meaning, good_or_refused}
 use Rattle.program_laws.proofs.Ends.{files_are_due, seconds_are_due, misses_are_due, second_misses_are_due}
@@ -81,7 +82,8 @@ module _ (w : Node) (shelf : Shelved) (good : Good w (Some shelf)) where
 
   not_unfound : Unfound (job_of w) (Some shelf) → ⊥
   not_unfound (inl none) = absurd (cc (sym good.found ∙ none))
-  not_unfound (inr n) = absurd (cc (sym good.beside ∙ n.none))
+  not_unfound (inr (inl n)) = absurd (cc (sym good.beside ∙ n.none))
+  not_unfound (inr (inr n)) = absurd (cc n.none)
 
 -- a network that bears a node doesn't end it
 
@@ -166,8 +168,9 @@ module _ (words : List Text) (w : Node) (a : Around) (n : Beyond) (e : Errors) (
 
     unfound_due : Unfound (job_of w) (Some shelf) → Due 4 e.status
     unfound_due (inl none) = misses_are_due printed_text the_run (job_of w) s.ran is (file_is None none)
-    unfound_due (inr m) =
+    unfound_due (inr (inl m)) =
         second_misses_are_due printed_text the_run (job_of w) m.file m.stack s.ran is (file_is (Some m.file) m.found) m.means (second_is None m.none)
+    unfound_due (inr (inr m)) = absurd (cc m.none)
 
     due : (end : Ended) → NodeComes w a n end → Said end e → (called : Ended) → CallsFor w a n shelf called → Due (status_number called) e.status
     due end came said done c = good_due c.0 c.1 c.2 end came said

@@ -8,7 +8,7 @@ use Rattle.script_mean.specs.declared.event.ScriptEvent.{ScriptEvent}
 use Rattle.script_mean.specs.declared.event.ScriptEvent.TheVariants.{Tick}
 use Rattle.script_mean.specs.declared.plan.NodePlan.{NodePlan}
 use Rattle.run_mean.specs.Journal.{Heard, datagram, silence, failure, planned_events}
-use Rattle.output_mean.specs.Output.{failures, is_failure}
+use Rattle.group_mean.specs.Node.{failures, is_failure}
 use Rattle.node_laws.specs.Doings.{does, asking, while_patient, doings_from, heard_in}
 use Rattle.node_laws.proofs.Parts.{heard_append}
 

@@ -12,8 +12,8 @@ use Rattle.run_mean.specs.Mode.{Mode}
 use Rattle.run_mean.specs.Journal.{Heard, datagram, silence, failure, Handed, handed, journal}
 use Rattle.run_mean.specs.Report.{moments}
 use Rattle.run_mean.specs.World.{World, happens}
-use Rattle.output_mean.specs.Output.{node_words}
-use Rattle.output_mean.specs.Output.{Surroundings, failures, is_failure, handed_by}
+use Rattle.group_mean.specs.Node.{node_words}
+use Rattle.group_mean.specs.Node.{Surroundings, failures, is_failure, handed_by}
 use Rattle.node_laws.specs.Doings.{Doing, does, asks, bears, doings_of, heard_in}
 use Rattle.node_laws.specs.Losses.{event_sends, failures_in, sends_of}
 use Rattle.node_laws.specs.Network.{Goes, Tells, met_as, after_sends}

@@ -10,8 +10,8 @@ use Rattle.script_mean.specs.NodePlan.{node_plan}
 use Rattle.script_mean.specs.declared.plan.NodePlan.{NodePlan}
 use Rattle.run_mean.specs.Mode.{Mode}
 use Rattle.end_mean.specs.Status.{Ended, done, second_refused, write_failed, link_failed, no_memory}
-use Rattle.output_mean.specs.Output.{node_words}
-use Rattle.output_mean.specs.Output.{HasRoom}
+use Rattle.group_mean.specs.Node.{node_words}
+use Rattle.group_mean.specs.Room.{HasRoom}
 use Rattle.program_mean.specs.Second.{after_plan}
 use Rattle.job_ends.specs.Comes.{Around}
 use Rattle.file_jobs.specs.Stack.{IsStack}

@@ -12,10 +12,10 @@ use Rattle.job_mean.specs.Job.{Job, job_of_words}
 use Rattle.end_mean.specs.Status.{FileFault, SecondFault, Ended, done, file_refused, second_refused, read_failed, write_failed, link_failed, no_memory}
 use Rattle.run_mean.specs.Journal.{Handed, note_lines, node_lines}
 use Rattle.job_ends.specs.Printed.{printed_text}
-use Rattle.program_mean.specs.Headline.{Run, OfJob, ReadsStack, second_for, whole_end, WritesOf, WroteNothing, Began, Ends, Says, LinksFail, whole, cut_off, out_of_memory, gone_on}
-use Rattle.output_mean.specs.Output.{node_words}
-use Rattle.output_mean.specs.Output.{Surroundings, NodeWords, failed, noted, played, handed_by}
-use Rattle.output_mean.specs.Judged.{Means, IsGood}
+use Rattle.program_mean.specs.Headline.{Run, OfJob, ReadsStack, Unread, second_for, whole_end, WritesOf, WroteNothing, Began, Ends, Says, LinksFail, whole, cut_off, out_of_memory, gone_on}
+use Rattle.group_mean.specs.Node.{node_words}
+use Rattle.group_mean.specs.Node.{Surroundings, NodeWords, failed, noted, played, handed_by}
+use Rattle.output_mean.specs.Judged.{Means}
 use Rattle.program_mean.specs.Second.{second_fault}
 use Rattle.outside.specs.Said.{Errors}
 use Rattle.outside.proofs.Gaining.{fails_part, begins_part}
@@ -303,15 +303,16 @@ module _ (words : List Text) (w : Node) (a : Around) (n : Beyond) (is : job_of_w
       missed (inl none) = let s = next_second (job_of w) a.told in
           not_run read_failed None s.0 none s.1 c.untouched (λ e said. record {
             rose = c.rose;
-            unread = subst (λ o. IsSomeAnd o (λ job. (◌≡◌ {A = Option (List ℕ)} None None) ⊎ ((second_for job s.0 ≡ None) × IsSomeAnd None IsGood))) (sym is) (inl refl);
+            unread = subst (λ o. IsSomeAnd o (Unread (the_run None s.0 nothing_told [] [] e said))) (sym is) (inl refl);
             nothing = nothing None s.0 e said;
           })
-      missed (inr m) = not_run read_failed (Some m.file) None m.found m.none c.untouched (λ e said. record {
+      missed (inr (inl m)) = not_run read_failed (Some m.file) None m.found m.none c.untouched (λ e said. record {
         rose = c.rose;
-        unread = subst (λ o. IsSomeAnd o (λ job. (◌≡◌ {A = Option (List ℕ)} (Some m.file) None) ⊎ ((second_for job None ≡ None) × IsGood m.file))) (sym is)
-            (inr (refl, record { stack = m.stack; means = m.means }));
+        unread = subst (λ o. IsSomeAnd o (Unread (the_run (Some m.file) None nothing_told [] [] e said))) (sym is)
+            (inr (inl (refl, record { stack = m.stack; means = m.means })));
         nothing = nothing (Some m.file) None e said;
       })
+      missed (inr (inr m)) = absurd (cc m.none)
 
   reached_so : (end : Ended) → NodeComes w a n end → Reached words w a n end
   reached_so done r = made_all r
@@ -330,7 +331,7 @@ module _ (words : List Text) (w : Node) (a : Around) (n : Beyond) (is : job_of_w
 
 -- what was said, as this run has it
 said_as : (words : List Text) (a : Around) (n : Beyond) (e : Errors) (file second : Option (List ℕ)) (s : Surroundings) (handed : List Handed)
-    (written said : List ℕ) (end : Ended) → Says (other.run_of words a e file second written said) end →
+    (written said : List ℕ) (end : Ended) → Says (other.run_of words a e file second None written said) end →
     Says (run_of words a n e file second s handed written said) end
 said_as words a n e file second s handed written said end (whole all is) = whole all is
 said_as words a n e file second s handed written said end (cut_off part rose is) = cut_off part rose is
@@ -340,7 +341,7 @@ pub node_seen : (words : List Text) (w : Node) (a : Around) (n : Beyond) (e : Er
     NodeComes w a n end → Said end e → NodeSeen words w a n e
 node_seen words w a n e end is came said =
     let r = reached_so words w a n is end came in
-    let says = spoke words a e r.file r.second r.written end said in record {
+    let says = spoke words a e r.file r.second None r.written end said in record {
       file = r.file;
       second = r.second;
       met = r.met;

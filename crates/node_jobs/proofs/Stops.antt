@@ -33,7 +33,7 @@ module _ (w : Node) (a : Around) (n : Beyond) (untouched : Untouched n) (same : 
   }
   stopped_at_plan between stack read_failed f s = record {
     came = record {
-      unfound = inr (record { file = f.file; found = f.found; stack = stack; means = f.means; none = s.none });
+      unfound = inr (inl (record { file = f.file; found = f.found; stack = stack; means = f.means; none = s.none }));
       rose = subst (λ n. Rose n a.reads_after) f.sound s.rose;
       untouched = same;
     };

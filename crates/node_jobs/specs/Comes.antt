@@ -10,7 +10,7 @@ use Rattle.outside.specs.declared.sink.SinkError.TheVariants.{Failed, Memory}
 use Rattle.run_mean.specs.Mode.{Mode}
 use Rattle.job_mean.specs.Job.{Job, node}
 use Rattle.end_mean.specs.Status.{Ended, done, file_refused, second_refused, read_failed, write_failed, link_failed, no_memory}
-use Rattle.output_mean.specs.Output.{node_words}
+use Rattle.group_mean.specs.Node.{node_words}
 use Rattle.output_mean.specs.Output.{IsNode}
 use Rattle.job_ends.specs.Comes.{Around, Beside, Comes, Finds}
 use Rattle.node_loop.specs.Around as outside

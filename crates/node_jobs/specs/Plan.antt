@@ -6,10 +6,10 @@ use Rattle.layer_mean.specs.Tree.{LayerTree}
 use Rattle.script_mean.specs.declared.plan.NodePlan.{NodePlan}
 use Rattle.script_text.specs.Plan.{IsRunnable}
 use Rattle.end_mean.specs.Status.{Ended, done, second_refused, write_failed, link_failed, no_memory}
-use Rattle.job_text.specs.Shown.{shown_mode}
+use Rattle.group_mean.specs.Shown.{shown_mode}
 use Rattle.job_text.specs.declared.named.Node as given
-use Rattle.output_mean.specs.Output.{node_words}
-use Rattle.output_mean.specs.Output.{HasRoom}
+use Rattle.group_mean.specs.Node.{node_words}
+use Rattle.group_mean.specs.Room.{HasRoom}
 use Rattle.program_mean.specs.Second.{after_plan}
 use Rattle.node_laws.specs.Stages.{AreOrdered}
 use Rattle.node_loop.specs.Feeding.{IsOwn}

@@ -1,12 +1,12 @@
 -- A run of a node as the definitions of the program see it.
-use Rattle.std.specs.Prelude.{ℕ, List, Option}
+use Rattle.std.specs.Prelude.{ℕ, List, Option, None}
 use Rattle.std.specs.Io.KnownBytes.{Appends}
 use Rattle.clap.specs.Walk.{Text}
 use Rattle.run_mean.specs.Journal.{Handed}
 use Rattle.job_ends.specs.Printed.{printed_text}
 use Rattle.program_mean.specs.Headline.{Run}
 use Rattle.program_mean.specs.Headline as program
-use Rattle.output_mean.specs.Output.{Surroundings}
+use Rattle.group_mean.specs.Node.{Surroundings}
 use Rattle.outside.specs.Said.{Errors}
 use Rattle.job_ends.specs.Comes.{Around, Finds, Beside}
 use Rattle.job_ends.specs.Seen.{counted}
@@ -15,12 +15,13 @@ use Rattle.node_loop.specs.Around.{Told}
 use Rattle.node_loop.specs.Passing.{HandedSome}
 use Rattle.node_jobs.specs.Comes.{Beyond, Node, job_of}
 
--- A run of these words that met these files and these surroundings, handed this to the network, wrote this and said this.
+-- A run of these words that met these files, of which a node has no third, and these surroundings, handed this to the network, wrote this and said this.
 abbrev pub run_of : List Text → Around → Beyond → Errors → (file second : Option (List ℕ)) → Surroundings → List Handed → (written said : List ℕ) → Run
 run_of words a n e file second surroundings sent written said = record {
   words = words;
   file = file;
   second = second;
+  third = None;
   surroundings = surroundings;
   sent = sent;
   reads = counted a.reads a.reads_after;

@@ -3,7 +3,7 @@
 ghost use Rattle.job_mean.specs.Job as job;
 ghost use Rattle.job_ends.specs.Comes.{Comes, around};
 ghost use Rattle.job_ends.specs.Shown.{shown};
-ghost use Rattle.job_text.specs.Shown.{shown_mode};
+ghost use Rattle.group_mean.specs.Shown.{shown_mode};
 
 use crate::played::ending;
 use crate::script::fetch_script;

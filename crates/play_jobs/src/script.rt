@@ -1,5 +1,8 @@
 //! Scripts, read from a shelf and judged.
 
+ghost use Rattle.std.specs.Prelude.{◌≡◌};
+ghost use Rattle.std.specs.Option.{option_map};
+ghost use Rattle.outside.specs.Shelf.{after_read};
 ghost use Rattle.script_mean.specs.Script.{IsRunnable, script_of};
 ghost use Rattle.file_jobs.specs.Second.{Fetches, Judges};
 
@@ -16,7 +19,8 @@ pub(crate) fn fetch_script<S: Shelf>(
     name: &str,
     shelf: &mut S,
 ) -> Result<Script, Ending>
-    ensures { Fetches script_of IsRunnable name.now (S.told shelf.old) (S.faults shelf.old) (S.faults shelf.new) result }
+    ensures read { Fetches script_of IsRunnable name.now (S.told shelf.old) (S.faults shelf.old) (S.faults shelf.new) result }
+    ensures kept { S.told shelf.new ≡ option_map after_read (S.told shelf.old) }
 {
     match fetch_second(alloc, name, shelf) {
         Ok(text) => judged(alloc, &text),

@@ -19,4 +19,6 @@ mod runs;
 #[cfg(test)]
 mod streams;
 #[cfg(test)]
+mod traces;
+#[cfg(test)]
 mod worked;

@@ -3,7 +3,7 @@ use Rattle.std.proofs.Common.{◌≡◌, ◌∙◌, refl, ap, inl, ℕ, List, Op
 use Rattle.clap.specs.Walk.{Text}
 use Rattle.outside.specs.Links.{Network}
 use Rattle.outside.specs.Shelf.{Shelved}
-use Rattle.job_mean.specs.Job.{Job, check, synth, pack, replay, explain, load, node, audit, job_of_words}
+use Rattle.job_mean.specs.Job.{Job, check, synth, pack, replay, replay_with, explain, load, node, audit, job_of_words}
 use Rattle.end_mean.specs.Status.{Ended, no_memory}
 use Rattle.program_laws.specs.OneEnd.{IsAlone}
 use Rattle.outside.specs.Said.{Errors}
@@ -23,6 +23,7 @@ alone (check file) is = tt
 alone (synth file) is = tt
 alone (pack file) is = tt
 alone (replay file script mode wire count) is = tt
+alone (replay_with file script given wire count) is = tt
 alone (explain file script) is = tt
 alone (load file seed events members raw mode) is = tt
 alone (node file plan turns me patience mode) is = absurd (cc is)
@@ -34,6 +35,7 @@ node_is (check file) w is = absurd (cc is)
 node_is (synth file) w is = absurd (cc is)
 node_is (pack file) w is = absurd (cc is)
 node_is (replay file script mode wire count) w is = absurd (cc is)
+node_is (replay_with file script given wire count) w is = absurd (cc is)
 node_is (explain file script) w is = absurd (cc is)
 node_is (load file seed events members raw mode) w is = absurd (cc is)
 node_is (node file plan turns me patience mode) w is =

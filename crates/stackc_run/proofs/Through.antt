@@ -5,7 +5,7 @@ use Rattle.clap.specs.Walk.{Text}
 use Rattle.outside.proofs.Appended.{appends_keeps}
 use Rattle.outside.specs.Shelf.{Shelved}
 use Rattle.job_mean.specs.Job.{Job, job_of_words}
-use Rattle.end_mean.specs.Status.{Ended, done, breached, file_refused, report_refused, words_refused, second_refused, read_failed, write_failed, link_failed, no_memory}
+use Rattle.end_mean.specs.Status.{Ended, done, breached, file_refused, report_refused, words_refused, second_refused, traces_refused, read_failed, write_failed, link_failed, no_memory}
 use Rattle.outside.specs.Said.{errors}
 use Rattle.outside.specs.Tells.{Tells}
 use Rattle.job_ends.specs.Comes.{Around, surrounding, NoJob, Whole, Comes}
@@ -30,6 +30,8 @@ got_all false words_refused (well is) = absurd (cc is)
 got_all false words_refused (breach is) = absurd (cc is)
 got_all false (second_refused fault) (well is) = absurd (cc is)
 got_all false (second_refused fault) (breach is) = absurd (cc is)
+got_all false (traces_refused fault) (well is) = absurd (cc is)
+got_all false (traces_refused fault) (breach is) = absurd (cc is)
 got_all false read_failed (well is) = absurd (cc is)
 got_all false read_failed (breach is) = absurd (cc is)
 got_all false write_failed (well is) = absurd (cc is)

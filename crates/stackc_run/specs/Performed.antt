@@ -1,7 +1,7 @@
 -- What the words' job came to, whichever it is, and what was said of that.
 use Rattle.std.specs.Prelude.{List, Option, Some, None}
 use Rattle.clap.specs.Walk.{Text}
-use Rattle.job_mean.specs.Job.{Job, check, synth, pack, replay, explain, load, node, audit, job_of_words}
+use Rattle.job_mean.specs.Job.{Job, check, synth, pack, replay, replay_with, explain, load, node, audit, job_of_words}
 use Rattle.end_mean.specs.Status.{Ended}
 use Rattle.outside.specs.Said.{Errors}
 use Rattle.job_ends.specs.Comes.{Around, NoJob, Comes}
@@ -22,6 +22,7 @@ way_of (check file) = over_files
 way_of (synth file) = over_files
 way_of (pack file) = over_files
 way_of (replay file script mode wire count) = over_files
+way_of (replay_with file script given wire count) = over_files
 way_of (explain file script) = over_files
 way_of (load file seed events members raw mode) = over_files
 way_of (node file plan turns me patience mode) =

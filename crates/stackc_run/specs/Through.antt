@@ -7,10 +7,11 @@ use Rattle.outside.specs.Shelf.{Shelved}
 use Rattle.clap.specs.Walk.{Text}
 use Rattle.stack_mean.specs.Plans.{plans_of}
 use Rattle.job_mean.specs.Job.{Job, job_of_words}
-use Rattle.end_mean.specs.Status.{Ended, done, breached, file_refused, report_refused, words_refused, second_refused, read_failed, write_failed, link_failed, no_memory}
+use Rattle.end_mean.specs.Status.{Ended, done, breached, file_refused, report_refused, words_refused, second_refused, traces_refused, read_failed, write_failed, link_failed, no_memory}
 use Rattle.run_mean.specs.Journal.{node_lines}
-use Rattle.output_mean.specs.Output.{node_words}
-use Rattle.output_mean.specs.Output.{IsNode, Surroundings, failed, noted, played}
+use Rattle.group_mean.specs.Node.{node_words}
+use Rattle.group_mean.specs.Node.{Surroundings, failed, noted, played}
+use Rattle.output_mean.specs.Output.{IsNode}
 use Rattle.outside.specs.Said.{errors}
 use Rattle.outside.specs.Tells.{Tells}
 use Rattle.job_ends.specs.Comes.{Good, surrounding}
@@ -28,6 +29,7 @@ closed false (file_refused fault) = file_refused fault
 closed false (report_refused fault) = report_refused fault
 closed false words_refused = words_refused
 closed false (second_refused fault) = second_refused fault
+closed false (traces_refused fault) = traces_refused fault
 closed false read_failed = read_failed
 closed false write_failed = write_failed
 closed false link_failed = link_failed

@@ -15,7 +15,7 @@ use job_ends::Ending;
 use job_text::{Job, job};
 use node_jobs::run_node;
 use outside::{Clock, Links, Shelf, Sink};
-use play_jobs::{explain_script, load_stack, replay_script};
+use play_jobs::{explain_script, load_stack, replay_script, replay_with};
 use std::alloc::Global;
 
 /// Does the job that the words name, and answers how it ended.
@@ -55,6 +55,7 @@ fn perform_job<S: Shelf, O: Sink, N: Links, C: Clock>(
         Job::Pack(file) => pack(alloc, *file, shelf, out),
         Job::Audit(audit) => audit_report(alloc, audit.file, audit.law, shelf, out),
         Job::Replay(replay) => replay_script(alloc, replay, shelf, out),
+        Job::ReplayWith(replay) => replay_with(alloc, replay, shelf, out),
         Job::Explain(explain) => explain_script(alloc, explain, shelf, out),
         Job::Load(load) => load_stack(alloc, load, shelf, out),
         Job::Node(node) => run_node(alloc, node, shelf, out, links, clock),

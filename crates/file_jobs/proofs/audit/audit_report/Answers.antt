@@ -15,8 +15,10 @@ returns-in-Ok g c =
     (record {
       file = report.file;
       second = [];
+      third = [];
       found = report.found;
       beside = refl;
+      behind = refl;
       lines = string_bytes c.in-Ok.output.line ∷ [];
       output = report.finds.output;
     })

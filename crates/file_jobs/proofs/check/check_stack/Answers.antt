@@ -14,8 +14,10 @@ returns-in-Ok g c = written (check c.args.file.now) (around g.S.Shelf g.O.Sink c
     (record {
       file = c.in-Ok.ensures.read.file;
       second = [];
+      third = [];
       found = c.in-Ok.ensures.read.found;
       beside = refl;
+      behind = refl;
       lines = (codes "accepted " ++ decimal c.places_of.result ++ codes "\n") ∷ [];
       output = record {
         stack = stack_tree c.in-Ok.stack;

@@ -8,3 +8,6 @@ returns-in-Read g c = rw c.in-Read.is c.say_line-in-Read.ensures.said
 
 pub returns-in-TooManyRows : goal.returns-in-TooManyRows
 returns-in-TooManyRows g c = rw c.in-TooManyRows.is c.say_line-in-TooManyRows.ensures.said
+
+pub returns-in-Link : goal.returns-in-Link
+returns-in-Link g c = rw c.in-Link.is c.say_line-in-Link.ensures.said

@@ -16,6 +16,7 @@ returns c =
     let nine = c.in_ok-command-9.ensures ∙ ap₂ with_rule eight c.option-6.ensures.rule in
     let ten = c.in_ok-command-10.ensures ∙ ap₂ with_rule nine c.option-7.ensures.rule in
     let eleven = c.in_ok-command-11.ensures ∙ ap₂ with_rule ten c.option-8.ensures.rule in
-    let twelve = c.in_ok-command-12.ensures ∙ ap₂ with_rule eleven c.flag.ensures.rule in
-    let thirteen = c.in_ok-command-13.ensures ∙ ap₂ with_rule twelve c.flag-2.ensures.rule in
-    IfOk-weaker c.with-14.result _ _ (λ longer is. is ∙ ap₂ with_rule thirteen c.flag-3.ensures.rule) c.with-14.ensures
+    let twelve = c.in_ok-command-12.ensures ∙ ap₂ with_rule eleven c.option-9.ensures.rule in
+    let thirteen = c.in_ok-command-13.ensures ∙ ap₂ with_rule twelve c.flag.ensures.rule in
+    let fourteen = c.in_ok-command-14.ensures ∙ ap₂ with_rule thirteen c.flag-2.ensures.rule in
+    IfOk-weaker c.with-15.result _ _ (λ longer is. is ∙ ap₂ with_rule fourteen c.flag-3.ensures.rule) c.with-15.ensures

@@ -1,7 +1,7 @@
 use Rattle.std.proofs.Common.{rules, ◌∙◌}
 use Rattle.event_graph.specs.Answer.{stack_tree}
 use Rattle.job_ends.specs.Shown.{shown}
-use Rattle.job_text.specs.Shown.{shown_mode}
+use Rattle.group_mean.specs.Shown.{shown_mode}
 use Rattle.node_loop.specs.Around.{around}
 use Rattle.node_loop.specs.Serve.{whereabouts}
 use Rattle.node_jobs.specs.Plan.{words_of}

@@ -4,7 +4,7 @@ use Rattle.job_mean.specs.Job.{load}
 use Rattle.job_ends.specs.Comes.{around, Comes}
 use Rattle.play_jobs.proofs.Plays.{load_comes}
 use Rattle.file_jobs.proofs.Sound.{means_sound}
-use Rattle.job_text.specs.Shown.{shown_mode}
+use Rattle.group_mean.specs.Shown.{shown_mode}
 use Rattle.group_open.proofs.Running.{can_run}
 use Rattle.play_jobs.proofs.load.load_stack.Goals as goal
 

@@ -12,4 +12,5 @@ returns c = rw (
   c.is_some-7.ensures,
   c.is_some-8.ensures,
   c.is_some-9.ensures,
+  c.is_some-10.ensures,
 ) (extras_of c.args.self.now)
