@@ -1,0 +1,44 @@
+-- What groups begin with, and what their beginning comes to.
+use Rattle.std.specs.Prelude.{◌≡◌, ℕ, ◌*◌, ◌<◌, ◌≤◌, List, length, Result, Ok, Err}
+use Rattle.layer_mean.specs.Tree.{LayerTree}
+use Rattle.stack_mean.specs.Acceptance.{most_rows, rows_of}
+use Rattle.stack_mean.specs.Plan.{Plan}
+use Rattle.stack_mean.specs.Plans.{plans_of}
+use Rattle.run_mean.specs.World.{first_world}
+use Rattle.bypass_codes.specs.Codes.{CodesTree}
+use Rattle.bypass_laws.specs.Making.{IsSound}
+use Rattle.bypass_member.specs.Serving.{AreCodesOf}
+use Rattle.bypass_member.specs.declared.error.OpenError.{OpenError}
+use Rattle.bypass_member.specs.declared.error.OpenError.TheVariants.{TooLarge, Memory}
+use Rattle.file_layer.specs.Making.{Making}
+use Rattle.group_feed.specs.Standing.{Peopled, Stands}
+use Rattle.stack_shapes.specs.Starts.{starts_of}
+use Rattle.stack_shapes.specs.Shapes.{ShortShapes, short_shapes}
+
+-- What is kept of a stack is its own: a maker of its layers, its plans, the shapes of its entries, the numbers of their first plans, and the code of
+-- its bypasses. Each group that began had at most 32 members with 24 layers.
+pub record IsGround (stack : List LayerTree) (maker : Making) (plans : List Plan) (entries : ShortShapes) (starts : List ℕ) (codes : CodesTree)
+    (begun : ℕ) : Type 0 where
+  pub sound : IsSound stack
+  pub places : length stack ≤ 24
+  pub same : maker.stack ≡ stack
+  pub plans_are : plans ≡ plans_of stack
+  pub entries_are : entries ≡ short_shapes stack plans
+  pub starts_are : starts ≡ starts_of stack
+  pub codes_are : AreCodesOf stack codes
+  pub made : maker.made ≤ begun * 768
+  pub few : begun ≤ 1099511627776
+
+-- A group is where so many members of a stack begin, and they have room.
+pub record HasBegun (stack : List LayerTree) (members : ℕ) (c : Peopled) : Type 0 where
+  pub stack_is : c.stack ≡ stack
+  pub plans_are : c.plans ≡ plans_of stack
+  pub world : Stands c (first_world stack 1 1 members)
+  pub count : length c.members ≡ members
+  pub room : rows_of stack members ≤ most_rows
+
+-- It begins, or its members would keep too many rows, or memory ran out.
+abbrev pub Begins : List LayerTree → (members : ℕ) → Result Peopled OpenError → Type 0
+Begins stack members (Ok c) = HasBegun stack members c
+Begins stack members (Err TooLarge) = most_rows < rows_of stack members
+Begins stack members (Err Memory) = Unit {0}

@@ -1,0 +1,119 @@
+//! What groups over a stack begin with.
+
+ghost use Rattle.std.specs.Prelude.{◌≡◌, ◌≤◌, IfOk};
+ghost use Rattle.bypass_laws.specs.Making.{IsSound};
+ghost use Rattle.event_graph.specs.Answer.{stack_tree};
+ghost use Rattle.msg_core.specs.View.{most_members};
+ghost use Rattle.hunt_ground.specs.Grounds.{Begins};
+
+use crate::codes::code_for;
+use crate::group::Group;
+use bypass_codes::Codes;
+use bypass_member::{OpenError, Opening};
+use event_graph::Stack;
+use file_layer::Maker;
+use msg_core::Memory;
+use stack_shapes::{EntryShapes, PlanStarts, Plans, StackShapes};
+use std::alloc::Global;
+use std::marker::Model;
+use std::rc::Rc;
+use step_outputs::Outputs;
+use world_core::World;
+
+/// The number of each group.
+const GROUP: u32 = 1;
+
+/// The stamp of each group.
+const STAMP: u32 = 1;
+
+/// The most groups that begin over one stack.
+const MOST_GROUPS: u64 = 1 << 40;
+
+/// A stack with its plans, the shapes of its entries and the code of its bypasses, a maker of its layers, and how many groups began. Contracts see
+/// the stack.
+#[derive(Drop)]
+pub struct Ground {
+    maker: Maker,
+    stack: Rc<Stack>,
+    plans: Rc<Plans>,
+    entries: Rc<EntryShapes>,
+    starts: PlanStarts,
+    code: Rc<Codes>,
+    begun: u64,
+}
+
+impl Model for Ground {
+    ghost use Rattle.std.specs.Prelude.{List};
+    ghost use Rattle.std.specs.Coded.{codes};
+    ghost use Rattle.std.specs.Rc.{rc_value};
+    ghost use Rattle.layer_mean.specs.Codes.{stack_code};
+    ghost use Rattle.layer_mean.specs.Tree.{LayerTree};
+    ghost use Rattle.event_graph.specs.Answer.{stack_tree};
+    ghost use Rattle.stack_shapes.specs.Starts.{starts_tree};
+    ghost use Rattle.stack_shapes.specs.Trees.{plans_tree};
+    ghost use Rattle.file_layer.specs.Making.{making};
+    ghost use Rattle.hunt_ground.specs.Grounds.{IsGround};
+
+    ghost Value = { List LayerTree };
+
+    ghost coded = { Prim.hlevel (codes, stack_code) };
+
+    ghost view = { λ g. stack_tree (rc_value g.stack) };
+
+    ghost invariant = { λ g. IsGround (stack_tree (rc_value g.stack)) (making g.maker) (plans_tree (rc_value g.plans)) (rc_value g.entries)
+        (starts_tree g.starts) (rc_value g.code) g.begun };
+}
+
+impl Ground {
+    /// What groups over a stack begin with, of which none began.
+    pub fn of(alloc: Global, stack: Stack) -> Result<Ground, Memory>
+        requires { IsSound (stack_tree stack) }
+        ensures { IfOk result (λ made. made ≡ stack_tree stack) }
+    {
+        let (maker, stack) = Maker::of(alloc, stack)?;
+        let shapes = StackShapes::of(alloc, &stack)?;
+        let code = code_for(alloc, &stack, &shapes)?;
+        let StackShapes {
+            plans,
+            starts,
+            entries,
+        } = shapes;
+        Ok(Ground {
+            maker,
+            stack,
+            plans: Rc::new(alloc, plans)?,
+            entries: Rc::new(alloc, entries)?,
+            starts,
+            code,
+            begun: 0,
+        })
+    }
+
+    /// Begins a group of so many members. Where as many groups began as may, memory is said to have run out.
+    pub fn begin(&mut self, alloc: Global, members: u8) -> Result<Group, OpenError>
+        requires { (1 ≤ members) × (members ≤ most_members) }
+        ensures begins { Begins self.old members result }
+        ensures kept { self.new ≡ self.old }
+    {
+        if self.begun >= MOST_GROUPS {
+            return Err(OpenError::Memory);
+        }
+        self.begun += 1;
+        let Ok(outputs) = Outputs::fresh(alloc, &self.stack) else {
+            return Err(OpenError::Memory);
+        };
+        let opening = Opening {
+            stack: &self.stack,
+            plans: &self.plans,
+            entries: &self.entries,
+            starts: self.starts,
+            codes: Some(&self.code),
+            group: GROUP,
+            stamp: STAMP,
+        };
+        match World::begin(alloc, &mut self.maker, opening, members) {
+            Ok(world) => Ok(Group::of(world, outputs, members)),
+            Err(error) => Err(error),
+        }
+    }
+}

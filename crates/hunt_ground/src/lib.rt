@@ -1,0 +1,9 @@
+//! Groups that begin over one stack again and again, by its bypasses: what they share is made once.
+#![tactic(auto)]
+
+mod codes;
+mod ground;
+mod group;
+
+pub use ground::Ground;
+pub use group::Group;

@@ -1,0 +1,4 @@
+pub mod Words
+pub mod Find
+pub mod Ends
+pub mod Through

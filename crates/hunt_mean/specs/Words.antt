@@ -1,0 +1,54 @@
+-- The words of the program: which hunt they ask for.
+use Rattle.std.specs.Prelude.{ℕ, List, [], ◌∷◌, Option, Some, None, codes, fold, if◌then◌else◌}
+use Rattle.clap.specs.Walk.{Rule, Row, Text, first_of, is_empty}
+use Rattle.clap.specs.Simple.{App, new_app, on_top, with_rule, matches_of}
+use Rattle.clap.specs.Faults.{fault_of}
+use Rattle.audit_mean.specs.declared.law.Law.{Law}
+use Rattle.script_mean.specs.Words.{◌>>=◌}
+use Rattle.msg_core.specs.View.{most_members}
+use Rattle.job_mean.specs.Command.{option, plain_top, required}
+use Rattle.job_mean.specs.Job.{a_number, a_number_or_zero, law_of, most_generated}
+
+-- `FILE --law L --members N --events E --runs R --seed S`, may have `--seconds T`
+abbrev pub rules : List Rule
+rules =
+    required (codes "file") ∷ option (codes "law") ∷ option (codes "members") ∷ option (codes "events") ∷ option (codes "runs") ∷
+    option (codes "seed") ∷ option (codes "seconds") ∷ []
+
+abbrev pub command : App
+command = fold with_rule (on_top plain_top (new_app (codes "stackhunt"))) rules
+
+-- the name of a stack file; a law that its stack is to break; how many members a group has, and events a run; how many runs there are, and from
+-- which number on; and behind how many seconds no run begins, which is 0 where the time doesn't count
+pub record Request : Type 0 where
+  pub file : Text
+  pub law : Law
+  pub members : ℕ
+  pub events : ℕ
+  pub runs : ℕ
+  pub seed : ℕ
+  pub seconds : ℕ
+
+-- the highest number of runs, and of a first run
+abbrev pub highest : ℕ
+highest = 4294967295
+
+-- the most seconds: eleven days
+abbrev pub most_seconds : ℕ
+most_seconds = 1000000
+
+-- what `clap` found, by name
+abbrev pub request_in : List Row → Option Request
+request_in rows = do
+  file ← first_of (codes "file") rows
+  law ← law_of (first_of (codes "law") rows)
+  members ← a_number 1 most_members (first_of (codes "members") rows)
+  events ← a_number 1 most_generated (first_of (codes "events") rows)
+  runs ← a_number 1 highest (first_of (codes "runs") rows)
+  seed ← a_number 0 highest (first_of (codes "seed") rows)
+  seconds ← a_number_or_zero most_seconds (first_of (codes "seconds") rows)
+  Some (record { file = file; law = law; members = members; events = events; runs = runs; seed = seed; seconds = seconds })
+
+-- what the words behind the program's name ask for, if `clap` takes them
+abbrev pub request_of : List Text → Option Request
+request_of words = if is_empty (fault_of command words) then request_in (matches_of command words) else None

@@ -1,0 +1,7 @@
+mod Read
+mod Ran
+mod Looked
+mod Judged
+mod Played
+pub mod Lines
+mod Through

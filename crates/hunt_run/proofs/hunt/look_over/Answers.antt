@@ -1,0 +1,12 @@
+use Rattle.event_graph.specs.Answer.{stack_tree}
+use Rattle.file_jobs.proofs.Sound.{means_sound}
+use Rattle.hunt_run.specs.Reading.{request_shown}
+use Rattle.hunt_run.proofs.Looked.{looked}
+use Rattle.hunt_run.proofs.hunt.look_over.Goals as goal
+
+pub of-requires : goal.of-requires
+of-requires g c = means_sound c.args.file.now (stack_tree c.args.stack) c.requires
+
+pub returns-in-Ok : goal.returns-in-Ok
+returns-in-Ok g c =
+    looked (request_shown c.args.request) c.args.file.now (stack_tree c.args.stack) c.all_runs.result c.requires c.all_runs.ensures

@@ -1,0 +1,101 @@
+//! The comments of a find.
+
+ghost use Rattle.std.specs.Prelude.{◌≡◌, ◌==◌, ◌++◌, [], IfOk, OnOk, drop, slice_index_or};
+ghost use Rattle.std.specs.List.{slice_split};
+ghost use Rattle.script_text.specs.Parts.{parts_behind};
+ghost use Rattle.hunt_mean.specs.Find as spec;
+ghost use Rattle.hunt_mean.specs.Ends as ends;
+
+use crate::broken::Broken;
+use audit_mean::Law;
+use msg_core::Memory;
+use report_lines::Line;
+use script_text::cut;
+use std::alloc::Global;
+
+/// A script behind comments that tell which law its report breaks, and by which two lines.
+pub(crate) fn tell(alloc: Global, law: Law, broken: &Broken, script: &[u8]) -> Result<Line, Memory>
+    ensures { IfOk result (λ text. text ≡ spec.told_breach law broken.now.report.items broken.now.first broken.now.second ++ script.now) }
+{
+    let mut text = Line::new(alloc);
+    text.text(b"# breaks ")?;
+    text.text(law_word(law))?;
+    text.text(b"\n")?;
+    tell_line(&broken.report, broken.first, &mut text)?;
+    tell_line(&broken.report, broken.second, &mut text)?;
+    text.text(script)?;
+    Ok(text)
+}
+
+/// Appends the comment that tells the line of a report with this number.
+fn tell_line(report: &[u8], number: u32, text: &mut Line) -> Result<(), Memory>
+    ensures { OnOk result (text.new ≡ text.old ++ spec.told_line report.now number) }
+{
+    text.text(b"# line ")?;
+    text.number(u64::from(number))?;
+    text.text(b": ")?;
+    text.text(line_at(report, number))?;
+    text.text(b"\n")
+}
+
+/// The line of a text with this number, the first being 1, without its line feed; and no bytes where there is none.
+#[tactic(auto, using(crate::proofs::Lines::first_behind))]
+fn line_at(text: &[u8], number: u32) -> &[u8]
+    ensures { result.now ≡ spec.numbered_line text.now number }
+{
+    first_line(behind_lines(text, number.saturating_sub(1)))
+}
+
+/// What stands behind so many line feeds, if there are as many.
+#[tactic(auto, using(crate::proofs::Lines::one_more))]
+fn behind_lines(text: &[u8], count: u32) -> Option<&[u8]>
+    ensures { parts_behind 10 result ≡ drop count (slice_split (λ byte. byte == 10) text.now) }
+{
+    let mut rest = Some(text);
+    for _ in 0..count {
+        rest = behind_line(rest);
+    }
+    rest
+}
+
+/// What stands behind the first line feed.
+fn behind_line(rest: Option<&[u8]>) -> Option<&[u8]>
+    ensures { parts_behind 10 result ≡ drop 1 (parts_behind 10 rest.entry) }
+{
+    match rest {
+        Some(rest) => cut(b'\n', rest).1,
+        None => None,
+    }
+}
+
+/// What stands in front of the first line feed, and no bytes where nothing is left.
+fn first_line(rest: Option<&[u8]>) -> &[u8]
+    ensures { result.now ≡ slice_index_or (parts_behind 10 rest.entry) 0 [] }
+{
+    match rest {
+        Some(rest) => cut(b'\n', rest).0,
+        None => &[],
+    }
+}
+
+/// A law, as words name it.
+fn law_word(law: Law) -> &'static [u8]
+    ensures { result.now ≡ spec.law_word law }
+{
+    match law {
+        Law::Sender => b"sender",
+        Law::Total => b"total",
+        Law::Same => b"same",
+    }
+}
+
+/// The line that says in how many runs no breach was found.
+pub(crate) fn holds_line(alloc: Global, runs: u32) -> Result<Line, Memory>
+    ensures { IfOk result (λ line. line ≡ ends.holds_line runs) }
+{
+    let mut line = Line::new(alloc);
+    line.text(b"holds ")?;
+    line.number(u64::from(runs))?;
+    line.text(b"\n")?;
+    Ok(line)
+}

@@ -1,0 +1,259 @@
+//! A schedule that breaks a law, made small: what can be taken out of it is, as long as the law stays broken.
+//!
+//! Steps are taken out by Zeller and Hildebrandt's delta debugging: halves, quarters, and so on down to single ones.
+
+use crate::error::SearchError;
+use crate::schedule::{Act, Body, Schedule, Step};
+use crate::search::Search;
+use std::alloc::Global;
+
+/// How often at most all that can be made smaller is gone through.
+const MOST_ROUNDS: u32 = 16;
+
+/// The body of the first cast, and those of the next ones follow.
+const FIRST_BODY: u8 = b'a';
+
+/// A small schedule that breaks the law, where one is given that does.
+pub(crate) fn reduce(search: &mut Search, schedule: Schedule) -> Result<Schedule, SearchError> {
+    let mut least = schedule;
+    cut_off(search, &mut least)?;
+    thin_out(search, &mut least)?;
+    for _ in 0..MOST_ROUNDS {
+        if !make_smaller(search, &mut least)? {
+            break;
+        }
+    }
+    Ok(least)
+}
+
+/// Tries all ways to make a schedule smaller, and answers whether one did.
+fn make_smaller(search: &mut Search, least: &mut Schedule) -> Result<bool, SearchError> {
+    let members = leave_out_members(search, least)?;
+    let bodies = shorten_bodies(search, least)?;
+    let moments = lower_moments(search, least)?;
+    let steps = take_out(search, least, 1)?;
+    name_bodies(search, least)?;
+    Ok(members || bodies || moments || steps)
+}
+
+/// Takes another schedule in place of the least one, if it breaks the law too.
+fn try_out(
+    search: &mut Search,
+    least: &mut Schedule,
+    other: Schedule,
+) -> Result<bool, SearchError> {
+    if !search.breaks(&other)? {
+        return Ok(false);
+    }
+    *least = other;
+    Ok(true)
+}
+
+/// Cuts off what stands behind the breach.
+fn cut_off(search: &mut Search, least: &mut Schedule) -> Result<(), SearchError> {
+    let mut low = 0;
+    let mut high = least.steps.len();
+    for _ in 0..usize::BITS {
+        if low >= high {
+            break;
+        }
+        let middle = low + (high - low) / 2;
+        let front = without(search.alloc(), least, middle, usize::MAX)?;
+        if search.breaks(&front)? {
+            high = middle;
+        } else {
+            low = middle + 1;
+        }
+    }
+    let front = without(search.alloc(), least, high, usize::MAX)?;
+    try_out(search, least, front)?;
+    Ok(())
+}
+
+/// Takes out steps in ever smaller groups.
+fn thin_out(search: &mut Search, least: &mut Schedule) -> Result<(), SearchError> {
+    let mut size = least.steps.len() / 2;
+    for _ in 0..usize::BITS {
+        if size == 0 {
+            break;
+        }
+        take_out(search, least, size)?;
+        size /= 2;
+    }
+    Ok(())
+}
+
+/// Takes out groups of so many steps, the last first, and answers whether one could be.
+fn take_out(search: &mut Search, least: &mut Schedule, size: usize) -> Result<bool, SearchError> {
+    let mut is_less = false;
+    let mut end = least.steps.len();
+    for _ in 0..least.steps.len() {
+        if end == 0 {
+            break;
+        }
+        let start = end.saturating_sub(size);
+        let other = without(search.alloc(), least, start, end)?;
+        is_less |= try_out(search, least, other)?;
+        end = start;
+    }
+    Ok(is_less)
+}
+
+/// A schedule without the steps from one place to another.
+fn without(
+    alloc: Global,
+    schedule: &Schedule,
+    start: usize,
+    end: usize,
+) -> Result<Schedule, SearchError> {
+    let mut steps = Vec::with_capacity(alloc, schedule.steps.len())?;
+    for (place, step) in schedule.steps.iter().enumerate() {
+        if place < start || place >= end {
+            steps.push(*step)?;
+        }
+    }
+    Ok(Schedule {
+        members: schedule.members,
+        names: schedule.names,
+        steps,
+    })
+}
+
+/// Leaves out members with all that happens to them, and answers whether one could be.
+fn leave_out_members(search: &mut Search, least: &mut Schedule) -> Result<bool, SearchError> {
+    let mut is_less = false;
+    for member in (0..least.members).rev() {
+        if least.members > 1 {
+            let other = without_member(search.alloc(), least, member)?;
+            is_less |= try_out(search, least, other)?;
+        }
+    }
+    Ok(is_less)
+}
+
+/// A schedule without a member: those behind it take its number and the next ones.
+fn without_member(alloc: Global, schedule: &Schedule, member: u8) -> Result<Schedule, SearchError> {
+    let mut steps = Vec::with_capacity(alloc, schedule.steps.len())?;
+    for step in schedule.steps.as_slice() {
+        if step.member < member {
+            steps.push(*step)?;
+        } else if step.member > member {
+            steps.push(Step {
+                member: step.member - 1,
+                ..*step
+            })?;
+        }
+    }
+    Ok(Schedule {
+        members: schedule.members.saturating_sub(1),
+        names: schedule.names,
+        steps,
+    })
+}
+
+/// A schedule in which something else happens at a place.
+fn with_act(
+    alloc: Global,
+    schedule: &Schedule,
+    place: usize,
+    act: Act,
+) -> Result<Schedule, SearchError> {
+    let mut steps = Vec::with_capacity(alloc, schedule.steps.len())?;
+    for (other, step) in schedule.steps.iter().enumerate() {
+        if other == place {
+            steps.push(Step { act, ..*step })?;
+        } else {
+            steps.push(*step)?;
+        }
+    }
+    Ok(Schedule {
+        members: schedule.members,
+        names: schedule.names,
+        steps,
+    })
+}
+
+/// Makes bodies shorter, and answers whether one could be made so.
+fn shorten_bodies(search: &mut Search, least: &mut Schedule) -> Result<bool, SearchError> {
+    let mut is_less = false;
+    for place in 0..least.steps.len() {
+        is_less |= shorten(search, least, place)?;
+    }
+    Ok(is_less)
+}
+
+/// Makes the body as short as it can be that is cast at a place.
+fn shorten(search: &mut Search, least: &mut Schedule, place: usize) -> Result<bool, SearchError> {
+    let Some(Act::Cast(body)) = act_at(least, place) else {
+        return Ok(false);
+    };
+    for count in 1..body.count {
+        let shorter = Act::Cast(Body { count, ..body });
+        let other = with_act(search.alloc(), least, place, shorter)?;
+        if try_out(search, least, other)? {
+            return Ok(true);
+        }
+    }
+    Ok(false)
+}
+
+/// Lets bodies begin with the letters from `a` on, if the law stays broken.
+fn name_bodies(search: &mut Search, least: &mut Schedule) -> Result<(), SearchError> {
+    let mut steps = Vec::with_capacity(search.alloc(), least.steps.len())?;
+    let mut first = FIRST_BODY;
+    for step in least.steps.as_slice() {
+        if let Act::Cast(body) = step.act {
+            let act = Act::Cast(Body { first, ..body });
+            steps.push(Step { act, ..*step })?;
+            first = first.wrapping_add(1);
+        } else {
+            steps.push(*step)?;
+        }
+    }
+    let other = Schedule {
+        members: least.members,
+        names: least.names,
+        steps,
+    };
+    try_out(search, least, other)?;
+    Ok(())
+}
+
+/// Makes moments less, and answers whether one could be made so.
+fn lower_moments(search: &mut Search, least: &mut Schedule) -> Result<bool, SearchError> {
+    let mut is_less = false;
+    for place in 0..least.steps.len() {
+        is_less |= lower(search, least, place)?;
+    }
+    Ok(is_less)
+}
+
+/// Makes the moment at a place as little as halving finds it.
+fn lower(search: &mut Search, least: &mut Schedule, place: usize) -> Result<bool, SearchError> {
+    let Some(Act::Tick(moment)) = act_at(least, place) else {
+        return Ok(false);
+    };
+    let mut low = 0;
+    let mut high = moment;
+    for _ in 0..u32::BITS {
+        if low >= high {
+            break;
+        }
+        let middle = low + (high - low) / 2;
+        let other = with_act(search.alloc(), least, place, Act::Tick(middle))?;
+        if try_out(search, least, other)? {
+            high = middle;
+        } else {
+            low = middle + 1;
+        }
+    }
+    Ok(high < moment)
+}
+
+/// What happens at a place.
+fn act_at(schedule: &Schedule, place: usize) -> Option<Act> {
+    match schedule.steps.get(place) {
+        Some(step) => Some(step.act),
+        None => None,
+    }
+}

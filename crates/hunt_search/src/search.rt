@@ -1,0 +1,194 @@
+//! Runs, one after the other, and what is found in them.
+
+ghost use Rattle.bypass_laws.specs.Making.{IsSound};
+ghost use Rattle.event_graph.specs.Answer.{stack_tree};
+
+use crate::error::{SearchError, unopened};
+use crate::judge::is_broken;
+use crate::reduce::reduce;
+use crate::schedule::{Schedule, Step};
+use crate::stage::Stage;
+use crate::text::Text;
+use crate::wander::Wander;
+use audit_mean::Law;
+use event_graph::Stack;
+use hunt_ground::{Ground, Group};
+use msg_core::MOST_MEMBERS;
+use std::alloc::Global;
+
+/// Of four parts of a run, in how many it is unquiet.
+const UNQUIET: u32 = 3;
+
+/// What is looked for: a law that runs of so many members and events are to break.
+#[derive(Clone, Copy)]
+pub struct Aim {
+    pub law: Law,
+    pub members: u8,
+    pub events: u32,
+}
+
+/// A search over a stack, with what groups begin with, and what is noted of a run.
+#[derive(Drop)]
+pub struct Search {
+    alloc: Global,
+    aim: Aim,
+    ground: Ground,
+    stage: Stage,
+}
+
+impl Search {
+    pub fn of(alloc: Global, stack: Stack, aim: Aim) -> Result<Search, SearchError>
+        requires { IsSound (stack_tree stack) }
+    {
+        Ok(Search {
+            alloc,
+            aim,
+            ground: Ground::of(alloc, stack)?,
+            stage: Stage::new(alloc),
+        })
+    }
+
+    /// Makes the run of a number, and answers the script of it, made small, where it breaks the law.
+    pub fn run(&mut self, number: u64) -> Result<Option<Vec<u8>>, SearchError> {
+        let schedule = self.wander(number)?;
+        if !self.is_broken(schedule.members)? {
+            return Ok(None);
+        }
+        let least = reduce(self, schedule)?;
+        let script = self.script_of(number, &least)?;
+        Ok(Some(script))
+    }
+
+    pub(crate) fn alloc(&self) -> Global {
+        self.alloc
+    }
+
+    /// Whether the run that was made last breaks the law.
+    fn is_broken(&self, members: u8) -> Result<bool, SearchError> {
+        is_broken(self.alloc, self.aim.law, members, self.stage.notes())
+    }
+
+    /// Whether a schedule breaks the law.
+    pub(crate) fn breaks(&mut self, schedule: &Schedule) -> Result<bool, SearchError> {
+        self.perform(schedule)?;
+        self.is_broken(schedule.members)
+    }
+
+    /// Begins a group of so many members, or of as many as there may be.
+    fn open(&mut self, members: u8) -> Result<Group, SearchError> {
+        let members = members.clamp(1, MOST_MEMBERS);
+        match self.ground.begin(self.alloc, members) {
+            Ok(group) => Ok(group),
+            Err(error) => Err(unopened(error)),
+        }
+    }
+
+    /// Makes the run of a number, whose steps are drawn as it goes on.
+    fn wander(&mut self, number: u64) -> Result<Schedule, SearchError> {
+        let events = self.aim.events;
+        let members = self.aim.members;
+        let mut steps = Vec::with_capacity(self.alloc, events as usize)?;
+        let mut wander = Wander::of(self.alloc, members, number)?;
+        self.stage.clear(events)?;
+        let mut group = self.open(members)?;
+        let made = wander_on(
+            self.alloc,
+            &mut self.stage,
+            &mut group,
+            &mut wander,
+            events,
+            &mut steps,
+        );
+        group.close();
+        made?;
+        Ok(Schedule {
+            members,
+            names: events,
+            steps,
+        })
+    }
+
+    /// Makes the run of a schedule.
+    fn perform(&mut self, schedule: &Schedule) -> Result<(), SearchError> {
+        self.stage.clear(schedule.names)?;
+        let mut group = self.open(schedule.members)?;
+        let played = play_all(
+            self.alloc,
+            &mut self.stage,
+            &mut group,
+            schedule.steps.as_slice(),
+        );
+        group.close();
+        played
+    }
+
+    /// The script of a schedule that was made of the run of a number.
+    fn script_of(&mut self, number: u64, schedule: &Schedule) -> Result<Vec<u8>, SearchError> {
+        let mut text = Text::of(self.alloc, number, schedule.names, schedule.members)?;
+        self.stage.clear(schedule.names)?;
+        let mut group = self.open(schedule.members)?;
+        let written = write_all(
+            self.alloc,
+            &mut self.stage,
+            &mut group,
+            schedule.steps.as_slice(),
+            &mut text,
+        );
+        group.close();
+        written?;
+        Ok(text.into_bytes())
+    }
+}
+
+/// Draws the steps of a run and plays each: first unquiet ones, then quiet ones.
+fn wander_on(
+    alloc: Global,
+    stage: &mut Stage,
+    group: &mut Group,
+    wander: &mut Wander,
+    events: u32,
+    steps: &mut Vec<Step>,
+) -> Result<(), SearchError> {
+    let unquiet = events / 4 * UNQUIET;
+    for name in 0..events {
+        if name == unquiet {
+            wander.calm();
+        }
+        let step = wander.next(name)?;
+        steps.push(step)?;
+        if let Some(stepped) = stage.play(alloc, group, step)? {
+            wander.follow(group, step, stepped)?;
+        }
+    }
+    Ok(())
+}
+
+/// Plays steps.
+fn play_all(
+    alloc: Global,
+    stage: &mut Stage,
+    group: &mut Group,
+    steps: &[Step],
+) -> Result<(), SearchError> {
+    for step in steps {
+        stage.play(alloc, group, *step)?;
+    }
+    Ok(())
+}
+
+/// Plays steps, and writes the line of each that can happen.
+fn write_all(
+    alloc: Global,
+    stage: &mut Stage,
+    group: &mut Group,
+    steps: &[Step],
+    text: &mut Text,
+) -> Result<(), SearchError> {
+    for step in steps {
+        if let Some(event) = stage.event_of(alloc, *step)? {
+            text.put(&event)?;
+            stage.play(alloc, group, *step)?;
+        }
+    }
+    Ok(())
+}

@@ -1,0 +1,220 @@
+//! What happens next in a run, drawn by its habits.
+
+use crate::error::SearchError;
+use crate::habits::Habits;
+use crate::network::{Due, Network, only};
+use crate::random::Random;
+use crate::schedule::{Act, Body, Step};
+use hunt_ground::Group;
+use std::alloc::Global;
+use view_core::{Change, Stepped};
+
+/// How many packets on their way there are to be for each member, before members wait with casts.
+const CROWD: usize = 6;
+
+/// How many packets are lost in a row at most.
+const LOST_IN_ROW: u32 = 8;
+
+/// By how many milliseconds the clock goes on at most in a run that becomes quiet: so few that nobody is suspected.
+const QUIET_STRIDE: u32 = 60;
+
+/// A run as it goes on: what was drawn last, how the run behaves, what is on its way, the moment of all clocks, how many casts there were, whose clock
+/// ticks next where it is quiet, and who is out.
+#[derive(Drop)]
+pub(crate) struct Wander {
+    random: Random,
+    habits: Habits,
+    network: Network,
+    members: u8,
+    moment: u32,
+    casts: u8,
+    turn: u8,
+    is_quiet: bool,
+    gone: u32,
+}
+
+impl Wander {
+    /// A run of so many members, by its number.
+    pub(crate) fn of(alloc: Global, members: u8, run: u64) -> Result<Wander, SearchError> {
+        let mut random = Random::of(run);
+        let habits = Habits::draw(&mut random);
+        Ok(Wander {
+            random,
+            habits,
+            network: Network::of(alloc, members)?,
+            members,
+            moment: 0,
+            casts: 0,
+            turn: 0,
+            is_quiet: false,
+            gone: 0,
+        })
+    }
+
+    /// From here on nothing is lost, and the members become quiet.
+    pub(crate) fn calm(&mut self) {
+        self.habits = self.habits.quiet();
+        self.network.mend();
+        self.is_quiet = true;
+    }
+
+    /// The next step, by this name.
+    pub(crate) fn next(&mut self, name: u32) -> Result<Step, SearchError> {
+        let (member, act) = self.draw()?;
+        Ok(Step { name, member, act })
+    }
+
+    fn draw(&mut self) -> Result<(u8, Act), SearchError> {
+        if self.is_quiet {
+            return match self.give()? {
+                Some(given) => Ok(given),
+                None => Ok(self.tick_in_turn()),
+            };
+        }
+        if self.random.percent(self.habits.parts) {
+            self.part();
+        }
+        let often = self.random.below(100);
+        let casts = self.habits.casts;
+        let ticks = casts.saturating_add(self.habits.ticks);
+        let leaves = ticks.saturating_add(self.habits.leaves);
+        if often < casts {
+            return self.cast_or_give();
+        }
+        if often < ticks {
+            return Ok(self.tick());
+        }
+        if often < leaves && self.random.percent(10) {
+            return Ok((self.someone(), Act::Leave));
+        }
+        match self.give()? {
+            Some(given) => Ok(given),
+            None => Ok(self.cast()),
+        }
+    }
+
+    /// The network parts, or a member falls silent, or all is well again.
+    fn part(&mut self) {
+        match self.random.below(3) {
+            0 => self.network.side = self.random.below(u32::MAX),
+            1 => self.network.silent = only(self.someone()),
+            _ => self.network.mend(),
+        }
+    }
+
+    /// A member that isn't out, as far as a few draws find one.
+    fn someone(&mut self) -> u8 {
+        let mut member = self.random.member(self.members);
+        for _ in 0..32 {
+            if (self.gone | self.network.silent) & only(member) == 0 {
+                return member;
+            }
+            member = self.behind(member);
+        }
+        member
+    }
+
+    /// The member behind another, and the first behind the last.
+    fn behind(&self, member: u8) -> u8 {
+        let next = member.saturating_add(1);
+        if next < self.members { next } else { 0 }
+    }
+
+    /// A member casts, unless much is on its way.
+    fn cast_or_give(&mut self) -> Result<(u8, Act), SearchError> {
+        if self.network.len() > CROWD * usize::from(self.members)
+            && let Some(given) = self.give()?
+        {
+            return Ok(given);
+        }
+        Ok(self.cast())
+    }
+
+    fn cast(&mut self) -> (u8, Act) {
+        self.casts = self.casts.wrapping_add(1);
+        let count = if self.random.percent(self.habits.long) {
+            2 + self.random.below(11) as u8
+        } else {
+            1
+        };
+        let body = Body {
+            first: self.casts,
+            count,
+        };
+        (self.someone(), Act::Cast(body))
+    }
+
+    fn tick(&mut self) -> (u8, Act) {
+        let on = 1 + self.random.below(self.habits.stride.max(1));
+        self.moment = self.moment.saturating_add(on);
+        (self.someone(), Act::Tick(self.moment))
+    }
+
+    /// The members' clocks tick in turn.
+    fn tick_in_turn(&mut self) -> (u8, Act) {
+        self.turn = self.behind(self.turn);
+        self.moment = self.moment.saturating_add(QUIET_STRIDE);
+        (self.turn, Act::Tick(self.moment))
+    }
+
+    /// A packet is given that can come, where some aren't lost before.
+    fn give(&mut self) -> Result<Option<(u8, Act)>, SearchError> {
+        for _ in 0..LOST_IN_ROW {
+            let Some((place, due)) = self.coming() else {
+                return Ok(None);
+            };
+            if self.random.percent(self.habits.loses) {
+                self.network.take(place);
+            } else {
+                self.come(place)?;
+                return Ok(Some((due.to, Act::Give(due.source))));
+            }
+        }
+        Ok(None)
+    }
+
+    /// A packet that can come, and its place.
+    fn coming(&mut self) -> Option<(usize, Due)> {
+        let count = self.network.len();
+        if count == 0 {
+            return None;
+        }
+        let start = if self.random.percent(self.habits.overtakes) {
+            self.random.place(count)
+        } else {
+            0
+        };
+        let place = self.network.first_from(start)?;
+        let due = self.network.at(place)?;
+        Some((place, due))
+    }
+
+    /// The packet at a place comes: it isn't on its way any more, or it will come again.
+    fn come(&mut self, place: usize) -> Result<(), SearchError> {
+        if self.random.percent(self.habits.repeats) {
+            self.network.put_off(place)
+        } else {
+            self.network.take(place);
+            Ok(())
+        }
+    }
+
+    /// What a step came to: what it sent is on its way, and who is in another view now hears that one alone.
+    pub(crate) fn follow(
+        &mut self,
+        group: &Group,
+        step: Step,
+        stepped: Stepped,
+    ) -> Result<(), SearchError> {
+        let Stepped::Taken { common: _, change } = stepped else {
+            return Ok(());
+        };
+        self.network.send(group, step.name, step.member)?;
+        match change {
+            Some(Change::Into(view)) => self.network.enter(step.member, view.ltime),
+            Some(Change::Out) => self.gone |= only(step.member),
+            None => {}
+        }
+        Ok(())
+    }
+}
