@@ -57,6 +57,12 @@ def values(name):
     return form[1:] if form[0] == "one" else []
 
 
+def ending(name):
+    """What the name of a file ends with that a word names; None where it names none."""
+    form = TABLE.words[name][0]
+    return form[1] if form[0] == "file" else None
+
+
 BASH = r"""# Completions of stackc for bash, @FROM. To have them: source tools/completions/stackc.bash
 
 _stackc_files() {
@@ -120,7 +126,9 @@ def bash():
     valued = [option for option, value in TABLE.options().items() if value]
     chosen = [option for option in valued if values(TABLE.options()[option])]
     arms = [f"  {option}) mapfile -t COMPREPLY < <(compgen -W \"{' '.join(values(TABLE.options()[option]))}\" -- \"$current\"); return ;;" for option in chosen]
-    arms.append("  " + " | ".join(option for option in valued if option not in chosen) + ") return ;;")
+    named = [option for option in valued if ending(TABLE.options()[option])]
+    arms += [f"  {option}) _stackc_files {ending(TABLE.options()[option])} \"$current\"; return ;;" for option in named]
+    arms.append("  " + " | ".join(option for option in valued if option not in chosen + named) + ") return ;;")
     fills = {
         "FROM": FROM,
         "JOBS": " ".join(TABLE.jobs),
@@ -182,6 +190,8 @@ def zsh_case(job):
             specs.append(f"'{option}[{quoted(TABLE.words[option][1])}]'")
         else:
             choices = f"({' '.join(values(value))})" if values(value) else " "
+            if ending(value):
+                choices = f"_files -g \"*.{ending(value)}\""
             specs.append(f"'{option}=[{quoted(meaning(value))}]:{value}:{choices}'")
     for k, place in enumerate(job.places):
         specs.append(f"'{k + 1}:{quoted(TABLE.words[place][1])}:_files -g \"*.{TABLE.words[place][0][1]}\"'")

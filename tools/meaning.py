@@ -7,6 +7,7 @@ from words import NoJob, Table
 
 LONGEST_READ = 80_000_000
 LONGEST_SHOWN = 160
+ACTS = ("check", "set", "push", "take", "out")
 ROWS = "the queues of this stack would keep over 8,192 rows with messages at a member of this group: smaller queues or fewer members keep less"
 
 
@@ -80,10 +81,49 @@ def member_told(table, places, given, line):
     return f"stackc: `--me {clean(given['--me'])}`: the group of {clean(places['PLAN'])} has the members 0 to {members - 1}\n"
 
 
+def line_told(line, count):
+    """What is wrong with a line of a file of traces that has so many."""
+    if line == 1:
+        return "a file of traces begins with the line `bypasses 1`"
+    if line > count:
+        return "the file ends before its line `end`"
+    return "this line is no operation of this stack, and the next case, or the end, doesn't begin so"
+
+
+def act_told(rows, heading, act):
+    """Where the act of this number stands behind the heading of its case, and what is wrong there."""
+    for line in range(rows.index(heading) + 1, len(rows)):
+        word = rows[line].split(" ")[0]
+        if word in ("entry", "end"):
+            return line + 1, 1, f"the stack's own trace of `{heading}` goes on here"
+        if word in ACTS:
+            if act == 0:
+                return line + 1, 1, f"the stack's own trace of `{heading}` does something else here, or the same of other values"
+            act -= 1
+    raise ValueError("no such act")
+
+
+def traces_told(path, cause):
+    """Why a file of traces is refused: at the line, or at the heading of the case."""
+    text = bytes_of(path)
+    if text is None:
+        return ""
+    if cause == "too large":
+        return f"{clean(path)}: a file of traces has at most 33,554,432 bytes\n"
+    every = text.split(b"\n")
+    if cause.startswith("line "):
+        line = int(cause.split()[1])
+        return pointed(path, text, line, 1, line_told(line, len(every) - (not every[-1])))
+    heading, _, act = cause.partition(" op ")
+    return pointed(path, text, *act_told([row.decode("latin-1") for row in every], heading, int(act)))
+
+
 def refused(table, said, words):
     """What a refusal of a file, a script or a plan means."""
     job, places, given = table.read(words)
     what, _, cause = said.partition(": ")
+    if what == "bypass":
+        return traces_told(given["--with"], cause)
     name = job.places[-1] if what == "script" else job.places[0]
     if job.name == "node" and cause.startswith("member "):
         of_words = member_told(table, places, given, int(cause.split()[1]))
@@ -105,10 +145,11 @@ def meaning(status, said, words):
     if status == 2 and said == "words: refused":
         return words_told(table, words)
     try:
-        if status in (1, 3) and said.startswith(("file: ", "script: ")):
+        if status in (1, 3, 9) and said.startswith(("file: ", "script: ", "bypass: ")):
             return refused(table, said, words)
         if status == 4 and said == "read fault":
-            return next(filter(None, (fault_told(path) for path in table.read(words)[1].values())), "")
+            _, places, given = table.read(words)
+            return next(filter(None, (fault_told(path) for path in [*places.values(), *filter(None, [given.get("--with")])])), "")
         if status == 6 and said == "link fault":
             return link_told(table.read(words)[2])
     except NoJob:

@@ -1,6 +1,6 @@
 #!/usr/bin/env bash
-# Tries the script ./stackc, its words, what a terminal shows, the completions and pages, the editors' grammars, how journals are put together, the tutorial and the page of definitions,
-# over the program in $STACKC, a built one or a trial of it, and the formatter in $LAYERFMT and the charts of $RUNCHART, if these are set: STACKC=crates/stackc/out/stackc tools/test.sh.
+# Tries the script ./stackc, its words, files of traces, what a terminal shows, the completions and pages, the editors' grammars, how journals are put together, the tutorial and the page of definitions,
+# over the program in $STACKC, a built one or a trial of it, and the formatter in $LAYERFMT, the charts of $RUNCHART and the hunts of $STACKHUNT, if these are set: STACKC=crates/stackc/out/stackc tools/test.sh.
 # Ends with 1 where something differs.
 set -u
 if [ ! -x "${STACKC:-}" ]; then
@@ -10,9 +10,10 @@ fi
 STACKC=$(readlink -f "$STACKC")
 LAYERFMT=${LAYERFMT:+$(readlink -f "$LAYERFMT")}
 RUNCHART=${RUNCHART:+$(readlink -f "$RUNCHART")}
-export STACKC LAYERFMT RUNCHART PYTHONDONTWRITEBYTECODE=1
+STACKHUNT=${STACKHUNT:+$(readlink -f "$STACKHUNT")}
+export STACKC LAYERFMT RUNCHART STACKHUNT PYTHONDONTWRITEBYTECODE=1
 failed=0
-for test in table statuses terminal sentences script grammars journals tutorial layouts charts definitions; do
+for test in table statuses packs terminal sentences script grammars journals tutorial layouts charts hunts definitions; do
   python3 "$(dirname "$(readlink -f "$0")")/tests/$test.py" || failed=1
 done
 exit "$failed"

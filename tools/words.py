@@ -10,11 +10,11 @@ class NoJob(Exception):
 
 
 class Job:
-    """A job: the words at its places, its options with the words for their values, and those of them that it needs."""
+    """A job: the words at its places, its options with the words for their values, those of them that it needs, and those that it doesn't take together."""
 
     def __init__(self, name, form, says):
         self.name, self.form, self.says = name, form, says
-        self.places, self.options, self.needed = [], {}, []
+        self.places, self.options, self.needed, self.apart = [], {}, [], []
         words = form.split()
         while words:
             word = words.pop(0)
@@ -42,6 +42,8 @@ class Table:
                 what, name, form, says = line.rstrip("\n").split("\t")
                 if what == "job":
                     self.jobs[name] = Job(name, form, says)
+                elif what == "apart":
+                    self.jobs[name].apart.append((*form.split(), says))
                 elif what == "word":
                     self.words[name] = (form.split(), says)
                 else:
@@ -74,6 +76,10 @@ class Table:
         for option, value in given.items():
             if job.options[option]:
                 fits(option, value, self.words[job.options[option]][0])
+        for option, other, says in job.apart:
+            name, _, value = other.partition("=")
+            if option in given and given.get(name) == value:
+                raise NoJob(f"`{option}` doesn't go with `{name} {value}`: {says}")
         return job, dict(zip(job.places, places)), given
 
     def fault(self, words):
@@ -140,6 +146,8 @@ def is_plain(word, low, high):
 
 def fits(option, value, form):
     """Raises NoJob where a value doesn't have the form of its word."""
+    if form[0] == "file":
+        return
     if form[0] == "one":
         if value not in form[1:]:
             raise NoJob(f"`{option}` is " + " or ".join(f"`{word}`" for word in form[1:]) + f", and not `{value}`")

@@ -26,7 +26,7 @@ _stackc() {
   check) options="" kinds="layers" ;;
   synth) options="" kinds="layers" ;;
   pack) options="" kinds="layers" ;;
-  replay) options="--run --wire --count" kinds="layers script" ;;
+  replay) options="--run --with --wire --count" kinds="layers script" ;;
   explain) options="" kinds="layers script" ;;
   load) options="--seed --events --members --run --raw" kinds="layers" ;;
   node) options="--turns --me --run --patience" kinds="layers plan" ;;
@@ -36,6 +36,7 @@ _stackc() {
   case $before in
   --run) mapfile -t COMPREPLY < <(compgen -W "bypass layered" -- "$current"); return ;;
   --law) mapfile -t COMPREPLY < <(compgen -W "sender total same" -- "$current"); return ;;
+  --with) _stackc_files bypasses "$current"; return ;;
   --seed | --events | --members | --turns | --me | --patience) return ;;
   esac
   if [[ $current == -* ]]; then
@@ -45,7 +46,7 @@ _stackc() {
   while [ $((at += 1)) -lt "$COMP_CWORD" ]; do
     word=${COMP_WORDS[at]}
     case $word in
-    --run | --seed | --events | --members | --turns | --me | --patience | --law) at=$((at + 1)); [ "${COMP_WORDS[at]-}" != "=" ] || at=$((at + 1)) ;;
+    --run | --with | --seed | --events | --members | --turns | --me | --patience | --law) at=$((at + 1)); [ "${COMP_WORDS[at]-}" != "=" ] || at=$((at + 1)) ;;
     -*) ;;
     *) place=$((place + 1)) ;;
     esac

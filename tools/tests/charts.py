@@ -55,11 +55,11 @@ def try_report(name, report, folder):
 
 
 def try_pictures(folder):
-    """The pictures of the documents are the program's: those of a view change, and of a repair up to the line before the first `state`."""
+    """The pictures of the documents are the program's: those of a view change, of casts out of order, and of a repair up to the line before the first `state`."""
     views = report_of("views", [])
     order = report_of("order", [])
     last = order.decode().splitlines().index(next(line for line in order.decode().splitlines() if line.startswith("state ")))
-    for name, got in [("view-change", drawn(views, folder)), ("repair", drawn(order, folder, "--to", str(last)))]:
+    for name, got in [("view-change", drawn(views, folder)), ("hasty", drawn(report_of("hasty", []), folder)), ("repair", drawn(order, folder, "--to", str(last)))]:
         with open(os.path.join(TOP, "docs", "pictures", name + ".svg"), "rb") as file:
             wants(f"docs/pictures/{name}.svg is what is drawn", got == (0, file.read(), b""))
 

@@ -157,7 +157,7 @@ def completions():
     completes(["stackc", "replay", "c"], "counter.layers")
     completes(["stackc", "replay", "order.layers", "o"], "order.script")
     completes(["stackc", "node", "--turns", "9", "counter.layers", "p"], "pair.plan")
-    completes(["stackc", "replay", "order.layers", "order.script", "--"], "--run", "--wire", "--count")
+    completes(["stackc", "replay", "order.layers", "order.script", "--"], "--run", "--with", "--wire", "--count")
     completes(["stackc", "load", "order.layers", "--run", "=", "l"], "layered")
     completes(["stackc", "audit", "--law", "t"], "total")
     completes(["stackc", "check", "order.layers", ""])

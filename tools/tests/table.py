@@ -15,6 +15,7 @@ TABLE = Table()
 VALUES = {
     "number": lambda form, r: r.choice([form[1], form[2], str(int(form[2]) + 1), "0", "1", "01", "+1", "-1", "", "x", "7"]),
     "members": lambda form, r: r.choice(["0", "31", "32", "0,1", "1,0", "1,1", "0,", "", "0,31", "00", "0, 1", "0,2,5"]),
+    "file": lambda form, r: r.choice(["t.bypasses", "", "x", "layered"]),
     "one": lambda form, r: r.choice(form[1:] + [form[1].upper(), "", "x"]),
 }
 
@@ -29,7 +30,7 @@ def option_words(option, value, r):
 
 def good(value, r):
     form = TABLE.words[value][0]
-    return {"number": lambda: form[1 + r.randrange(2)], "members": lambda: "0,31", "one": lambda: r.choice(form[1:])}[form[0]]()
+    return {"number": lambda: form[1 + r.randrange(2)], "members": lambda: "0,31", "file": lambda: "t.bypasses", "one": lambda: r.choice(form[1:])}[form[0]]()
 
 
 def drawn(r):

@@ -13,6 +13,8 @@ from journals import free_ports
 from tree import TOP
 
 PAGE = os.path.join(TOP, "docs", "TUTORIAL.md")
+HUNTS = os.environ.get("STACKHUNT", "")
+HUNTED = re.compile(r"hasty|patient")    # files that a hunt writes, or is made over
 FENCE = re.compile(r"^```([a-z]*)(?: (\S+))?\n(.*?)^```$", re.M | re.S)
 
 
@@ -46,6 +48,8 @@ def main():
     files, tried, wrong, filled, at = 0, 0, 0, [], 0
     with tempfile.TemporaryDirectory(prefix="stackc-") as folder:
         os.symlink(os.environ["STACKC"], os.path.join(folder, "stackc"))
+        if HUNTS:
+            os.symlink(HUNTS, os.path.join(folder, "stackhunt"))
         for fence in FENCE.finditer(page):
             language, name, body = fence.groups()
             filled.append(page[at:fence.start()])
@@ -58,6 +62,9 @@ def main():
                 continue
             lines = []
             for command, wanted in commands(body):
+                if not HUNTS and HUNTED.search(command):
+                    lines += [f"$ {command}", *wanted]
+                    continue
                 got = run(command, folder)
                 tried += 1
                 lines += [f"$ {command}", *got]

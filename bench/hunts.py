@@ -1,0 +1,174 @@
+#!/usr/bin/env python3
+"""Hunts for breaches in layers of the library and the tutorial with one line changed, and in the stacks as they are.
+
+usage: STACKHUNT=PROGRAM STACKC=PROGRAM bench/hunts.py [NAME..]
+
+For each it prints the law, the seed, the run that broke it, how many events the run had and how many are left, the time, and whether the script that was written holds: its
+report, by the other program, breaks the law, and none of its events can be taken out, be packets numbered anew or not.
+"""
+import os
+import re
+import subprocess
+import sys
+import tempfile
+import time
+
+TOP = os.path.dirname(os.path.dirname(os.path.abspath(__file__)))
+STACKHUNT = os.environ["STACKHUNT"]
+STACKC = os.environ.get("STACKC", "")
+EVENTS, RUNS = 200, 1000000
+
+
+def library():
+    """The text of each library layer, by name."""
+    folder = os.path.join(TOP, "crates", "file_library", "src")
+    texts = {}
+    for name in ("reliable", "flow", "order", "membership"):
+        with open(os.path.join(folder, name + ".rt"), encoding="utf-8") as file:
+            for text in re.findall(r'b"(layer .*?\n\}\n)"', file.read(), re.S):
+                texts[text.split()[1]] = text
+    return texts
+
+
+def tutorial(name):
+    """A file of the tutorial."""
+    with open(os.path.join(TOP, "docs", "TUTORIAL.md"), encoding="utf-8") as file:
+        return re.search(r"```layers " + re.escape(name) + r"\n(.*?)```", file.read(), re.S).group(1)
+
+
+LIBRARY = library()
+HOME = "layer home {\n  down Cast(p, m) { down Cast(p, m); up Cast(p, m); }\n}\n"
+
+# What is changed: the layer, which line of those with this text (from 0), the line as it is, as it becomes; the stack, the law and the members.
+CHANGED = [
+    ("early casts aren't put off", "mnak", 0, "if (seq == next[o]) {", "if (seq >= next[o]) {", "bottom; mnak; local;", "sender", 3),
+    ("an old cast isn't dropped", "mnak", 0, "if (seq == next[o]) {", "if (seq <= next[o]) {", "bottom; mnak; local;", "sender", 3),
+    ("a cast that is sent again isn't dropped where it is old", "mnak", 1, "if (seq == next[o]) {", "if (seq <= next[o]) {", "bottom; mnak; local;", "sender", 3),
+    ("an early cast is delivered whether it is due or not", "mnak", 0, "if ((len(early[o]) > 0) and (at(early[o], 0).seq == next[o])) {", "if (len(early[o]) > 0) {",
+     "bottom; mnak; local;", "sender", 3),
+    ("a cast that isn't kept any more isn't counted", "mnak", 0, "set base = (base + 1);", "", "bottom; mnak(keep = 1); local;", "sender", 3),
+    ("the sequence isn't looked at", "total", 0, "if (seq == next) {", "if (seq >= next) {", "bottom; local; total;", "total", 3),
+    ("an old cast isn't dropped", "total", 0, "if (seq == next) {", "if (seq <= next) {", "bottom; local; total;", "total", 3),
+    ("a cast that was asked for takes no number", "total", 1, "set out = (out + 1);", "", "bottom; local; total;", "total", 3),
+    ("pieces are joined in the wrong order", "frag", 0, "((len(parts[o]) - 1) - i)", "i", "bottom; mnak; frag(piece = 1); local;", "sender", 3),
+    ("pieces aren't let go", "frag", 0, "each i below 8 max 8 { take parts[o] (q) { } else { } }", "", "bottom; mnak; frag(piece = 1); local;", "sender", 3),
+    ("old casts aren't dropped", "fifo.layers", 0, "if (seq == e[o]) {", "if (seq <= e[o]) {", None, "sender", 3),
+    ("early casts are delivered", "fifo.layers", 0, "if (s == e[o]) {", "if (s >= e[o]) {", None, "sender", 3),
+    ("the number isn't looked at", "home.layers", 0, "if (seq == e[o]) {", "if (seq >= e[o]) {", None, "sender", 3),
+]
+
+
+def one_changed(text, place, line, other):
+    """A text with one of the lines changed that have this in them."""
+    parts = text.split(line)
+    if len(parts) < place + 2:
+        sys.exit(f"no line {place} with {line}")
+    return line.join(parts[:place + 1]) + other + line.join(parts[place + 1:])
+
+
+def changed_file(layer, place, line, other, stack):
+    if stack is None:
+        return one_changed(tutorial(layer), place, line, other).replace("stack { fifo; }", HOME + "stack { fifo; home; }")
+    return one_changed(LIBRARY[layer], place, line, other) + f"stack {{ {stack} }}\n"
+
+
+def plain_file(layer, stack):
+    if stack is None:
+        return tutorial(layer).replace("stack { fifo; }", HOME + "stack { fifo; home; }")
+    return f"stack {{ {stack} }}\n"
+
+
+def put(folder, name, text):
+    path = os.path.join(folder, name)
+    with open(path, "w", encoding="utf-8") as file:
+        file.write(text)
+    return path
+
+
+def hunted(path, law, members, seed, runs, events=EVENTS, seconds=60):
+    words = [STACKHUNT, path, "--law", law, "--members", str(members), "--events", str(events), "--runs", str(runs), "--seed", str(seed), "--seconds", str(seconds)]
+    began = time.time()
+    ran = subprocess.run(words, stdin=subprocess.DEVNULL, stdout=subprocess.PIPE, stderr=subprocess.PIPE, text=True)
+    return ran.returncode, ran.stdout, ran.stderr, time.time() - began
+
+
+def report_of(folder, path, script):
+    ran = subprocess.run([STACKC, "replay", path, put(folder, "a.script", script)], stdin=subprocess.DEVNULL, stdout=subprocess.PIPE, text=True)
+    return ran.stdout if ran.returncode == 0 else None
+
+
+def breaks(folder, path, law, script):
+    """Whether the report of a script breaks a law, by the program that isn't hunted with."""
+    report = report_of(folder, path, script)
+    if report is None:
+        return False
+    return subprocess.run([STACKC, "audit", put(folder, "a.report", report), "--law", law], stdin=subprocess.DEVNULL, stdout=subprocess.DEVNULL, stderr=subprocess.DEVNULL).returncode == 8
+
+
+
+
+def sent_by(folder, path, head, events):
+    """How many packets there are behind each event."""
+    counts = []
+    for k in range(len(events) + 1):
+        report = report_of(folder, path, "\n".join([head, *events[:k]]) + "\n")
+        counts.append(sum(line.startswith("packet ") for line in report.splitlines()))
+    return counts
+
+
+def numbered_anew(events, counts, out):
+    """The events without one, with the packets behind it numbered anew; those that it sent aren't given."""
+    first, behind = counts[out] + 1, counts[out + 1] + 1
+    left = []
+    for k, event in enumerate(events):
+        words = event.split()
+        if k == out:
+            continue
+        if words[0] == "give":
+            number = int(words[1])
+            if first <= number < behind:
+                continue
+            if number >= behind:
+                number -= behind - first
+            event = f"give {number} {words[2]}"
+        left.append(event)
+    return left
+
+
+def holds(folder, path, law, script):
+    """Whether a script breaks its law, and doesn't where an event is taken out."""
+    lines = [line for line in script.splitlines() if not line.startswith("#")]
+    head, events = lines[0], lines[1:]
+    if not breaks(folder, path, law, script):
+        return "it doesn't break the law", len(events)
+    counts = sent_by(folder, path, head, events)
+    for k in range(len(events)):
+        for left in (events[:k] + events[k + 1:], numbered_anew(events, counts, k)):
+            if breaks(folder, path, law, "\n".join([head, *left]) + "\n"):
+                return f"event {k + 1} can be taken out", len(events)
+    return "holds", len(events)
+
+
+def main():
+    with tempfile.TemporaryDirectory(prefix="hunts-") as folder:
+        print("| Layer | What is changed | Law | Seed | Run | Events | Left | Seconds | Script | As it is |")
+        print("|---|---|---|---|---|---|---|---|---|---|")
+        for what, layer, place, line, other, stack, law, members in CHANGED:
+            if sys.argv[1:] and layer not in sys.argv[1:]:
+                continue
+            path = put(folder, "changed.layers", changed_file(layer, place, line, other, stack))
+            status, script, said, seconds = hunted(path, law, members, 1, RUNS)
+            plain = hunted(put(folder, "plain.layers", plain_file(layer, stack)), law, members, 1, 2000)
+            as_it_is = plain[1].splitlines()[0] if plain[1] else plain[2]
+            if status == 8:
+                run = re.search(r"# run (\d+) of (\d+)", script)
+                told, left = holds(folder, path, law, script) if STACKC else ("", sum(not line.startswith("#") for line in script.splitlines()) - 1)
+                print(f"| {layer} | {what} | {law} | 1 | {int(run.group(1))} | {run.group(2)} | {left} | {seconds:.2f} | {told} | {as_it_is} |", flush=True)
+                if os.environ.get("SHOW"):
+                    print(script)
+            else:
+                print(f"| {layer} | {what} | {law} | 1 | {status} | {script}{said} | | {seconds:.2f} | | {as_it_is} |", flush=True)
+
+
+if __name__ == "__main__":
+    main()
