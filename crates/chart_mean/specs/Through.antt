@@ -1,11 +1,11 @@
 -- A run over streams, and the handing on of what was put.
 use Rattle.std.specs.Prelude.{◌≡◌, ℕ, Bool, true, false, List, Option, Some, None}
-use Rattle.std.specs.Io.KnownBytes.{Appends, Keeps}
+use Rattle.std.specs.Io.KnownBytes.{Appends}
 use Rattle.clap.specs.Walk.{Text}
-use Rattle.outside.specs.Count.{Rose}
 use Rattle.outside.specs.Shelf.{Shelved}
 use Rattle.outside.specs.Said.{errors}
 use Rattle.outside.specs.Tells.{Tells}
+use Rattle.program_streams.specs.Streams.{HandsOn, Stream}
 use Rattle.chart_mean.specs.Words.{Request, request_of}
 use Rattle.chart_mean.specs.Ends.{Said}
 use Rattle.chart_mean.specs.Runs.{surrounding, Good, Comes, Runs}
@@ -22,20 +22,6 @@ closed false Words = Words
 closed false Read = Read
 closed false Write = Write
 closed false Memory = Memory
-
--- A sink before and after a run, and what its stream holds in the end.
-pub record Stream : Type 0 where
-  pub before : Tells
-  pub after : Tells
-  pub holds : Option (List ℕ)
-
-abbrev pub stream : Tells → Tells → Option (List ℕ) → Stream
-stream before after holds = record { before = before; after = after; holds = holds }
-
--- The stream got all that was put, and no fault was counted; or not, and the count of faults rose.
-abbrev pub HandsOn : Tells → Tells → Option (List ℕ) → Bool → Type 0
-HandsOn put after holds true = Keeps put.contents holds × (after.faults ≡ put.faults)
-HandsOn put after holds false = Rose put.faults after.faults
 
 -- A run that put so much on the output and ended so; what was handed on to the output's stream; and what was said then, of the end that
 -- comes of both, and handed on to the standard error's. Where that is the run's own end, all that `run` does is done.

@@ -7,7 +7,8 @@ use Rattle.format_mean.specs.Layout.{formatted}
 use Rattle.format_run.specs.declared.ending.Ending.{Ending}
 use Rattle.format_run.specs.declared.ending.Ending.TheVariants as ending
 use Rattle.format_run.specs.Ends.{Comes, Said}
-use Rattle.format_run.specs.Through.{Stream, HandsOn, RunsThrough, surrounding, closed, Delivers}
+use Rattle.format_run.specs.Through.{RunsThrough, surrounding, closed, Delivers}
+use Rattle.program_streams.specs.Streams.{Stream, HandsOn}
 use Rattle.format_run.proofs.Due.{status_said}
 
 -- an end that was said with status 0 is a whole text

@@ -1,10 +1,10 @@
 -- A run over streams, and the handing on of what was put.
 use Rattle.std.specs.Prelude.{◌≡◌, ℕ, Bool, true, false, List, Option, Some, None}
-use Rattle.std.specs.Io.KnownBytes.{Appends, Keeps}
-use Rattle.outside.specs.Count.{Rose}
+use Rattle.std.specs.Io.KnownBytes.{Appends}
 use Rattle.outside.specs.Said.{errors}
 use Rattle.outside.specs.Shelf.{Shelved}
 use Rattle.outside.specs.Tells.{Tells}
+use Rattle.program_streams.specs.Streams.{HandsOn, Stream}
 use Rattle.format_mean.specs.Layout.{formatted}
 use Rattle.format_run.specs.declared.ending.Ending.{Ending}
 use Rattle.format_run.specs.declared.ending.Ending.TheVariants as ending
@@ -14,20 +14,6 @@ use Rattle.format_run.specs.Ends.{Around, IsGood, Comes, Said}
 abbrev pub closed : Bool → Ending → Ending
 closed false ending.Done = ending.Write
 closed whole end = end
-
--- A sink before and after a run, and what its stream holds in the end.
-pub record Stream : Type 0 where
-  pub before : Tells
-  pub after : Tells
-  pub holds : Option (List ℕ)
-
-abbrev pub stream : Tells → Tells → Option (List ℕ) → Stream
-stream before after holds = record { before = before; after = after; holds = holds }
-
--- The stream got all that was put, and no fault was counted; or not, and the count of faults rose.
-abbrev pub HandsOn : Tells → Tells → Option (List ℕ) → Bool → Type 0
-HandsOn put after holds true = Keeps put.contents holds × (after.faults ≡ put.faults)
-HandsOn put after holds false = Rose put.faults after.faults
 
 abbrev pub surrounding : Option Shelved → ℕ → ℕ → Tells → Tells → Around
 surrounding told reads reads_after output output_after = record {

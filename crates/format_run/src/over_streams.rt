@@ -1,17 +1,18 @@
 //! The program over streams, which are handed what was put, and over the system's arguments, files and streams.
-ghost use Rattle.std.specs.Prelude.{◌≡◌, drop, map};
+ghost use Rattle.std.specs.Prelude.{◌≡◌, map};
 ghost use Rattle.std.specs.String.{string_bytes};
 ghost use Rattle.outside.specs.Stream.{stream_of};
 ghost use Rattle.outside.specs.Tells.{tells};
 ghost use Rattle.format_run.specs.Ends.{name_of};
-ghost use Rattle.format_run.specs.Through.{RunsThrough, Delivers, HandsOn, closed, stream};
+ghost use Rattle.format_run.specs.Through.{RunsThrough, Delivers, closed};
+ghost use Rattle.program_streams.specs.Streams.{stream};
 
 use crate::ending::{Ending, NO_MEMORY, say};
 use crate::over_sinks::perform;
 use outside::{FileShelf, Shelf, Sink, StdSink};
+use program_streams::{command_words, hand_on};
 use std::alloc::Global;
-use std::env;
-use std::io::{self, ErrorKind, Write};
+use std::io::{self, Write};
 use std::rt::{Env, Files};
 
 /// Lays out the file that the words name, hands on what was put to both streams, and answers the program's status.
@@ -44,19 +45,6 @@ pub fn run_through<S: Shelf, O: Write + Drop, E: Write + Drop>(
     status
 }
 
-/// Hands on to the stream what is gathered for it, and answers whether it got all.
-fn hand_on<W: Write + Drop>(sink: &mut StdSink<W>) -> bool
-    ensures { HandsOn
-        (tells (⟦<StdSink<W> as Sink>⟧.contents sink.old) (⟦<StdSink<W> as Sink>⟧.failures sink.old) (⟦<StdSink<W> as Sink>⟧.faults sink.old))
-        (tells (⟦<StdSink<W> as Sink>⟧.contents sink.new) (⟦<StdSink<W> as Sink>⟧.failures sink.new) (⟦<StdSink<W> as Sink>⟧.faults sink.new))
-        (W.contents (stream_of sink.new)) result }
-{
-    match sink.finish() {
-        Ok(()) => true,
-        Err(_) => false,
-    }
-}
-
 /// How a run ended whose stream got all that was put or didn't: then a whole text is a fault of writing.
 fn closed(whole: bool, ending: Ending) -> Ending
     ensures { result ≡ closed whole ending }
@@ -83,34 +71,9 @@ fn begun<R: AllocGlobal + Env + Files, O: Write + Drop, E: Write + Drop>(
     err: E,
 ) -> io::Result<u8> {
     let alloc = system.alloc();
-    let words = words(system)?;
+    let words = command_words(system)?;
     let mut shelf = FileShelf::of(system);
     let mut out = StdSink::of(alloc, out)?;
     let mut err = StdSink::of(alloc, err)?;
     Ok(run_through(alloc, &words, &mut shelf, &mut out, &mut err))
-}
-
-/// The words of the command line, without the program's name. Where one of them isn't UTF-8 there are none, since such a word names no file here. An
-/// error says that memory ran out.
-fn words<R: AllocGlobal + Env>(system: &R) -> io::Result<Vec<String>> {
-    match env::args(system) {
-        Ok(all) => {
-            let mut words = Vec::new(system.alloc());
-            words.extend(all)?;
-            Ok(without_name(words))
-        }
-        Err(error) if error.kind() == ErrorKind::InvalidData => Ok(Vec::new(system.alloc())),
-        Err(error) => Err(error),
-    }
-}
-
-/// The words behind the first, which is the program's name.
-fn without_name(words: Vec<String>) -> Vec<String>
-    ensures { result.items ≡ drop 1 words.items }
-{
-    let mut words = words;
-    if !words.is_empty() {
-        let _ = words.remove(0);
-    }
-    words
 }

@@ -11,7 +11,8 @@ use Rattle.end_mean.specs.Status.{Ended, done, breached, status_number, error_li
 use Rattle.job_ends.specs.Comes.{surrounding}
 use Rattle.job_ends.specs.Shown.{Said}
 use Rattle.hunt_mean.specs.Ends.{Comes, Whole}
-use Rattle.hunt_mean.specs.Through.{Stream, HandsOn, RunsThrough, closed, Delivers, DeliversAll}
+use Rattle.hunt_mean.specs.Through.{RunsThrough, closed, Delivers, DeliversAll}
+use Rattle.program_streams.specs.Streams.{Stream, HandsOn}
 use Rattle.hunt_mean.specs.Words.{Request, request_of}
 
 -- the status of a line that is said is its own, or 7

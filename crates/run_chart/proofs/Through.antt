@@ -9,7 +9,8 @@ use Rattle.outside.specs.Said.{Errors, SaysLine, whole, failed, no_memory, error
 use Rattle.chart_mean.specs.Words.{Request, request_of}
 use Rattle.chart_mean.specs.Ends.{Said}
 use Rattle.chart_mean.specs.Runs.{Comes, surrounding}
-use Rattle.chart_mean.specs.Through.{Stream, HandsOn, RunsThrough, closed, Delivers}
+use Rattle.chart_mean.specs.Through.{RunsThrough, closed, Delivers}
+use Rattle.program_streams.specs.Streams.{Stream, HandsOn}
 use Rattle.chart_mean.specs.declared.types.Ending.{Ending}
 use Rattle.chart_mean.specs.declared.types.Ending.TheVariants.{Done, TooLarge, Line, Words, Read, Write, Memory}
 

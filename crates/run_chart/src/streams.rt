@@ -3,13 +3,15 @@ ghost use Rattle.std.specs.Prelude.{◌≡◌, map};
 ghost use Rattle.std.specs.String.{string_bytes};
 ghost use Rattle.outside.specs.Stream.{stream_of};
 ghost use Rattle.outside.specs.Tells.{tells};
-ghost use Rattle.chart_mean.specs.Through.{Delivers, HandsOn, RunsThrough, closed, stream};
+ghost use Rattle.chart_mean.specs.Through.{Delivers, RunsThrough, closed};
+ghost use Rattle.program_streams.specs.Streams.{stream};
 ghost use Rattle.chart_mean.specs.Words.{request_of};
 
 use crate::over_sinks::perform;
 use crate::saying::say;
 use chart_mean::Ending;
 use outside::{Shelf, Sink, StdSink};
+use program_streams::hand_on;
 use std::alloc::Global;
 use std::io::Write;
 
@@ -41,19 +43,6 @@ pub fn run_through<S: Shelf, O: Write + Drop, E: Write + Drop>(
     let status = say(alloc, closed(whole, ending), err);
     let _ = hand_on(err);
     status
-}
-
-/// Hands on to the stream what is gathered for it, and answers whether it got all.
-fn hand_on<W: Write + Drop>(sink: &mut StdSink<W>) -> bool
-    ensures { HandsOn
-        (tells (⟦<StdSink<W> as Sink>⟧.contents sink.old) (⟦<StdSink<W> as Sink>⟧.failures sink.old) (⟦<StdSink<W> as Sink>⟧.faults sink.old))
-        (tells (⟦<StdSink<W> as Sink>⟧.contents sink.new) (⟦<StdSink<W> as Sink>⟧.failures sink.new) (⟦<StdSink<W> as Sink>⟧.faults sink.new))
-        (W.contents (stream_of sink.new)) result }
-{
-    match sink.finish() {
-        Ok(()) => true,
-        Err(_) => false,
-    }
 }
 
 /// How a run ended whose stream got all that was put or didn't: then a picture that was put is a fault of writing.

@@ -1,11 +1,9 @@
 //! The program over the system's arguments, files and streams.
-ghost use Rattle.std.specs.Prelude.{◌≡◌, drop};
-
 use crate::saying::NO_MEMORY;
 use crate::streams::run_through;
 use outside::{FileShelf, StdSink};
-use std::env;
-use std::io::{self, ErrorKind, Write};
+use program_streams::command_words;
+use std::io::{self, Write};
 use std::rt::{Env, Files};
 
 /// Draws the picture that the command line asks for, and answers the program's status. Where memory runs out before the standard
@@ -24,34 +22,9 @@ fn begun<R: AllocGlobal + Env + Files, O: Write + Drop, E: Write + Drop>(
     err: E,
 ) -> io::Result<u8> {
     let alloc = system.alloc();
-    let words = words(system)?;
+    let words = command_words(system)?;
     let mut shelf = FileShelf::of(system);
     let mut out = StdSink::of(alloc, out)?;
     let mut err = StdSink::of(alloc, err)?;
     Ok(run_through(alloc, &words, &mut shelf, &mut out, &mut err))
-}
-
-/// The words of the command line, without the program's name. Where one of them isn't UTF-8 there are none, since such words ask
-/// for nothing. An error says that memory ran out.
-fn words<R: AllocGlobal + Env>(system: &R) -> io::Result<Vec<String>> {
-    match env::args(system) {
-        Ok(all) => {
-            let mut words = Vec::new(system.alloc());
-            words.extend(all)?;
-            Ok(without_name(words))
-        }
-        Err(error) if error.kind() == ErrorKind::InvalidData => Ok(Vec::new(system.alloc())),
-        Err(error) => Err(error),
-    }
-}
-
-/// The words behind the first, which is the program's name.
-fn without_name(words: Vec<String>) -> Vec<String>
-    ensures { result.items ≡ drop 1 words.items }
-{
-    let mut words = words;
-    if !words.is_empty() {
-        let _ = words.remove(0);
-    }
-    words
 }

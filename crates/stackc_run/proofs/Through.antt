@@ -13,7 +13,8 @@ use Rattle.job_ends.proofs.Due.{Finished, well, breach, finished}
 use Rattle.node_loop.specs.Serve.{MadeAllTurns}
 use Rattle.node_jobs.specs.Comes.{Beyond, Node, NodeComes, Ran}
 use Rattle.stackc_run.specs.Performed.{Way, over_files, over_network, way_of, PerformedBy, Performed}
-use Rattle.stackc_run.specs.Through.{Stream, HandsOn, RunsThrough, IsWhole, closed, DeliversOutput, DeliversJournal, DeliversBy, Delivers, journal_of}
+use Rattle.stackc_run.specs.Through.{RunsThrough, IsWhole, closed, DeliversOutput, DeliversJournal, DeliversBy, Delivers, journal_of}
+use Rattle.program_streams.specs.Streams.{Stream, HandsOn}
 
 -- an end that is whole behind the stream was whole before, and the stream got all
 got_all : (whole : Bool) (end : Ended) → Finished (closed whole end) → (whole ≡ true) × Finished end

@@ -7,11 +7,13 @@ ghost use Rattle.job_mean.specs.Job.{job_of_words};
 ghost use Rattle.job_ends.specs.Shown.{shown};
 ghost use Rattle.outside.specs.Tells.{tells};
 ghost use Rattle.node_jobs.specs.Comes.{beyond};
-ghost use Rattle.stackc_run.specs.Through.{RunsThrough, Delivers, HandsOn, IsWhole, closed, stream};
+ghost use Rattle.stackc_run.specs.Through.{RunsThrough, Delivers, IsWhole, closed};
+ghost use Rattle.program_streams.specs.Streams.{stream};
 
 use crate::perform::perform;
 use job_ends::{Ending, say};
 use outside::{Clock, Links, Shelf, Sink, StdSink};
+use program_streams::hand_on;
 use std::alloc::Global;
 use std::io::Write;
 
@@ -48,19 +50,6 @@ pub fn run_through<S: Shelf, O: Write + Drop, E: Write + Drop, N: Links, C: Cloc
     let status = say(alloc, closed(whole, ending), err);
     let _ = hand_on(err);
     status
-}
-
-/// Hands on to the stream what is gathered for it, and answers whether it got all.
-fn hand_on<W: Write + Drop>(sink: &mut StdSink<W>) -> bool
-    ensures { HandsOn
-        (tells (⟦<StdSink<W> as Sink>⟧.contents sink.old) (⟦<StdSink<W> as Sink>⟧.failures sink.old) (⟦<StdSink<W> as Sink>⟧.faults sink.old))
-        (tells (⟦<StdSink<W> as Sink>⟧.contents sink.new) (⟦<StdSink<W> as Sink>⟧.failures sink.new) (⟦<StdSink<W> as Sink>⟧.faults sink.new))
-        (W.contents (stream_of sink.new)) result }
-{
-    match sink.finish() {
-        Ok(()) => true,
-        Err(_) => false,
-    }
 }
 
 /// How a job ended whose stream got all that was put or didn't: then a whole output is a fault of writing.

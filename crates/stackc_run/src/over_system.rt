@@ -1,13 +1,11 @@
 //! The program over the system's arguments, files, streams, sockets and clock.
 
-ghost use Rattle.std.specs.Prelude.{◌≡◌, drop};
-
 use crate::over_streams::run_through;
 use job_ends::NO_MEMORY;
 use outside::{FileShelf, RunClock, StdSink};
+use program_streams::command_words;
 use std::alloc::Global;
-use std::env;
-use std::io::{self, ErrorKind, Write};
+use std::io::{self, Write};
 use std::net::Net;
 use std::rt::{Clock as SystemClock, Env, Files};
 use udp_link::UdpLinks;
@@ -28,7 +26,7 @@ fn begun<R: AllocGlobal + Env + Files + Net + SystemClock, O: Write + Drop, E: W
     err: E,
 ) -> io::Result<u8> {
     let alloc = system.alloc();
-    let words = words(system)?;
+    let words = command_words(system)?;
     let mut shelf = FileShelf::of(system);
     let mut out = StdSink::of(alloc, out)?;
     let mut err = StdSink::of(alloc, err)?;
@@ -37,29 +35,4 @@ fn begun<R: AllocGlobal + Env + Files + Net + SystemClock, O: Write + Drop, E: W
     Ok(run_through(
         alloc, &words, &mut shelf, &mut out, &mut err, &mut links, &mut clock,
     ))
-}
-
-/// The words of the command line, without the program's name. Where one of them isn't UTF-8 there are none, since such a
-/// word is no job's. An error says that memory ran out.
-fn words<R: AllocGlobal + Env>(system: &R) -> io::Result<Vec<String>> {
-    match env::args(system) {
-        Ok(all) => {
-            let mut words = Vec::new(system.alloc());
-            words.extend(all)?;
-            Ok(without_name(words))
-        }
-        Err(error) if error.kind() == ErrorKind::InvalidData => Ok(Vec::new(system.alloc())),
-        Err(error) => Err(error),
-    }
-}
-
-/// The words behind the first, which is the program's name.
-fn without_name(words: Vec<String>) -> Vec<String>
-    ensures { result.items ≡ drop 1 words.items }
-{
-    let mut words = words;
-    if !words.is_empty() {
-        let _ = words.remove(0);
-    }
-    words
 }

@@ -1,0 +1,20 @@
+-- Streams that are handed what was put on a sink.
+use Rattle.std.specs.Prelude.{◌≡◌, ℕ, Bool, true, false, List, Option}
+use Rattle.std.specs.Io.KnownBytes.{Keeps}
+use Rattle.outside.specs.Count.{Rose}
+use Rattle.outside.specs.Tells.{Tells}
+
+-- A sink before and after a run, and what its stream holds in the end.
+pub record Stream : Type 0 where
+  pub before : Tells
+  pub after : Tells
+  pub holds : Option (List ℕ)
+
+-- These as one.
+abbrev pub stream : Tells → Tells → Option (List ℕ) → Stream
+stream before after holds = record { before = before; after = after; holds = holds }
+
+-- The stream got all that was put, and no fault was counted; or not, and the count of faults rose.
+abbrev pub HandsOn : Tells → Tells → Option (List ℕ) → Bool → Type 0
+HandsOn put after holds true = Keeps put.contents holds × (after.faults ≡ put.faults)
+HandsOn put after holds false = Rose put.faults after.faults
