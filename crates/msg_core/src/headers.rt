@@ -1,6 +1,6 @@
 //! The headers of a message, in place.
 
-ghost use Rattle.std.specs.Prelude.{◌≡◌, ◌<◌, ◌≤◌, [], ◌∷◌, length, slice_get};
+ghost use Rattle.std.specs.Prelude.{◌≡◌, ◌<◌, ◌≤◌, [], ◌∷◌, length, slice_get, slice_set, take};
 ghost use Rattle.msg_core.specs.Chain.{first_of, rest_of};
 ghost use Rattle.msg_core.specs.Headers.{most_headers};
 
@@ -99,6 +99,38 @@ impl Headers {
         ensures { self.new ≡ [] }
     {
         self.first = MOST_HEADERS as u8;
+    }
+
+    /// Becomes so many headers, whatever they are: each is to be set.
+    pub fn stretch(&mut self, count: u8)
+        requires { count ≤ most_headers }
+        ensures { length self.new ≡ count }
+    {
+        self.first = MOST_HEADERS as u8 - count;
+    }
+
+    /// Puts `header` in the place of number `k`.
+    pub fn set(&mut self, k: u8, header: Header)
+        requires { k < length self.old }
+        ensures { self.new ≡ slice_set self.old k header }
+    {
+        self.places[usize::from(self.first) + usize::from(k)] = header;
+    }
+
+    /// Keeps the first so many.
+    pub fn cut(&mut self, count: u8)
+        requires { count ≤ length self.old }
+        ensures { self.new ≡ take count self.old }
+    {
+        if u32::from(count) == self.len() {
+            return;
+        }
+        let mut kept = Headers::none();
+        let all = self.slice();
+        for k in (0..usize::from(count)).rev() {
+            kept.push_front(all[k].copy());
+        }
+        self.copy_from(&kept);
     }
 
     /// Puts `header` in front of the others.
