@@ -1,14 +1,17 @@
 -- The headers of a datagram are read one behind the other.
-use Rattle.std.proofs.Common.{◌≡◌, ℕ, suc, ◌+◌, ◌<◌, Bool, true, false, List, [], ◌∷◌, Option, Some, None, refl, sym, ap, ◌∙◌, subst, add-one, length, drop}
-use Rattle.std.specs.Prelude.{if◌then◌else◌, option_map, slice_index_or}
+use Rattle.std.proofs.Common.{◌≡◌, ℕ, suc, ◌+◌, ◌-◌, ◌<◌, ◌≤◌, Bool, true, false, List, [], ◌∷◌, ◌++◌, Option, Some, None}
+use Rattle.std.proofs.Common.{refl, sym, ap, ◌∙◌, subst, add-one, append_assoc, arith, length, drop, take}
+use Rattle.std.specs.Prelude.{if◌then◌else◌, option_map, option_and_then, slice_index_or, slice_set}
+use Rattle.std.proofs.lemmas.List.{take_more_set}
 use Rattle.std.proofs.Math.Seq.{drop-cons}
 use Rattle.msg_core.specs.declared.message.Header.{Header}
 use Rattle.layer_mean.specs.Headers.{declared}
 use Rattle.layer_mean.specs.Tree.{HeaderTree, LayerTree, no_layer}
 use Rattle.packet_mean.specs.Reading.{Reader, ◌>>=◌, given, known, numbers, chain}
 use Rattle.packet_laws.proofs.Numbers.{same_read}
-use Rattle.packet_full.specs.Chain.{header_read}
+use Rattle.packet_full.specs.Chain.{header_read, none_at}
 use Rattle.packet_full.specs.Form.{form_of}
+use Rattle.packet_full.specs.Taking.{with_front}
 
 -- the headers behind one
 abbrev others : Bool → Header → Reader (List Header) → Reader (List Header)
@@ -82,14 +85,61 @@ pub last_header : (stack : List LayerTree) (place : ℕ) (bytes : List ℕ) (h :
     chain (drop place stack) place bytes ≡ Some (h ∷ [], rest)
 last_header stack place bytes h ends rest below closes some = rw (a_header stack place bytes h ends rest below some, closes) refl
 
--- it doesn't, and what is behind it is no chain
-pub no_others : (stack : List LayerTree) (place : ℕ) (bytes : List ℕ) (h : Header) (ends : Bool) (rest : List ℕ) → place < length stack →
-    ends ≡ false → header_read (slice_index_or stack place no_layer) place bytes ≡ Some ((h, ends), rest) →
-    chain (drop (place + 1) stack) (place + 1) rest ≡ None → chain (drop place stack) place bytes ≡ None
-no_others stack place bytes h ends rest below closes some none = rw (a_header stack place bytes h ends rest below some, closes, none) refl
+-- The headers that are read are set one behind the other.
+one_front : (h : Header) (o : Option (List Header × List ℕ)) →
+    option_and_then (λ (read : List Header × List ℕ). given (h ∷ read.0) read.1) o ≡ with_front (h ∷ []) o
+one_front h None = refl
+one_front h (Some (more, behind)) = refl
 
--- it doesn't, and headers are behind it
-pub with_others : (stack : List LayerTree) (place : ℕ) (bytes : List ℕ) (h : Header) (ends : Bool) (rest behind : List ℕ) (hs : List Header) →
-    place < length stack → ends ≡ false → header_read (slice_index_or stack place no_layer) place bytes ≡ Some ((h, ends), rest) →
-    chain (drop (place + 1) stack) (place + 1) rest ≡ Some (hs, behind) → chain (drop place stack) place bytes ≡ Some (h ∷ hs, behind)
-with_others stack place bytes h ends rest behind hs below closes some more = rw (a_header stack place bytes h ends rest below some, closes, more) refl
+longer_front : (front : List Header) (h : Header) (o : Option (List Header × List ℕ)) →
+    with_front (front ++ h ∷ []) o ≡ with_front front (with_front (h ∷ []) o)
+longer_front front h None = refl
+longer_front front h (Some (more, behind)) = ap (λ headers. Some (headers, behind)) (append_assoc front (h ∷ []) more)
+
+module _ (stack : List LayerTree) (place at : ℕ) (headers : List Header) (whole : Option (List Header × List ℕ)) (order : place ≤ at)
+    (count : length headers ≡ length stack - place) where
+  -- those in front of a place, and what is read from there on
+  abbrev So : (bytes : List ℕ) → Type 0
+  So bytes = with_front (take (at - place) headers) (chain (drop at stack) at bytes) ≡ whole
+
+  -- the same bytes
+  pub still : (bytes old : List ℕ) → bytes ≡ old → So old → So bytes
+  still bytes old is so_far = subst So (sym is) so_far
+
+  set_next : (h : Header) → at < length stack → take (at + 1 - place) (slice_set headers (at - place) h) ≡ take (at - place) headers ++ h ∷ []
+  set_next h below =
+      ap (λ n. take n (slice_set headers (at - place) h)) (omega (arith, order))
+      ∙ take_more_set headers (at - place) h (omega (arith, order, count, below))
+
+  -- one more is set
+  pub one_set : (bytes : List ℕ) (h : Header) (ends : Bool) (rest : List ℕ) → at < length stack → ends ≡ false →
+      header_read (slice_index_or stack at no_layer) at bytes ≡ Some ((h, ends), rest) → So bytes →
+      with_front (take (at + 1 - place) (slice_set headers (at - place) h)) (chain (drop (at + 1) stack) (at + 1) rest) ≡ whole
+  one_set bytes h ends rest below goes read so_far =
+      let next = chain (drop (at + 1) stack) (at + 1) rest in
+      ap (λ front. with_front front next) (set_next h below)
+      ∙ longer_front (take (at - place) headers) h next
+      ∙ ap (λ o. with_front (take (at - place) headers) o) (sym (ap (λ b. others b h (chain (drop (at + 1) stack) (at + 1)) rest) goes ∙ one_front h next))
+      ∙ ap (λ o. with_front (take (at - place) headers) o) (sym (a_header stack at bytes h ends rest below read))
+      ∙ so_far
+
+  -- the header `none` is set
+  pub none_set : (bytes rest : List ℕ) (h : Header) → at < length stack → bytes ≡ 0 ∷ rest → h ≡ none_at at → So bytes →
+      with_front (take (at + 1 - place) (slice_set headers (at - place) h)) (chain (drop (at + 1) stack) (at + 1) rest) ≡ whole
+  none_set bytes rest h below are is so_far =
+      one_set bytes h false rest below refl
+      (ap (λ bs. header_read (slice_index_or stack at no_layer) at bs) are ∙ ap (λ first. Some ((first, false), rest)) (sym is)) so_far
+
+  -- the last is set
+  pub last_set : (bytes : List ℕ) (h : Header) (ends : Bool) (rest : List ℕ) (all : List Header) → at < length stack → ends ≡ true →
+      header_read (slice_index_or stack at no_layer) at bytes ≡ Some ((h, ends), rest) → So bytes →
+      all ≡ take (at + 1 - place) (slice_set headers (at - place) h) → whole ≡ Some (all, rest)
+  last_set bytes h ends rest all below closes read so_far are =
+      sym so_far
+      ∙ ap (λ o. with_front (take (at - place) headers) o) (last_header stack at bytes h ends rest below closes read)
+      ∙ ap (λ hs. Some (hs, rest)) (sym (are ∙ set_next h below))
+
+  -- there is none of a layer
+  pub none_read : (bytes : List ℕ) → at < length stack → header_read (slice_index_or stack at no_layer) at bytes ≡ None → So bytes → whole ≡ None
+  none_read bytes below none so_far =
+      sym so_far ∙ ap (λ o. with_front (take (at - place) headers) o) (no_header stack at bytes below none)

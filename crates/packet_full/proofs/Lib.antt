@@ -1,7 +1,6 @@
 pub mod Chain
 pub mod Declared
 pub mod Members
-pub mod Nones
 pub mod Numbers
 pub mod Steps
 pub mod Taken

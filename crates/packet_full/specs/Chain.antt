@@ -1,5 +1,5 @@
 -- Headers of a datagram.
-use Rattle.std.specs.Prelude.{ℕ, zero, suc, ◌+◌, Bool, List, [], ◌∷◌, ◌++◌, option_map}
+use Rattle.std.specs.Prelude.{◌≡◌, ℕ, Bool, true, false, List, [], ◌∷◌, option_map}
 use Rattle.msg_core.specs.declared.message.Header.{Header}
 use Rattle.layer_mean.specs.Headers.{declared}
 use Rattle.layer_mean.specs.Tree.{LayerTree}
@@ -14,10 +14,11 @@ header_read layer place = do
   fields ← numbers form.fields
   given (record { layer = place; tag = tag; fields = fields }, form.ends)
 
--- The header `none` of a place, and those of so many places from one on.
+-- The header `none` of a place.
 abbrev pub none_at : ℕ → Header
 none_at place = record { layer = place; tag = 0; fields = [] }
 
-abbrev pub nones : (place count : ℕ) → List Header
-nones place zero = []
-nones place (suc count) = nones place count ++ none_at (place + count) ∷ []
+-- Whether the header `none` was next, and what is left then.
+abbrev pub TakesNone : (bytes : List ℕ) → Bool → (rest : List ℕ) → Type 0
+TakesNone bytes true rest = bytes ≡ 0 ∷ rest
+TakesNone bytes false rest = rest ≡ bytes

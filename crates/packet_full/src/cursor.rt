@@ -1,17 +1,20 @@
 //! The bytes of a datagram, taken from the front.
 
-ghost use Rattle.std.specs.Prelude.{◌≡◌, ◌≢◌, ◌+◌, ◌-◌, ◌<◌, ◌≤◌, ◌++◌, [], IfSome, Some, drop, length, option_map, slice_get, slice_index_or};
+ghost use Rattle.std.specs.Prelude.{◌≡◌, ◌+◌, ◌<◌, ◌≤◌, [], IfSome, drop, length, option_map, slice_index_or};
 ghost use Rattle.event_graph.specs.Answer.{stack_tree};
 ghost use Rattle.layer_mean.specs.Tree.{no_layer};
-ghost use Rattle.msg_core.specs.Headers.{most_headers, most_fields};
+ghost use Rattle.msg_core.specs.Headers.{most_fields};
 ghost use Rattle.packet_mean.specs.Reading as reading;
-ghost use Rattle.packet_full.specs.Chain.{header_read, nones};
-ghost use Rattle.packet_full.specs.Taking.{Takes, left, preamble_tree, with_front};
+ghost use Rattle.packet_full.specs.Chain.{header_read, none_at, TakesNone};
+ghost use Rattle.packet_full.specs.Taking.{Takes, left, preamble_tree};
 
 use crate::form::form_at;
 use crate::front::{Preamble, dest_of};
 use event_graph::Stack;
 use msg_core::{Fields, Header, Headers, View};
+
+/// The most numbers that a header carries.
+const MOST_FIELDS: u8 = 4;
 
 /// The bytes that are left of a datagram.
 #[derive(Clone, Copy)]
@@ -55,10 +58,16 @@ impl<'a> Cursor<'a> {
         requires { count ≤ most_fields }
         ensures { Takes (reading.numbers count (left self.old)) result (left self.new) }
     {
+        let mut cursor = *self;
         let mut fields = Fields::none();
-        for _ in 0..count {
-            fields.push(self.number()?);
+        for place in 0..MOST_FIELDS {
+            if place == count {
+                *self = cursor;
+                return Some(fields);
+            }
+            fields.push(cursor.number()?);
         }
+        *self = cursor;
         Some(fields)
     }
 
@@ -101,31 +110,23 @@ impl<'a> Cursor<'a> {
         ))
     }
 
-    /// Takes headers `none` off, of the layers from a place on, and answers the first place behind them.
-    fn past_nones(&mut self, stack: &Stack, place: u8) -> u8
-        requires { place ≤ length (stack_tree stack.now) }
-        ensures from { place ≤ result }
-        ensures to { result ≤ length (stack_tree stack.now) }
-        ensures read { with_front (nones place (result - place)) (reading.chain (drop result (stack_tree stack.now)) result (left self.new))
-            ≡ reading.chain (drop place (stack_tree stack.now)) place (left self.old) }
-        ensures all { result < length (stack_tree stack.now) → slice_get (left self.new) 0 ≢ Some 0 }
+    /// Takes the header `none` off, if it is the next.
+    fn takes_none(&mut self) -> bool
+        ensures { TakesNone (left self.old) result (left self.new) }
     {
-        let places = stack.places();
-        for at in place..places {
-            let Some((tag, behind)) = self.bytes.split_first() else {
-                return at
-            };
-            if *tag != 0 {
-                return at;
+        match self.bytes.split_first() {
+            Some((tag, behind)) => {
+                if *tag != 0 {
+                    return false;
+                }
+                self.bytes = behind;
+                true
             }
-            self.bytes = behind;
+            None => false,
         }
-        places
     }
 
-    /// The headers of the layers from a place on, through the first that closes the chain. Most headers are `none`, so those that follow each
-    /// other are read in one go.
-    #[cycle(chain)]
+    /// The headers of the layers from a place on, through the first that closes the chain. Most headers are `none`.
     pub fn chain(&mut self, stack: &Stack, place: u8, headers: &mut Headers) -> Option<()>
         requires place { place ≤ length (stack_tree stack.now) }
         requires none { headers.old ≡ [] }
@@ -133,50 +134,36 @@ impl<'a> Cursor<'a> {
         ensures few { IfSome result (λ _. length headers.new + place ≤ length (stack_tree stack.now)) }
     {
         stack.is_within_limits();
-        let at = self.past_nones(stack, place);
-        let Some(()) = self.chain_at(stack, at, headers) else {
-            return None
-        };
-        put_nones(headers, place, at);
-        Some(())
-    }
-
-    /// The same, header by header.
-    #[cycle(chain)]
-    fn chain_at(&mut self, stack: &Stack, place: u8, headers: &mut Headers) -> Option<()>
-        requires place { place ≤ length (stack_tree stack.now) }
-        requires none { headers.old ≡ [] }
-        ensures read { Takes (reading.chain (drop place (stack_tree stack.now)) place (left self.old)) (option_map (λ _. headers.new) result) (left self.new) }
-        ensures few { IfSome result (λ _. length headers.new + place ≤ length (stack_tree stack.now)) }
-    {
-        stack.is_within_limits();
-        if place == stack.places() {
-            return Some(());
-        }
-        let Some((header, ends)) = self.header(stack, place) else {
-            return None
-        };
-        if !ends {
-            let Some(()) = self.chain(stack, place + 1, headers) else {
+        let places = stack.places();
+        let mut cursor = *self;
+        headers.stretch(places - place);
+        for at in place..places {
+            if cursor.takes_none() {
+                headers.set(at - place, none_of(at));
+                continue;
+            }
+            let Some((header, ends)) = cursor.header(stack, at) else {
                 return None
             };
+            headers.set(at - place, header);
+            if ends {
+                headers.cut(at + 1 - place);
+                *self = cursor;
+                return Some(());
+            }
         }
-        headers.push_front(header);
+        *self = cursor;
         Some(())
     }
 }
 
-/// Puts headers `none` in front, of the layers from one place up to another.
-fn put_nones(headers: &mut Headers, from: u8, to: u8)
-    requires order { from ≤ to }
-    requires room { length headers.old + (to - from) ≤ most_headers }
-    ensures { headers.new ≡ nones from (to - from) ++ headers.old }
+/// The header `none` of a place.
+fn none_of(place: u8) -> Header
+    ensures { result ≡ none_at place }
 {
-    for k in 0..to - from {
-        headers.push_front(Header {
-            layer: to - 1 - k,
-            tag: 0,
-            fields: Fields::none(),
-        });
+    Header {
+        layer: place,
+        tag: 0,
+        fields: Fields::none(),
     }
 }

@@ -3,6 +3,7 @@
 ghost use Rattle.std.specs.Prelude.{◌≡◌, ◌+◌, ◌*◌, ◌≤◌, ◌++◌, [], length, vec_len, vec_capacity};
 ghost use Rattle.std.specs.List.{flat_map};
 ghost use Rattle.packet_mean.specs.Spelling as spelling;
+ghost use Rattle.packet_mean.specs.Spelling.{full_form};
 ghost use Rattle.msg_core.specs.declared.packet.Dest.{Dest};
 ghost use Rattle.packet_mean.specs.declared.here.Here.{Here};
 ghost use Rattle.packet_full.specs.Room.{room_needed};
@@ -11,6 +12,7 @@ ghost use Rattle.packet_full.specs.Sent.{sent_packet};
 use crate::front::{EVERYONE, FULL_FORM};
 use msg_core::{Dest, Header, Headers};
 use packet_mean::Here;
+use std::mem::replace;
 
 /// The bytes in front of a packet's headers.
 const PREAMBLE_BYTES: usize = 19;
@@ -95,6 +97,22 @@ pub fn put_body(body: &[u8], into: &mut Vec<u8>)
     }
 }
 
+/// Puts in full what stands in front of a packet's body. The vector is held as a value meanwhile, so that where its
+/// bytes lie is looked up once.
+fn put_front(here: &Here, dest: Dest, headers: &Headers, into: &mut Vec<u8>)
+    requires { vec_len into.old + 19 + 17 * length headers.now ≤ vec_capacity into.old }
+    ensures items { into.new.items ≡ into.old.items ++ spelling.preamble_bytes full_form (sent_packet here.now dest [] [])
+        ++ flat_map spelling.header_bytes headers.now }
+    ensures len { vec_len into.new ≤ vec_len into.old + 19 + 17 * length headers.now }
+    ensures capacity { vec_capacity into.new ≡ vec_capacity into.old }
+{
+    let none = Vec::new(*into.allocator());
+    let mut bytes = replace(into, none);
+    put_preamble(FULL_FORM, here, dest, &mut bytes);
+    put_headers(headers, &mut bytes);
+    *into = bytes;
+}
+
 /// Puts in full what a member sends to a destination, with these headers and this body, behind what a vector holds. It takes no memory: there
 /// is to be room for 17 bytes of each header, and for the rest.
 pub fn put_full_of(here: &Here, dest: Dest, headers: &Headers, body: &[u8], into: &mut Vec<u8>)
@@ -102,8 +120,7 @@ pub fn put_full_of(here: &Here, dest: Dest, headers: &Headers, body: &[u8], into
     ensures items { into.new.items ≡ into.old.items ++ spelling.full_bytes (sent_packet here.now dest headers.now body.now) }
     ensures capacity { vec_capacity into.old ≤ vec_capacity into.new }
 {
-    put_preamble(FULL_FORM, here, dest, into);
-    put_headers(headers, into);
+    put_front(here, dest, headers, into);
     put_body(body, into);
 }
 

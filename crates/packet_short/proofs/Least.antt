@@ -1,6 +1,7 @@
 -- The least plan that headers fit is found among those of one print.
-use Rattle.std.proofs.Common.{◌≡◌, ◌≢◌, ℕ, ◌+◌, ◌-◌, ◌<◌, Bool, true, false, List, Option, Some, None, refl, sym, ap, ◌∙◌, subst, arith, length, get_or, map}
-use Rattle.std.specs.Prelude.{◌==◌, ◌&&◌, IfSome, position, nat_lt, bytes_eq, flat_map, if◌then◌else◌}
+use Rattle.std.proofs.Common.{◌≡◌, ◌≢◌, ℕ, ◌+◌, ◌-◌, ◌<◌, Bool, true, false, List, [], ◌∷◌, Option, Some, None, refl}
+use Rattle.std.proofs.Common.{sym, ap, ◌∙◌, subst, arith, length, get_or, map}
+use Rattle.std.specs.Prelude.{◌==◌, ◌&&◌, IfSome, slice_get, position, nat_lt, bytes_eq, flat_map, if◌then◌else◌}
 use Rattle.std.specs.List.{position_or_len}
 use Rattle.std.proofs.lemmas.Bool.{eqb-true, eqb-false, ltb-true, ltb-false, lt-ltb}
 use Rattle.std.proofs.lemmas.List.{get_or-map, get_or_read, length-map}
@@ -16,7 +17,7 @@ use Rattle.packet_laws.proofs.Planned.{both}
 use Rattle.stack_shapes.specs.declared.types.Plan as code
 use Rattle.stack_shapes.specs.Lists.{plan_tree}
 use Rattle.stack_shapes.specs.Prints.{IsNext, plan_print, print_at, print_of}
-use Rattle.packet_short.specs.Fits.{fits_headers}
+use Rattle.packet_short.specs.Fits.{first_fits, fits_headers}
 
 -- how many plans are still to be looked at
 abbrev pub still : List Plan → Option ℕ → ℕ
@@ -130,3 +131,21 @@ listed plans kept k at plan shown same is below =
     ap plan_tree is ∙ ap (λ i. plan_tree (get_or kept i plan)) same
     ∙ sym (ap (λ ps. get_or ps k (plan_tree plan)) (sym shown)
     ∙ get_or-map plan_tree kept k plan (plan_tree plan) (omega (arith, below, ap length shown, length-map kept plan_tree)))
+
+-- whether the first plan fits
+pub at_first : (plans : List Plan) (fit : Plan → Bool) (plan : Plan) (fits : Bool) → Some plan ≡ slice_get plans 0 → fits ≡ fit plan →
+    fits ≡ first_fits fit plans
+at_first [] fit plan fits is are = absurd (cc is)
+at_first (p ∷ ps) fit plan fits is are = are ∙ ap fit (cc is)
+
+pub no_first : (plans : List Plan) (fit : Plan → Bool) → None ≡ slice_get plans 0 → false ≡ first_fits fit plans
+no_first [] fit none = refl
+no_first (p ∷ ps) fit none = absurd (cc none)
+
+-- it is the least then
+pub least_first : (plans : List Plan) (fit : Plan → Bool) → true ≡ first_fits fit plans → Some 0 ≡ position fit plans
+least_first [] fit fits = absurd (cc fits)
+least_first (p ∷ ps) fit fits =
+    sym (position_by fit (p ∷ ps) 0 true
+    (position_or_len_is fit (p ∷ ps) 0 p (omega arith) (λ j less. absurd (omega arith)) (λ below. sym fits))
+    (lt-ltb 0 (length (p ∷ ps)) (omega arith)))

@@ -5,4 +5,5 @@ pub mod Short
 pub mod Took
 pub mod Alike
 pub mod Least
+pub mod Keeping
 pub mod Variable

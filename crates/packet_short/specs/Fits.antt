@@ -1,5 +1,5 @@
 -- Which plans headers fit.
-use Rattle.std.specs.Prelude.{ℕ, ◌==◌, ◌&&◌, Bool, bytes_eq, if◌then◌else◌, List, [], ◌∷◌, map, flat_map, Option, Some, None}
+use Rattle.std.specs.Prelude.{ℕ, ◌==◌, ◌&&◌, Bool, false, bytes_eq, if◌then◌else◌, List, [], ◌∷◌, map, flat_map, Option, Some, None}
 use denote.Enum.Bare.{sameb}
 use Rattle.msg_core.specs.declared.message.Header.{Header}
 use Rattle.layer_ast.specs.contracts.tokens.Kind as kind_row
@@ -15,6 +15,11 @@ alike tags planned headers = bytes_eq tags (map (λ h. h.tag) headers) && agree 
 abbrev pub fits_headers : Kind → List Header → Plan → Bool
 fits_headers kind headers plan =
     sameb kind_row.the_type plan.kind kind && bytes_eq plan.tags (map (λ h. h.tag) headers) && agree plan.fields (flat_map (λ h. h.fields) headers)
+
+-- Whether there is a first plan, and it fits.
+abbrev pub first_fits : (Plan → Bool) → List Plan → Bool
+first_fits fit [] = false
+first_fits fit (plan ∷ plans) = fit plan
 
 -- The planned fields behind those of some numbers, if the numbers agree with theirs.
 abbrev pub behind : (planned : List (Option ℕ)) (numbers : List ℕ) → Option (List (Option ℕ))

@@ -2,4 +2,5 @@ pub mod Again
 pub mod Contents
 pub mod Dealing
 pub mod Fits
+pub mod Keeping
 pub mod Shortened

@@ -8,7 +8,7 @@ use msg_core::{Fields, Header, Headers};
 use stack_shapes::Plan;
 
 /// Whether a number is as planned.
-fn agrees(planned: Option<u32>, number: u32) -> bool
+pub(crate) fn agrees(planned: Option<u32>, number: u32) -> bool
     ensures { result ≡ agree (planned ∷ []) (number ∷ []) }
 {
     match planned {

@@ -13,7 +13,7 @@ mod write;
 
 pub use error::NotFitting;
 pub use fields::variable_fields;
-pub use fit::{fits, fits_scan, kind_of};
+pub use fit::{fits, fits_scan, fits_with_fields, kind_of};
 pub use laws::written_short_is_read;
 pub use scan::scan_packet;
 pub use write::{put_short, put_short_of, short_room_of};

@@ -4,13 +4,17 @@ use Rattle.stack_shapes.specs.Lists.{plan_tree}
 use Rattle.stack_shapes.specs.Prints.{print_of}
 use Rattle.stack_shapes.specs.Trees.{plans_tree}
 use Rattle.packet_short.specs.Fits.{fits_headers}
-use Rattle.packet_short.proofs.Least.{Stands, begun, passed, found_least, found_none, printed, listed}
+use Rattle.packet_short.proofs.Least.{Stands, begun, passed, found_least, found_none, least_first, printed, listed}
 use Rattle.packet_short.proofs.fit.least.Goals as goal
 
 pub loop-next-init : goal.loop-next-init
 loop-next-init c =
     begun (plans_tree c.args.plans.now) (fits_headers c.args.kind c.args.headers.now) _ _
     (printed c.args.kind c.args.headers.now) (rw (← c.print_of.ensures) c.first-next.ensures)
+
+pub returns-then-fits_first : goal.returns-then-fits_first
+returns-then-fits_first c =
+    least_first (plans_tree c.args.plans.now) (fits_headers c.args.kind c.args.headers.now) (sym c.if-fits_first.true ∙ c.fits_first.ensures)
 
 pub returns-then-is_fitting : goal.returns-then-is_fitting
 returns-then-is_fitting c =
