@@ -4,3 +4,4 @@ pub mod Owed
 pub mod Sizes
 pub mod Trees
 pub mod Visits
+pub mod Nothing

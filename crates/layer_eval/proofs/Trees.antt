@@ -2,12 +2,14 @@
 use Rattle.std.proofs.Common.{◌≡◌, ℕ, sym, ap, ap₂, ◌∙◌}
 use Rattle.layer_ast.specs.declared.syntax.Likely.{Likely}
 use Rattle.layer_mean.specs.Tree.{StatementTree, StatementTrees, branch, each}
+use Rattle.layer_mean.specs.Tree as tree
 use Rattle.typed_layer.specs.declared.tree.Block.{Block}
 use Rattle.typed_layer.specs.declared.tree.Expression.{Expression}
 use Rattle.typed_layer.specs.declared.tree.Statement.TheFolds.{fold-Block, fold-roll-Statement, fold_out-Block}
 use Rattle.typed_layer.specs.declared.tree.Statement.TheOpen as layer
 use Rattle.typed_layer.specs.declared.tree.Statement.TheVariants as rust
-use Rattle.typed_layer.specs.View.{expression_tree, statement_of, block_of, statement_tree, block_tree}
+use Rattle.typed_layer.specs.declared.tree.Taken.{Taken}
+use Rattle.typed_layer.specs.View.{expression_tree, taken_tree, statement_of, block_of, statement_tree, block_tree}
 
 -- a block is the statements that it has
 block_is : (block : Block) → fold-Block StatementTree StatementTrees statement_of block_of block ≡ block_tree block
@@ -26,3 +28,11 @@ each_tree slot below most block =
     ap statement_tree (sym (rust.rolls-Each slot below most block))
     ∙ (fold-roll-Statement StatementTree StatementTrees statement_of block_of (layer.Each slot below most block)
     ∙ ap (each slot (expression_tree below) most) (block_is block))
+
+pub take_tree : (cell : ℕ) (index : Expression) (taken : Taken) (block otherwise : Block) →
+    statement_tree (rust.Take cell index taken block otherwise)
+    ≡ tree.take cell (expression_tree index) (taken_tree taken) (block_tree block) (block_tree otherwise)
+take_tree cell index taken block otherwise =
+    ap statement_tree (sym (rust.rolls-Take cell index taken block otherwise))
+    ∙ (fold-roll-Statement StatementTree StatementTrees statement_of block_of (layer.Take cell index taken block otherwise)
+    ∙ ap₂ (tree.take cell (expression_tree index) (taken_tree taken)) (block_is block) (block_is otherwise))

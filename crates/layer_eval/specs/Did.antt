@@ -1,5 +1,5 @@
 -- What statements and visits leave at a desk.
-use Rattle.std.specs.Prelude.{◌≡◌, ℕ, Bool, true, false, ◌&&◌, List, ◌++◌, None}
+use Rattle.std.specs.Prelude.{◌≡◌, ℕ, Bool, true, false, ◌&&◌, List, [], ◌∷◌, ◌++◌, None}
 use Rattle.layer_ast.specs.declared.syntax.Likely.{Likely}
 use Rattle.layer_ast.specs.declared.syntax.Likely.TheVariants as likely
 use Rattle.layer_mean.specs.declared.run.Case.TheVariants.{First, Second}
@@ -53,3 +53,9 @@ pub record Ended (o : Outcome) (old new : Laid) (before now : Predicted) : Type 
     sent = old.sent ++ o.sent;
   }
   pub predicted : now ≡ both (as_predicted o.decided) before
+
+-- A statement that looks for a row in vain and does nothing else, where that is said.
+abbrev pub FindsNothing : Bool → StatementTree → Laid → Type 0
+FindsNothing true tree p = (place : ℕ) →
+    statement_does place tree p ≡ record { state = p.state; scope = p.scope; sent = []; decided = unusual ∷ [] }
+FindsNothing false tree p = Unit {0}

@@ -1,17 +1,17 @@
 //! What statements do.
 
-ghost use Rattle.std.specs.Prelude.{◌≡◌, true, map, Option, OnOk};
+ghost use Rattle.std.specs.Prelude.{◌≡◌, true, [], map, Option, OnOk};
 ghost use Rattle.msg_core.specs.Chain.{Content as Bytes};
 ghost use Rattle.layer_mean.specs.Event.{event_of};
-ghost use Rattle.layer_mean.specs.State.{has_room};
+ghost use Rattle.layer_mean.specs.State.{has_room, rows_at};
 ghost use Rattle.layer_mean.specs.Effect.{row_of, header_of, emitted};
 ghost use Rattle.typed_layer.specs.View.{expression_tree, row_tree, content_tree, emission_tree, trees, statement_tree, block_tree};
-ghost use Rattle.layer_desk.specs.Laid.{queued, sends, left};
+ghost use Rattle.layer_desk.specs.Laid.{bound, assigned, assigned_square, queued, sends, left};
 ghost use Rattle.layer_mean.specs.Envelope.{event_in};
 ghost use Rattle.layer_desk.specs.Need.{push_need, emission_need, statement_need, block_need};
 ghost use Rattle.layer_desk.specs.Spent.{Spent};
-ghost use Rattle.layer_eval.specs.Worth.{numbers_of, message_sent};
-ghost use Rattle.layer_eval.specs.Did.{Did, statement_does, block_does};
+ghost use Rattle.layer_eval.specs.Worth.{number_of, numbers_of, message_sent};
+ghost use Rattle.layer_eval.specs.Did.{Did, FindsNothing, statement_does, block_does};
 
 use crate::message::make;
 use crate::predicted::Predicted;
@@ -21,7 +21,7 @@ use layer_desk::{Desk, NoRoom, Start};
 use layer_mean::Envelope;
 use msg_core::{Fields, Header};
 use slot_pool::Pool;
-use typed_layer::{Block, Content, Emission, MessageExpression, Row, Statement};
+use typed_layer::{Block, Content, Emission, Expression, MessageExpression, Row, Statement};
 
 /// Runs the statements of a block in a statement.
 #[cycle(effect)]
@@ -64,9 +64,71 @@ fn run_all<K: Start, D: Desk>(
         return Ok(());
     }
     if statements.len() == 1 {
-        return run_alone::<K, D>(place, &statements[0], desk, pool, predicted);
+        return run_single::<K, D>(place, &statements[0], desk, pool, predicted);
     }
     run_statements::<K, D>(place, statements, desk, pool, predicted)
+}
+
+/// Runs the only statement of a block in a statement. Turns of a loop mostly look for a row in vain: these cost no call.
+#[cycle(effect)]
+#[inline(always)]
+fn run_single<K: Start, D: Desk>(
+    place: u8,
+    statement: &Statement,
+    desk: &mut D,
+    pool: &mut Pool,
+    predicted: &mut Predicted,
+) -> Result<(), NoRoom>
+    requires { D.ready K.begun pool.old desk.old }
+    ensures ready { D.ready K.begun pool.new desk.new }
+    ensures did { OnOk result (Did (statement_does place (statement_tree statement.now) (D.shown pool.old desk.old))
+        (D.shown pool.old desk.old) (D.shown pool.new desk.new) predicted.old predicted.new) }
+    ensures spent { Spent (D.free pool.old desk.old) (D.free pool.new desk.new)
+        (statement_need K.begun.layout (statement_tree statement.now)) result }
+{
+    if finds_nothing::<K, D>(statement, desk, pool) {
+        *predicted = Predicted::unusual();
+        return Ok(());
+    }
+    run_alone::<K, D>(place, statement, desk, pool, predicted)
+}
+
+/// Whether a statement takes a row of a queue that has none, and does nothing then. Where that takes more than a look at the queue, it isn't said.
+#[inline(always)]
+fn finds_nothing<K: Start, D: Desk>(statement: &Statement, desk: &D, pool: &Pool) -> bool
+    requires { D.ready K.begun pool.now desk.now }
+    ensures { FindsNothing result (statement_tree statement.now) (D.shown pool.now desk.now) }
+{
+    match statement {
+        Statement::Take {
+            cell,
+            index,
+            taken: _,
+            block: _,
+            otherwise,
+        } => {
+            if otherwise.statements.is_empty() {
+                if has_no_row::<K, D>(*cell, index, desk, pool) {
+                    return true;
+                }
+            }
+            false
+        }
+        _ => false,
+    }
+}
+
+/// Whether a queue at a local has no row. Where its index is something else, it isn't said.
+#[inline(always)]
+fn has_no_row<K: Start, D: Desk>(cell: u8, index: &Expression, desk: &D, pool: &Pool) -> bool
+    requires { D.ready K.begun pool.now desk.now }
+    ensures { result ≡ true → rows_at (D.shown pool.now desk.now).state cell (number_of (expression_tree index.now) (D.shown pool.now desk.now)) ≡ [] }
+{
+    if !matches!(index, Expression::Local(_)) {
+        return false;
+    }
+    let index = number::<K, D>(index, desk, pool);
+    desk.rows::<K>(pool, cell, index) == 0
 }
 
 /// Runs a statement that has none beside it, or none that is run in the same way.
@@ -128,19 +190,15 @@ fn run_statement<K: Start, D: Desk>(
 {
     match statement {
         Statement::Bind { slot, value } => {
-            let value = number::<K, D>(value, desk, pool);
-            desk.bind::<K>(pool, *slot, value);
+            set_local::<K, D>(*slot, value, desk, pool);
             Ok(())
         }
         Statement::Set { cell, value } => {
-            let value = number::<K, D>(value, desk, pool);
-            desk.assign::<K>(pool, *cell, 0, value);
+            set_scalar::<K, D>(*cell, value, desk, pool);
             Ok(())
         }
         Statement::SetElement { cell, index, value } => {
-            let index = number::<K, D>(index, desk, pool);
-            let value = number::<K, D>(value, desk, pool);
-            desk.assign::<K>(pool, *cell, index, value);
+            set_element::<K, D>(*cell, index, value, desk, pool);
             Ok(())
         }
         Statement::SetSquare {
@@ -149,10 +207,7 @@ fn run_statement<K: Start, D: Desk>(
             column,
             value,
         } => {
-            let row = number::<K, D>(row, desk, pool);
-            let column = number::<K, D>(column, desk, pool);
-            let value = number::<K, D>(value, desk, pool);
-            desk.assign_square::<K>(pool, *cell, row, column, value);
+            set_square::<K, D>(*cell, row, column, value, desk, pool);
             Ok(())
         }
         Statement::Push {
@@ -219,6 +274,119 @@ fn run_statement<K: Start, D: Desk>(
         }
         Statement::Emit(emission) => { emit::<K, D>(place, emission, desk, pool) }
     }
+}
+
+/// Runs a statement that mostly sets a number and does nothing else: so one keeps less over its calls than others do.
+#[inline(always)]
+pub fn run_setting<K: Start, D: Desk>(
+    place: u8,
+    statement: &Statement,
+    desk: &mut D,
+    pool: &mut Pool,
+    predicted: &mut Predicted,
+) -> Result<(), NoRoom>
+    requires { D.ready K.begun pool.old desk.old }
+    ensures ready { D.ready K.begun pool.new desk.new }
+    ensures did { OnOk result (Did (statement_does place (statement_tree statement.now) (D.shown pool.old desk.old))
+        (D.shown pool.old desk.old) (D.shown pool.new desk.new) predicted.old predicted.new) }
+    ensures spent { Spent (D.free pool.old desk.old) (D.free pool.new desk.new)
+        (statement_need K.begun.layout (statement_tree statement.now)) result }
+{
+    match statement {
+        Statement::Bind { slot, value } => {
+            set_local::<K, D>(*slot, value, desk, pool);
+            Ok(())
+        }
+        Statement::Set { cell, value } => {
+            set_scalar::<K, D>(*cell, value, desk, pool);
+            Ok(())
+        }
+        Statement::SetElement { cell, index, value } => {
+            set_element::<K, D>(*cell, index, value, desk, pool);
+            Ok(())
+        }
+        Statement::SetSquare {
+            cell,
+            row,
+            column,
+            value,
+        } => {
+            set_square::<K, D>(*cell, row, column, value, desk, pool);
+            Ok(())
+        }
+        _ => run_alone::<K, D>(place, statement, desk, pool, predicted),
+    }
+}
+
+/// Sets a number of the scope.
+#[inline(never)]
+fn set_local<K: Start, D: Desk>(slot: u8, value: &Expression, desk: &mut D, pool: &Pool)
+    requires { D.ready K.begun pool.now desk.old }
+    ensures ready { D.ready K.begun pool.now desk.new }
+    ensures shown { D.shown pool.now desk.new ≡
+        bound slot (number_of (expression_tree value.now) (D.shown pool.now desk.old)) (D.shown pool.now desk.old) }
+    ensures free { D.free pool.now desk.new ≡ D.free pool.now desk.old }
+{
+    let value = number::<K, D>(value, desk, pool);
+    desk.bind::<K>(pool, slot, value);
+}
+
+/// Sets the number of a cell of one number.
+#[inline(never)]
+fn set_scalar<K: Start, D: Desk>(cell: u8, value: &Expression, desk: &mut D, pool: &Pool)
+    requires { D.ready K.begun pool.now desk.old }
+    ensures ready { D.ready K.begun pool.now desk.new }
+    ensures shown { D.shown pool.now desk.new ≡
+        assigned cell 0 (number_of (expression_tree value.now) (D.shown pool.now desk.old)) (D.shown pool.now desk.old) }
+    ensures free { D.free pool.now desk.new ≡ D.free pool.now desk.old }
+{
+    let value = number::<K, D>(value, desk, pool);
+    desk.assign::<K>(pool, cell, 0, value);
+}
+
+/// Sets a number of an array.
+#[inline(never)]
+fn set_element<K: Start, D: Desk>(
+    cell: u8,
+    index: &Expression,
+    value: &Expression,
+    desk: &mut D,
+    pool: &Pool,
+)
+    requires { D.ready K.begun pool.now desk.old }
+    ensures ready { D.ready K.begun pool.now desk.new }
+    ensures shown { D.shown pool.now desk.new ≡ assigned cell
+        (number_of (expression_tree index.now) (D.shown pool.now desk.old))
+        (number_of (expression_tree value.now) (D.shown pool.now desk.old)) (D.shown pool.now desk.old) }
+    ensures free { D.free pool.now desk.new ≡ D.free pool.now desk.old }
+{
+    let index = number::<K, D>(index, desk, pool);
+    let value = number::<K, D>(value, desk, pool);
+    desk.assign::<K>(pool, cell, index, value);
+}
+
+/// Sets a number of a square cell.
+#[inline(never)]
+fn set_square<K: Start, D: Desk>(
+    cell: u8,
+    row: &Expression,
+    column: &Expression,
+    value: &Expression,
+    desk: &mut D,
+    pool: &Pool,
+)
+    requires { D.ready K.begun pool.now desk.old }
+    ensures ready { D.ready K.begun pool.now desk.new }
+    ensures shown { D.shown pool.now desk.new ≡ assigned_square cell
+        (number_of (expression_tree row.now) (D.shown pool.now desk.old))
+        (number_of (expression_tree column.now) (D.shown pool.now desk.old))
+        (number_of (expression_tree value.now) (D.shown pool.now desk.old)) (D.shown pool.now desk.old) }
+    ensures free { D.free pool.now desk.new ≡ D.free pool.now desk.old }
+{
+    let row = number::<K, D>(row, desk, pool);
+    let column = number::<K, D>(column, desk, pool);
+    let value = number::<K, D>(value, desk, pool);
+    desk.assign_square::<K>(pool, cell, row, column, value);
 }
 
 /// Puts a row at the back of a queue that has room for it.

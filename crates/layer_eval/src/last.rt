@@ -7,7 +7,7 @@ ghost use Rattle.layer_desk.specs.Spent.{Spent};
 ghost use Rattle.layer_eval.specs.Did.{Did, Ended, statement_does, block_does};
 ghost use Rattle.layer_eval.specs.Owed.{sets_number, settled, owing, SpentOwing};
 
-use crate::effect::{emit_last, run_alone};
+use crate::effect::{emit_last, run_alone, run_setting};
 use crate::pending::Owed;
 use crate::predicted::Predicted;
 use crate::value::number;
@@ -163,7 +163,7 @@ fn run_owing<K: Start, D: Desk>(
         (statement_need K.begun.layout (statement_tree statement.now)) result }
 {
     if sets_a_number(statement) {
-        return run_alone::<K, D>(place, statement, desk, pool, predicted);
+        return run_setting::<K, D>(place, statement, desk, pool, predicted);
     }
     pending.settle::<K, D>(desk, pool)?;
     if let Statement::Emit(emission) = statement {

@@ -64,8 +64,8 @@ impl Predicted {
         ensures { result ≡ both self behind }
     {
         Predicted {
-            first: self.first && behind.first,
-            second: self.second && behind.second,
+            first: self.first & behind.first,
+            second: self.second & behind.second,
         }
     }
 }

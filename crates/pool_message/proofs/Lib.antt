@@ -5,3 +5,4 @@ pub mod Stays
 pub mod Piles
 pub mod Slots
 mod Chains
+pub mod Lines

@@ -7,3 +7,4 @@ pub mod Slots
 pub mod Tray
 pub mod Lends
 pub mod PutBody
+pub mod Lines

@@ -12,11 +12,11 @@ ghost use Rattle.pool_message.specs.Sent.{sent_refs, most_sent, first_sent, sent
 ghost use Rattle.pool_message.specs.Slots.{first_number};
 
 use crate::event::PoolEvent;
+use crate::line::Line;
 use crate::message::PoolMessage;
 use crate::messages::Messages;
 use crate::part::Part;
 use crate::place::Place;
-use circular_buffer::HeapCircularBuffer;
 use layer_ast::Dir;
 use layer_mean::Envelope;
 use msg_core::{Header, Headers};
@@ -30,7 +30,7 @@ use std::marker::Model;
 pub(crate) struct List {
     slots: Vec<(Dir, PoolEvent)>,
     /// The numbers of the slots in which events stand.
-    order: HeapCircularBuffer<u32>,
+    order: Line<u32>,
     /// The numbers of the others.
     free: Vec<u32>,
     /// The number of the slot of the first event, if there is one: it is looked up far more often than it changes.
@@ -62,7 +62,7 @@ impl List {
         requires { places ≤ most_sent }
         ensures { IfOk result (λ e. e ≡ buffer [] places) }
     {
-        let order = HeapCircularBuffer::with_capacity(alloc, places)?;
+        let order = Line::with_capacity(alloc, places, 0)?;
         let free = Vec::with_capacity(alloc, places)?;
         let slots = Vec::with_capacity(alloc, places)?;
         Ok(List {
@@ -122,16 +122,7 @@ impl List {
         requires { 0 < length self.old.items }
         ensures { self.new ≡ buffer (drop 1 self.old.items ++ first_sent self.old.items ∷ []) self.old.capacity }
     {
-        if self.order.len() == 1 {
-            return;
-        }
-        let Some(k) = self.order.pop_front() else {
-            unreachable!();
-        };
-        match self.order.try_push_back(k) {
-            Ok(()) => {}
-            Err(_k) => unreachable!(),
-        }
+        self.order.go_round(self.first);
         self.first = first_of(&self.order);
     }
 
@@ -337,7 +328,7 @@ impl List {
 }
 
 /// The first number of some; 0 where there is none.
-fn first_of(order: &HeapCircularBuffer<u32>) -> u32
+fn first_of(order: &Line<u32>) -> u32
     ensures { result ≡ first_number order.now.items }
 {
     match order.front() {

@@ -174,7 +174,7 @@ impl PoolMessage {
     {
         self.headers.copy_from(&other.headers);
         other.headers.clear();
-        mem::swap(&mut self.body, &mut other.body);
+        self.set_body(other.body.take());
     }
 
     /// Becomes a message of these headers before this body. It has no bytes itself.

@@ -1,5 +1,5 @@
 -- Tasks whose events stand in one list, and their places in another.
-use Rattle.std.proofs.Common.{◌≡◌, ℕ, suc, ◌≤◌, List, [], ◌∷◌, ◌++◌, drop, length, Option, Some, None, IfSome, IfNone, set, get_or, slice_get, option_map, refl, sym, ap, subst, ◌∙◌, arith}
+use Rattle.std.proofs.Common.{◌≡◌, ℕ, suc, ◌≤◌, List, [], ◌∷◌, ◌++◌, drop, length, Option, Some, None, IfSome, IfNone, get_or, slice_get, option_map, refl, sym, ap, subst, ◌∙◌, arith}
 use Rattle.std.proofs.lemmas.List.{length-append, length-map}
 use Rattle.circular_buffer.specs.Buffer.{Buffer, buffer}
 use Rattle.slot_pool.specs.Held.{Held}
@@ -28,7 +28,7 @@ pushed (at' ∷ places) (x ∷ xs) at dir event same =
     ap (λ ts. record { at = at'; direction = x.0; event = x.1 } ∷ ts) (pushed places xs at dir event (omega (arith, same)))
 
 -- The only place becomes another one.
-pub only_place : (places : List ℕ) (at : ℕ) → length places ≡ 1 → set places 0 at ≡ at ∷ []
+pub only_place : (places : List ℕ) (at : ℕ) → length places ≡ 1 → at ∷ drop 1 places ≡ at ∷ []
 only_place [] at one = absurd (omega (arith, one))
 only_place (to ∷ []) at one = refl
 only_place (to ∷ next ∷ places) at one = absurd (omega (arith, one))

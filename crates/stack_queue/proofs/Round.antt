@@ -39,10 +39,9 @@ module _ {S : Type 0} (place : S → ℕ) (layer : S → LayerTree) (refs : S �
       buffer (tasks_at ps.items es) (ps.capacity - 1) ≡ tasks → (sent w : Dir × PoolEvent) → sent ≡ first_sent es →
       HasPassed place layer refs Ready state taken s sent s' w → (at to : ℕ) (dir : Dir) → (first_task tasks.items).at ≡ at →
       dir ≡ (first_sent es).0 → to ≡ beyond dir at →
-      (front now : Buffer ℕ) (events : Buffer (Dir × PoolEvent)) → front ≡ buffer (drop 1 ps.items) ps.capacity →
-      now ≡ buffer (front.items ++ to ∷ []) front.capacity → events.items ≡ drop 1 es ++ w ∷ [] →
+      (now : Buffer ℕ) (events : Buffer (Dir × PoolEvent)) → now ≡ buffer (drop 1 ps.items ++ to ∷ []) ps.capacity → events.items ≡ drop 1 es ++ w ∷ [] →
       HasGoneRound place layer refs Ready state taken s tasks s' (buffer (tasks_at now.items events.items) (now.capacity - 1))
-  goes_round ps es tasks same view sent w sent_is passed at to dir first dir_is to_is front now events ended put turned = record {
+  goes_round ps es tasks same view sent w sent_is passed at to dir first dir_is to_is now events placed turned = record {
     task = record { at = to; direction = w.0; event = w.1 };
     passed = subst (λ x. HasPassed place layer refs Ready state taken s x s' w) (sent_is ∙ sym was) passed;
     to = to_is ∙ (λ j. beyond (way j) (sym first j));
@@ -55,9 +54,6 @@ module _ {S : Type 0} (place : S → ℕ) (layer : S → LayerTree) (refs : S �
 
     way : dir ≡ (first_task tasks.items).direction
     way = dir_is ∙ ap (λ (x : Dir × PoolEvent). x.0) (sym was)
-
-    placed : now ≡ buffer (drop 1 ps.items ++ to ∷ []) ps.capacity
-    placed = put ∙ ap (λ b. buffer (b.items ++ to ∷ []) b.capacity) ended
 
     behind : tasks_at (drop 1 ps.items) (drop 1 es) ≡ drop 1 tasks.items
     behind = rest_at ps.items es tasks.items same (ap (λ b. b.items) view)

@@ -6,14 +6,13 @@ ghost use Rattle.stack_mean.specs.Acceptance.{largest_weight};
 
 use crate::passes::{pass_along, pass_one};
 use crate::places::{beyond, end_first, first_way, go_on, put_place, stand_alone};
-use circular_buffer::HeapCircularBuffer;
 use event_graph::Stack;
 use layer_ast::Dir;
 use layer_eval::Predicted;
 use layer_mean::Envelope;
 use layer_stage::Stage;
 use msg_core::Headers;
-use pool_message::{Events, PoolEvent};
+use pool_message::{Events, Line, PoolEvent};
 use slot_pool::Pool;
 use std::alloc::{AllocError, Global};
 use std::marker::Model;
@@ -37,7 +36,7 @@ pub struct BareTask {
 /// The tasks of a run that are pending, first in, first out, in as many places as the weight of its stack: their events with their
 /// directions, and beside these where each of them goes. There is one place more, for the event that a layer takes.
 pub struct Tasks {
-    places: HeapCircularBuffer<u16>,
+    places: Line<u16>,
     events: Events,
 }
 
@@ -78,7 +77,7 @@ impl Tasks {
     {
         stack.is_accepted();
         let count = stack.weight() as usize + 1;
-        let places = HeapCircularBuffer::with_capacity(alloc, count)?;
+        let places = Line::with_capacity(alloc, count, 0)?;
         match Events::fresh(alloc, count) {
             Ok(events) => Ok(Tasks { places, events }),
             Err(fault) => {
@@ -222,8 +221,7 @@ impl Tasks {
             return false;
         }
         self.events.go_round();
-        end_first(&mut self.places);
-        put_place(&mut self.places, beyond(direction, at));
+        self.places.go_round(beyond(direction, at));
         true
     }
 
