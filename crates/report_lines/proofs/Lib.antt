@@ -1,3 +1,4 @@
+pub mod Decimals
 pub mod Joined
 pub mod Nones
 pub mod Rows

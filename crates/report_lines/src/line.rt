@@ -1,6 +1,6 @@
 //! A line of text as it is built up.
 
-ghost use Rattle.std.specs.Prelude.{◌≡◌, ◌-◌, ◌++◌, ◌∷◌, [], OnOk, length, take};
+ghost use Rattle.std.specs.Prelude.{◌≡◌, ◌+◌, ◌-◌, ◌%◌, ◌<◌, ◌≤◌, ◌++◌, ◌∷◌, [], OnOk, length, take, vec_capacity, vec_len};
 ghost use Rattle.std.specs.Fmt.{decimal};
 ghost use Rattle.script_mean.specs.EventText.{hex_text};
 
@@ -23,6 +23,40 @@ impl Model for Line {
     ghost Value = { List ℕ };
 
     ghost view = { λ l. l.bytes.items };
+}
+
+/// The last digit of a number.
+#[inline(always)]
+fn digit(number: u32) -> u8
+    ensures { result ≡ 48 + number % 10 }
+{
+    b'0' + (number % 10) as u8
+}
+
+/// Appends a number of at most four digits where there is room for them.
+#[inline(always)]
+fn push_short(bytes: &mut Vec<u8>, number: u32)
+    requires short { number < 10000 }
+    requires room { vec_len bytes.old + 4 ≤ vec_capacity bytes.old }
+    ensures { bytes.new.items ≡ bytes.old.items ++ decimal number }
+{
+    let tens = number / 10;
+    let hundreds = tens / 10;
+    if number < 10 {
+        bytes.push_reserved(digit(number));
+    } else if number < 100 {
+        bytes.push_reserved(digit(tens));
+        bytes.push_reserved(digit(number));
+    } else if number < 1000 {
+        bytes.push_reserved(digit(hundreds));
+        bytes.push_reserved(digit(tens));
+        bytes.push_reserved(digit(number));
+    } else {
+        bytes.push_reserved(digit(hundreds / 10));
+        bytes.push_reserved(digit(hundreds));
+        bytes.push_reserved(digit(tens));
+        bytes.push_reserved(digit(number));
+    }
 }
 
 impl Line {
@@ -68,9 +102,18 @@ impl Line {
     pub fn number(&mut self, number: u64) -> Result<(), Memory>
         ensures { OnOk result (self.new ≡ self.old ++ decimal number) }
     {
-        if number < 10 {
-            return self.text(&[b'0' + number as u8]);
+        if number < 10_000 && self.bytes.capacity() - self.bytes.len() >= 4 {
+            push_short(&mut self.bytes, number as u32);
+            return Ok(());
         }
+        self.any_number(number)
+    }
+
+    /// Appends a number of any size.
+    #[inline(never)]
+    fn any_number(&mut self, number: u64) -> Result<(), Memory>
+        ensures { OnOk result (self.new ≡ self.old ++ decimal number) }
+    {
         let mut buffer = Buffer::new();
         self.text(buffer.format(number).as_bytes())
     }

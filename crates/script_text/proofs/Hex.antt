@@ -1,9 +1,9 @@
 -- Lower case hexadecimal digits, two by two.
 use Rattle.std.proofs.Common.{◌≡◌, ◌≢◌, ℕ, ◌+◌, ◌*◌, ◌%◌, ◌<◌, ◌≤◌, Bool, true, false, List, [], ◌∷◌, ◌++◌, length, take, drop, slice_index, slice_set, Option, Some, None, refl, sym, ap, ◌∙◌, arith}
-use Rattle.std.specs.Prelude.{max, nat_lt, IfSome, option_map, if◌then◌else◌}
+use Rattle.std.specs.Prelude.{max, nat_lt, IfSome, option_map}
 use Rattle.std.specs.Option.{unwrap_or}
 use Rattle.std.proofs.lemmas.Bool.Decides.{nat_tests}
-use Rattle.std.proofs.lemmas.List.{append_assoc, append-nil, drop_all, drop_more, take_all, take_more_set}
+use Rattle.std.proofs.lemmas.List.{append_assoc, drop_more, take_more_set}
 use Rattle.script_mean.specs.Words.{◌>>=◌, hex_digit, hex_bytes}
 
 -- the value of a digit as the code has it
@@ -15,7 +15,8 @@ abbrev pub joined : Bool → List ℕ → Option (List ℕ) → Option (List ℕ
 joined true front behind = option_map (λ bytes. front ++ bytes) behind
 joined false front behind = None
 
-bounded : (byte : ℕ) → IfSome (hex_digit byte) (λ value. value < 16)
+-- a value is below sixteen
+pub bounded : (byte : ℕ) → IfSome (hex_digit byte) (λ value. value < 16)
 bounded byte = grind (arith, nat_tests)
 
 not_all : (all : Bool) (front : List ℕ) → joined all front None ≡ None
@@ -50,11 +51,6 @@ goes_on digits bytes i most high low above next whole within double high_is low_
     let b = slice_index digits (2 * i + 1) in
     let step = pair most (take i bytes) (hex_digit a) (hex_digit b) (hex_bytes (drop (2 * i + 1 + 1) digits)) (bounded a) (bounded b) in
     rw (one, two) at so_far ∙ rw (next_is, above_is, high_is, low_is, behind, take_more_set bytes i ((value a * 16 % 256 + value b) % 256) within) step
-
--- all are written
-pub done : (all : Bool) (digits bytes : List ℕ) (i : ℕ) → length bytes ≤ i → length digits ≡ 2 * length bytes → hex_bytes digits ≡ joined all (take i bytes) (hex_bytes (drop (2 * i) digits)) → hex_bytes digits ≡ (if all then Some bytes else None)
-done true digits bytes i end double so_far = so_far ∙ rw (drop_all (2 * i) digits (omega arith), take_all i bytes end) (ap Some (append-nil bytes))
-done false digits bytes i end double so_far = so_far
 
 -- no bytes are spelled by an odd number of digits
 pub odd_none : (word : List ℕ) → length word % 2 ≢ 0 → hex_bytes word ≡ None

@@ -1,4 +1,5 @@
 pub mod Addresses
+pub mod Lanes
 pub mod Cuts
 pub mod Digits
 pub mod Draws

@@ -4,3 +4,4 @@ pub mod Making
 pub mod Parts
 pub mod Plan
 pub mod Reading
+pub mod Blocks

@@ -1,6 +1,8 @@
 -- What the readers of lines and words answer.
-use Rattle.std.specs.Prelude.{◌≡◌, ◌≤◌, ◌<◌, ℕ, List, Option, Some, None, option_map, Result, Ok, Err, IsSomeAnd}
-use Rattle.std.specs.List.{enumerate_from}
+use Rattle.std.specs.Prelude.{◌≡◌, ◌≤◌, ◌<◌, ℕ, true, List, Option, Some, None, option_map, Result, Ok, Err, IsSomeAnd}
+use Rattle.std.specs.Char.{is_ascii_digit}
+use Rattle.std.specs.List.{enumerate_from, list_all}
+use Rattle.std.specs.Str.Parse.{digits_value}
 use Rattle.script_mean.specs.Lines.{said}
 use Rattle.script_mean.specs.Words.{Word}
 use Rattle.script_mean.specs.Event.{member_of}
@@ -35,6 +37,10 @@ abbrev pub error_at : ℕ → LineError → ScriptError
 error_at line Form = script.BadLine line
 error_at line NoMember = script.NoMember line
 error_at line Memory = script.Memory
+
+-- these are all decimal digits, of this value
+abbrev pub IsAllDigits : List ℕ → ℕ → Type 0
+IsAllDigits digits value = (list_all is_ascii_digit digits ≡ true) × (value ≡ digits_value 10 digits)
 
 -- what was spelled, or memory was wanted
 abbrev pub Spells : {A : Type 0} → Option A → Result A LineError → Type 0

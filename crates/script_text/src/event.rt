@@ -2,6 +2,7 @@
 ghost use Rattle.std.specs.Prelude.{◌<◌, ◌≤◌, IfOk};
 ghost use Rattle.script_mean.specs.Event as spec;
 ghost use Rattle.script_mean.specs.Script.{event_of, in_form};
+ghost use Rattle.script_mean.specs.Words.{words_of};
 ghost use Rattle.script_text.specs.Answer.{Answers};
 ghost use Rattle.script_text.specs.Reading.{IsBelow, IsEvent, Says, numbered, words_left};
 ghost use Rattle.msg_core.specs.View.{most_members};
@@ -51,13 +52,29 @@ pub(crate) fn event_on(
     ensures said { Answers (event_of members (numbered line.entry)) result }
     ensures of_member { IfOk result (λ event. spec.member_of event < members) }
 {
-    match event(alloc, members, Words::on(line.text)) {
+    match event(alloc, members, line.text) {
         Ok(event) => Ok(event),
         Err(error) => Err(error.at(line.number)),
     }
 }
 
-fn event(alloc: Global, members: u8, mut words: Words<'_>) -> Result<ScriptEvent, LineError>
+/// The event of a line. Most lines give or cast.
+#[inline(always)]
+fn event(alloc: Global, members: u8, line: &[u8]) -> Result<ScriptEvent, LineError>
+    ensures { IsEvent members (spec.event_line (words_of line.now)) result }
+{
+    if let [b'g', b'i', b'v', b'e', b' ', behind @ ..] = line {
+        return give(members, Words::on(behind));
+    }
+    if let [b'c', b'a', b's', b't', b' ', behind @ ..] = line {
+        return cast(alloc, members, Words::on(behind));
+    }
+    any_event(alloc, members, Words::on(line))
+}
+
+/// The event of a line by its first word, whichever that is.
+#[inline(never)]
+fn any_event(alloc: Global, members: u8, mut words: Words<'_>) -> Result<ScriptEvent, LineError>
     ensures { IsEvent members (spec.event_line (words_left words.entry)) result }
 {
     let verb = words.next().ok_or(LineError::Form)?;
@@ -124,6 +141,7 @@ fn tick(members: u8, mut words: Words<'_>) -> Result<ScriptEvent, LineError>
     Ok(ScriptEvent::Tick(member_below(members, member)?, time))
 }
 
+#[inline(always)]
 fn give(members: u8, mut words: Words<'_>) -> Result<ScriptEvent, LineError>
     ensures { IsEvent members (spec.give_line (words_left words.entry)) result }
 {

@@ -2,6 +2,7 @@
 #![tactic(auto)]
 
 mod address;
+mod blocks;
 mod datagram;
 mod error;
 mod event;

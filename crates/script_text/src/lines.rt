@@ -6,7 +6,9 @@ ghost use Rattle.script_text.specs.Parts.{parts_behind};
 
 use crate::reading::MOST_LINES;
 use crate::splits::cut;
-use memchr::memchr_iter;
+
+/// How many bytes are counted at once.
+const BLOCK: usize = 192;
 
 /// A line, and its number, from 1.
 #[derive(Clone, Copy)]
@@ -88,14 +90,29 @@ pub(crate) fn line_count(text: &[u8]) -> usize
     line_feeds(text) + usize::from(is_open(text))
 }
 
-/// How many line feeds a text has. The search for the next passes many bytes at a time, and `count` of
-/// the same iterator wouldn't.
+/// How many line feeds a text has, block by block.
 fn line_feeds(text: &[u8]) -> usize
     ensures { result ≡ count_by spec.is_line_feed text.now }
 {
     let mut count = 0;
-    'lines: for _ in memchr_iter(b'\n', text) {
-        count += 1;
+    let mut rest = text;
+    while rest.len() > BLOCK {
+        let (block, behind) = rest.split_at(BLOCK);
+        count += usize::from(line_feeds_of_block(block));
+        rest = behind;
+    }
+    count + usize::from(line_feeds_of_block(rest))
+}
+
+/// How many line feeds a block has: few enough for a number of eight bits, so that many bytes are compared at a time.
+#[inline(always)]
+fn line_feeds_of_block(block: &[u8]) -> u8
+    requires { length block.now ≤ BLOCK }
+    ensures { result ≡ count_by spec.is_line_feed block.now }
+{
+    let mut count = 0;
+    for byte in block {
+        count += u8::from(*byte == b'\n');
     }
     count
 }

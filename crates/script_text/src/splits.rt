@@ -1,7 +1,7 @@
 //! Cuts a text at a byte.
-ghost use Rattle.std.specs.Prelude.{◌≡◌, ◌==◌, ◌∷◌};
+ghost use Rattle.std.specs.Prelude.{◌≡◌, ◌≤◌, ◌==◌, ◌∷◌, IfSome, length, take};
 ghost use Rattle.std.specs.List.{slice_split};
-ghost use Rattle.memchr.specs.Find.{IsFirstByte, is_byte};
+ghost use Rattle.memchr.specs.Find.{IsFirstByte, Nowhere, Passes, is_byte};
 ghost use Rattle.script_text.specs.Parts.{parts_behind};
 
 use memchr::memchr;
@@ -31,6 +31,23 @@ fn parted(_at: u8, text: &[u8], place: Option<usize>) -> (&[u8], Option<&[u8]>)
     match place {
         Some(end) => (&text[..end], Some(&text[end + 1..])),
         None => (text, None),
+    }
+}
+
+/// The text in front of a place, and what stands behind it, where the text ends at that place or such a byte stands there. None stands in front.
+#[inline(always)]
+pub(crate) fn cut_at(at: u8, text: &[u8], place: usize) -> Option<(&[u8], Option<&[u8]>)>
+    requires { (place ≤ length text.now) × Nowhere (Passes (is_byte at) text.now) 0 place }
+    ensures { IfSome result (λ parts. (parts.0.now ≡ take place text.now)
+        × (slice_split (λ byte. byte == at) text.now ≡ parts.0.now ∷ parts_behind at parts.1)) }
+{
+    if place == text.len() {
+        return Some((text, None));
+    }
+    if text[place] == at {
+        Some((&text[..place], Some(&text[place + 1..])))
+    } else {
+        None
     }
 }
 

@@ -1,12 +1,13 @@
 //! What a word spells.
-ghost use Rattle.std.specs.Prelude.{◌≡◌, ◌*◌, ◌≤◌, ◌&&◌, length, IfSome, if◌then◌else◌, Some, None};
+ghost use Rattle.std.specs.Prelude.{◌≡◌, ◌*◌, ◌≤◌, ◌&&◌, ◌++◌, length, take, drop, option_map, IfSome, if◌then◌else◌, Some, None};
 ghost use Rattle.std.specs.Char.{is_ascii_digit};
 ghost use Rattle.std.specs.List.{list_all};
 ghost use Rattle.std.specs.Option.{unwrap_or};
 ghost use Rattle.std.specs.Str.Parse.{digits_value};
 ghost use Rattle.script_mean.specs.Words as spec;
-ghost use Rattle.script_text.specs.Reading.{Spells};
+ghost use Rattle.script_text.specs.Reading.{IsAllDigits, Spells};
 
+use crate::blocks::{BLOCK, write_block};
 use crate::error::LineError;
 use script_mean::Bytes;
 use std::alloc::Global;
@@ -60,6 +61,41 @@ fn value_within(low: u32, high: u32, word: &[u8]) -> Option<u32>
     Some(value as u32)
 }
 
+/// How many digits stand in front of a text, and their value, as far as it has 32 bits.
+#[inline(always)]
+pub(crate) fn digits_in_front(text: &[u8]) -> (usize, u32)
+    ensures { IsAllDigits (take result.0 text.now) result.1 × (result.0 ≤ length text.now) }
+{
+    let mut value: u32 = 0;
+    for place in 0..text.len() {
+        if !text[place].is_ascii_digit() {
+            return (place, value);
+        }
+        let more = u64::from(value) * 10 + u64::from(text[place] - b'0');
+        if more > u64::from(u32::MAX) {
+            return (place, value);
+        }
+        value = more as u32;
+    }
+    (text.len(), value)
+}
+
+/// The number of a word that is all digits, which have this value, within bounds.
+#[inline(always)]
+pub(crate) fn valued_within(low: u32, high: u32, word: &[u8], value: u32) -> Option<u32>
+    requires { IsAllDigits word.now value }
+    ensures { result ≡ spec.number_within low high word.now }
+{
+    if !begins_plainly(word) {
+        return None;
+    }
+    if low <= value && value <= high {
+        Some(value)
+    } else {
+        None
+    }
+}
+
 /// The bytes that a word of lower case hexadecimal digits spells.
 pub(crate) fn body(alloc: Global, word: &[u8]) -> Result<Bytes, LineError>
     ensures { Spells (spec.body_of word.now) result }
@@ -86,14 +122,29 @@ fn hex_body(alloc: Global, word: &[u8]) -> Result<Bytes, LineError>
     Ok(Bytes::of(bytes))
 }
 
-/// Writes the byte of each two digits, and answers whether all are digits. Nothing is left early, so
-/// that many digits are read at a time.
+/// Writes the byte of each two digits, and answers whether all are digits.
 fn write_bytes(digits: &[u8], bytes: &mut [u8]) -> bool
     requires { length digits.now ≡ 2 * length bytes.old }
     ensures { spec.hex_bytes digits.now ≡ (if result then Some bytes.new else None) }
 {
+    let mut done = 0;
+    while BLOCK <= bytes.len() - done {
+        if !write_block(digits, bytes, done) {
+            return false;
+        }
+        done += BLOCK;
+    }
+    write_last(digits, bytes, done)
+}
+
+/// Writes the bytes behind those that are done, and answers whether all of their digits are some.
+fn write_last(digits: &[u8], bytes: &mut [u8], done: usize) -> bool
+    requires { (length digits.now ≡ 2 * length bytes.old) × (done ≤ length bytes.old) }
+    ensures { option_map (λ more. take done bytes.old ++ more) (spec.hex_bytes (drop (2 * done) digits.now))
+        ≡ (if result then Some bytes.new else None) }
+{
     let mut most: u8 = 0;
-    for i in 0..bytes.len() {
+    for i in done..bytes.len() {
         let high = digit(digits[2 * i]);
         let low = digit(digits[2 * i + 1]);
         most = most.max(high.max(low));

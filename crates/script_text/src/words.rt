@@ -7,7 +7,7 @@ ghost use Rattle.script_mean.specs.Form as form;
 ghost use Rattle.script_text.specs.Reading.{Takes, words_left};
 
 use crate::error::LineError;
-use crate::splits::cut_near;
+use crate::splits::{cut, cut_at, cut_near};
 use crate::{address, values};
 use outside::Peer;
 use script_mean::Bytes;
@@ -35,7 +35,22 @@ impl<'a> Words<'a> {
         }
     }
 
+    #[inline(always)]
     pub(crate) fn number_within(&mut self, low: u32, high: u32) -> Result<u32, LineError>
+        ensures { Takes (form.a_number_within low high (words_left self.old)) result (words_left self.new) }
+    {
+        let text = self.rest.ok_or(LineError::Form)?;
+        let (count, value) = values::digits_in_front(text);
+        let Some((word, behind)) = cut_at(b' ', text, count) else {
+            return self.any_number_within(low, high);
+        };
+        self.rest = behind;
+        values::valued_within(low, high, word, value).ok_or(LineError::Form)
+    }
+
+    /// The same, for any word.
+    #[inline(never)]
+    fn any_number_within(&mut self, low: u32, high: u32) -> Result<u32, LineError>
         ensures { Takes (form.a_number_within low high (words_left self.old)) result (words_left self.new) }
     {
         let word = self.next().ok_or(LineError::Form)?;
@@ -51,7 +66,8 @@ impl<'a> Words<'a> {
     pub(crate) fn body(&mut self, alloc: Global) -> Result<Bytes, LineError>
         ensures { Takes (form.a_body (words_left self.old)) result (words_left self.new) }
     {
-        let word = self.next().ok_or(LineError::Form)?;
+        let (word, behind) = cut(b' ', self.rest.ok_or(LineError::Form)?);
+        self.rest = behind;
         values::body(alloc, word)
     }
 

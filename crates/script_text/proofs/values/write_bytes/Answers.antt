@@ -1,8 +1,6 @@
-use Rattle.std.proofs.Common.{arith}
-use Rattle.script_text.proofs.Hex.{goes_on}
+use Rattle.std.proofs.Common.{refl, arith}
+use Rattle.script_text.proofs.Lanes.{begins}
 use Rattle.script_text.proofs.values.write_bytes.Goals as goal
 
-pub loop-i-preserved : goal.loop-i-preserved
-loop-i-preserved c =
-    goes_on c.args.digits.now c.loop-i.bytes c.loop-i.i c.loop-i.most c.digit-high.result c.digit-low.result c.max.result c.max-most.result _ (omega arith) (omega arith)
-    c.digit-high.ensures c.digit-low.ensures c.max.ensures c.max-most.ensures c.loop-i.invariant
+pub loop-bytes-init : goal.loop-bytes-init
+loop-bytes-init c = (refl, omega arith, begins c.args.digits.now c.args.bytes.now)

@@ -1,8 +1,11 @@
-use Rattle.std.proofs.Common.{◌≡◌, ◌*◌, take, drop}
-use Rattle.std.specs.Prelude.{nat_lt}
+use Rattle.std.proofs.Common.{◌≡◌, ◌-◌, ◌*◌, ◌≤◌, ◌++◌, length, take, drop}
+use Rattle.std.specs.Prelude.{option_map}
 use Rattle.script_mean.specs.Words.{hex_bytes}
-use Rattle.script_text.proofs.Hex.{joined}
 use Rattle.script_text.proofs.values.write_bytes.Given as goal
 
-abbrev pub invariant-loop-i : goal.invariant-loop-i
-invariant-loop-i l = hex_bytes l.digits ≡ joined (nat_lt l.most 16) (take l.i l.bytes) (hex_bytes (drop (2 * l.i) l.digits))
+abbrev pub invariant-loop-bytes : goal.invariant-loop-bytes
+invariant-loop-bytes l = (length l.bytes ≡ length l.initial.bytes) × (l.done ≤ length l.bytes)
+    × (hex_bytes l.digits ≡ option_map (λ more. take l.done l.bytes ++ more) (hex_bytes (drop (2 * l.done) l.digits)))
+
+abbrev pub decreases-loop-bytes : goal.decreases-loop-bytes
+decreases-loop-bytes l = length l.bytes - l.done
