@@ -86,7 +86,7 @@ module _ (g : Ground) (old : Works) (what : Entered) where
 
   -- a step that is made by its code is common, and counts for no visit
   module _ (case : Case) (new : Works) (first out : Gathered) where
-    pub gone_by_code : (visits : ℕ) → IsIn (stack_of g) g.most g.here.view g.id (states_in old) → IsMadeIn case g old what new first →
+    pub gone_by_code : (visits : ℕ) → IsIn (stack_of g) g.most g.here.now.view g.id (states_in old) → IsMadeIn case g old what new first →
         out ≡ record first { outputs = with_plans (plans_in g) (first_plan (stack_of g) what case) its.outputs } →
         HasGone g old what new out visits visits true
     gone_by_code visits is_in made short =

@@ -76,10 +76,10 @@ module _ (p : Placed) (view : View) (states : List State) (input : Input) (is : 
   steps_in what enters = ap (λ (m : Member). step_at p m input) is ∙ ap (λ (e : Result Entered Refusal). step_in p view states e) enters
 
   pub takes : (g : Ground) (what : Entered) (old works : Works) (gathered : Gathered) (before after : ℕ) (took : Took) (new : Placed) →
-      stack_of g ≡ p.stack → plans_in g ≡ p.plans → mode_of g ≡ p.mode → g.here ≡ here_in p view → g.id ≡ p.id →
+      stack_of g ≡ p.stack → plans_in g ≡ p.plans → mode_of g ≡ p.mode → g.here.now ≡ here_in p view → g.id ≡ p.id →
       entered p.stack p.plans (here_in p view) input ≡ Ok what → HasTaken g old what works gathered before after took →
       states_in old ≡ states → p.taken ≡ taken_in old →
-      new.member ≡ member_in (view_behind g.here.view took.change) (states_in works) → new.taken ≡ taken_in works → SamePlace p new →
+      new.member ≡ member_in (view_behind g.here.now.view took.change) (states_in works) → new.taken ≡ taken_in works → SamePlace p new →
       Takes p input new gathered.outputs before after took.common took.change
   takes g what old works gathered before after took new stack plans mode here id enters taken are told member tells place =
       let same : step_over g (states_in old) what ≡ its what = λ i. step_from (stack i) (here i) (id i) (are i) what in
@@ -121,15 +121,16 @@ opened_member stack most view id old new w typed is_view same opening = (
 
 -- what a step works over is sound
 pub ground_is : (m : Inside) (g : Ground) (view : View) → IsMember m → m.view ≡ Some view → g.stack.now ≡ rc_value m.stack →
-    g.plans.now ≡ rc_value m.plans → g.entries.now ≡ rc_value m.entries → g.starts ≡ m.starts → codes_in g ≡ codes_kept m → g.bare.now ≡ m.bare → g.here.view ≡ view → g.here.group < 2 ^ 32 → g.here.stamp < 2 ^ 32 →
-    g.here.rank ≡ m.rank → g.id ≡ m.id → IsGround g
+    g.plans.now ≡ rc_value m.plans → g.entries.now ≡ m.entries → g.starts.now ≡ m.starts → codes_in g ≡ codes_kept m →
+    g.bare.now ≡ m.bare → g.here.now.view ≡ view → g.here.now.group < 2 ^ 32 → g.here.now.stamp < 2 ^ 32 →
+    g.here.now.rank ≡ m.rank → g.id ≡ m.id → IsGround g
 ground_is m g view is at stack plans entries starts codes bare here group stamp rank_is id_is =
     let there : IsAt (stack_tree (rc_value m.stack)) m.most m.id (Some view) (states_in m.works) =
     subst (λ (v : Option View). IsAt (stack_tree (rc_value m.stack)) m.most m.id v (states_in m.works)) at is.at in
     let its = ranked m view is at in record {
       typed = subst (λ (s : Stack). TypedStack (stack_tree s)) (sym stack) is.typed;
       plans = ap plans_tree plans ∙ is.plans_are ∙ ap (λ (s : Stack). plans_of (stack_tree s)) (sym stack);
-      entries = entries ∙ is.entries_are ∙ (λ i. short_shapes (stack_tree (sym stack i)) (plans_tree (sym plans i)));
+      entries = ap rc_value entries ∙ is.entries_are ∙ (λ i. short_shapes (stack_tree (sym stack i)) (plans_tree (sym plans i)));
       starts = ap starts_tree starts ∙ is.starts_are ∙ ap (λ (s : Stack). starts_of (stack_tree s)) (sym stack);
       codes = subst (λ (s : Stack). AreCodes (stack_tree s) (codes_in g)) (sym stack)
           (subst (λ (c : Option CodesTree). AreCodes (stack_tree (rc_value m.stack)) c) (sym codes) is.codes_are);

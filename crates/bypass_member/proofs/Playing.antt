@@ -220,23 +220,23 @@ module _ (stack : List LayerTree) (here : Here) (id : ℕ) (states : List State)
 
 -- the states stay the member's
 pub members_stay : (g : Ground) (states : List State) (what : Entered) (news : List State) →
-    IsIn (stack_of g) g.most g.here.view g.id states → news ≡ (step_from (stack_of g) g.here g.id states what).work.states →
-    HasMembers (stack_of g) g.most g.here.view g.id news
+    IsIn (stack_of g) g.most g.here.now.view g.id states → news ≡ (step_from (stack_of g) g.here.now g.id states what).work.states →
+    HasMembers (stack_of g) g.most g.here.now.view g.id news
 members_stay g states what news is_in all = record {
   few = is_in.members.few;
-  own = subst (λ (those : List State). AreOf (input_at g.here.view g.id) (stack_of g) those) (sym all)
-      (runs_keep_members (input_at g.here.view g.id) (stack_of g) states most_turns (first_task (stack_of g) g.here.rank what) is_in.members.own);
+  own = subst (λ (those : List State). AreOf (input_at g.here.now.view g.id) (stack_of g) those) (sym all)
+      (runs_keep_members (input_at g.here.now.view g.id) (stack_of g) states most_turns (first_task (stack_of g) g.here.now.rank what) is_in.members.own);
 }
 
 -- the member is between two steps again
 module _ (g : Ground) (w : Works) (what : Entered) where
   pub played : (q : List Held) (ts : Buffer PoolTask) (first : PoolTask) (before : ℕ) (mid : Works) (after : ℕ) (result : Predicted) (last : Works) (begun out : Gathered) →
-      IsReady (stack_of g) g.most w → IsIn (stack_of g) g.most g.here.view g.id (states_in w) →
-      BringsIn (stack_of g) g.here.rank w.pool q what first → ts ≡ buffer (first ∷ []) w.tasks.capacity →
+      IsReady (stack_of g) g.most w → IsIn (stack_of g) g.most g.here.now.view g.id (states_in w) →
+      BringsIn (stack_of g) g.here.now.rank w.pool q what first → ts ≡ buffer (first ∷ []) w.tasks.capacity →
       HasRun (stack_of g) (record w { pool = q; tasks = ts }) first before mid after result →
-      Ended (stack_of g) g.here g.id (states_in w) what (record w { pool = q; tasks = ts }) before mid after result →
+      Ended (stack_of g) g.here.now g.id (states_in w) what (record w { pool = q; tasks = ts }) before mid after result →
       Returned mid.pool last.pool (sent_refs mid.outs.items) → last.layers ≡ mid.layers → last.tasks ≡ mid.tasks →
-      last.outs ≡ buffer [] mid.outs.capacity → begun.outputs ≡ [] → begun.here ≡ g.here →
+      last.outs ≡ buffer [] mid.outs.capacity → begun.outputs ≡ [] → begun.here ≡ g.here.now →
       out ≡ record begun { outputs = begun.outputs ++ outputs_in begun.here mid.pool mid.outs.items } →
       HasPlayed g (states_in w) (taken_in w) what last out before after result
   played q ts first before mid after result last begun out ready is_in brings only has ended returned layers tasks outs none here gathered =
@@ -244,7 +244,7 @@ module _ (g : Ground) (w : Works) (what : Entered) where
       (covers_turned mid.pool (refs_in mid) (sent_refs mid.outs.items) has.exact) has.stand in
       let same : states_in last ≡ states_in mid =
       ap (λ (v : Vec FileLayer Global). map (state_in last.pool) v.items) layers ∙ stays.1 in
-      let all : states_in last ≡ (step_from (stack_of g) g.here g.id (states_in w) what).work.states = same ∙ ended.states_are in record {
+      let all : states_in last ≡ (step_from (stack_of g) g.here.now g.id (states_in w) what).work.states = same ∙ ended.states_are in record {
         ready = record {
           stand = subst (λ (v : Vec FileLayer Global). Stand place_of tree_of IsInOrder (stack_of g) last.pool v.items) (sym layers) stays.0;
           exact = subst (λ (v : Vec FileLayer Global). Exact last.pool (flat_map refs_of v.items)) (sym layers)
@@ -262,8 +262,8 @@ module _ (g : Ground) (w : Works) (what : Entered) where
             ap (λ (o : Gathered). o.outputs) gathered
             ∙ ap (λ (os : List (Output × Option ℕ)). os ++ outputs_in begun.here mid.pool mid.outs.items) none
             ∙ ap (λ (h : Here). outputs_in h mid.pool mid.outs.items) here
-            ∙ ap (λ (xs : List (Dir × Event)). map (full_output g.here) xs) ended.outs
-            ∙ full_twice g.here (step_from (stack_of g) g.here g.id (states_in w) what).work.outs;
+            ∙ ap (λ (xs : List (Dir × Event)). map (full_output g.here.now) xs) ended.outs
+            ∙ full_twice g.here.now (step_from (stack_of g) g.here.now g.id (states_in w) what).work.outs;
         here = ap (λ (o : Gathered). o.here) gathered ∙ here;
         predicted = ended.predicted;
         visits = ended.visits;
@@ -272,19 +272,19 @@ module _ (g : Ground) (w : Works) (what : Entered) where
 
 -- what all steps share: the ground, what entered and the run
 module _ (g : Ground) (w : Works) (what : Entered) (q : List Held) (first : PoolTask) (before : ℕ) (mid : Works) (after : ℕ) (result : Predicted)
-    (ground : IsGround g) (ready : IsReady (stack_of g) g.most w) (is_in : IsIn (stack_of g) g.most g.here.view g.id (states_in w))
-    (is_entered : IsEntered (stack_of g) what) (brings : BringsIn (stack_of g) g.here.rank w.pool q what first)
+    (ground : IsGround g) (ready : IsReady (stack_of g) g.most w) (is_in : IsIn (stack_of g) g.most g.here.now.view g.id (states_in w))
+    (is_entered : IsEntered (stack_of g) what) (brings : BringsIn (stack_of g) g.here.now.rank w.pool q what first)
     (ts : Buffer PoolTask) (only : ts ≡ buffer (first ∷ []) w.tasks.capacity)
     (has : HasRun (stack_of g) (record w { pool = q; tasks = ts }) first before mid after result) where
-  pub ended_so : Ended (stack_of g) g.here g.id (states_in w) what (record w { pool = q; tasks = ts }) before mid after result
-  ended_so = ended (stack_of g) g.here g.id (states_in w) what (record w { pool = q; tasks = ts }) first before mid after result
-      (same_states (stack_of g) g.most g.id g.here what ground.here is_entered w q first ready is_in brings ts only) brings.seen has
+  pub ended_so : Ended (stack_of g) g.here.now g.id (states_in w) what (record w { pool = q; tasks = ts }) before mid after result
+  ended_so = ended (stack_of g) g.here.now g.id (states_in w) what (record w { pool = q; tasks = ts }) first before mid after result
+      (same_states (stack_of g) g.most g.id g.here.now what ground.here is_entered w q first ready is_in brings ts only) brings.seen has
 
-  a_step : IsStep (stack_of g) g.here (states_in w) what
+  a_step : IsStep (stack_of g) g.here.now (states_in w) what
   a_step = record { typed = ground.typed; at = ground.here; states_are = is_in.inside_is.states_are; input = is_entered }
 
   pub all_bring : AllByRecursion BringsAsKind mid.outs.items
-  all_bring = outs_bring (stack_of g) g.here g.id (states_in w) what a_step mid.pool mid.outs.items ended_so.outs
+  all_bring = outs_bring (stack_of g) g.here.now g.id (states_in w) what a_step mid.pool mid.outs.items ended_so.outs
 
   pub all_few : accepted (stack_of g) ≡ Ok (stack_of g) → length mid.outs.items ≤ largest_weight (stack_of g)
-  all_few accepts = outs_few (stack_of g) g.here g.id (states_in w) what a_step accepts mid.pool mid.outs.items ended_so.outs
+  all_few accepts = outs_few (stack_of g) g.here.now g.id (states_in w) what a_step accepts mid.pool mid.outs.items ended_so.outs

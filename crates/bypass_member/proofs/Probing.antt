@@ -80,28 +80,28 @@ module _ (g : Ground) (w : Works) (what : Entered)
     lacked = untold (stack_of g) (plans_in g) (step_over g (states_in w) what) un none;
   }
 
-  pub lacks_some : IsGround g → IsIn (stack_of g) g.most g.here.view g.id (states_in w) → IsSound (stack_of g) → (all : AllAsked) →
+  pub lacks_some : IsGround g → IsIn (stack_of g) g.most g.here.now.view g.id (states_in w) → IsSound (stack_of g) → (all : AllAsked) →
       AreChecksOf (stack_of g) all → IsEntered (stack_of g) what → MissesAreTold → is_some (entry_named (plans_in g) what) ≡ true → (e : EntryOf) →
-      e ≡ entry_for (plans_in g) what → (i : Input) → i ≡ step_input (plans_in g) g.here what → (states : List State) → states ≡ states_in w →
+      e ≡ entry_for (plans_in g) what → (i : Input) → i ≡ step_input (plans_in g) g.here.now what → (states : List State) → states ≡ states_in w →
       (miss : Miss) → miss_meant miss ≡ miss_asked all (entry_meant e) i states →
       Lacks (stack_of g) (plans_in g) (step_over g (states_in w) what) (Some miss)
   lacks_some ground is_in sound all checks is_entered law some e entry i input states are miss told = record {
     uncommon = not_common (stack_of g) (plans_in g) (step_over g (states_in w) what) un;
     lacked =
-        law (stack_of g) (plans_in g) all g.here g.id (states_in w) what sound ground.plans checks
+        law (stack_of g) (plans_in g) all g.here.now g.id (states_in w) what sound ground.plans checks
         (record { typed = ground.typed; at = ground.here; states_are = is_in.inside_is.states_are; input = is_entered })
         (own g w what ground is_in) un
-        ∙ ap (option_map (λ (x : lack.Entry). miss_asked all x (step_input (plans_in g) g.here what) (states_in w))) (named (plans_in g) what some)
+        ∙ ap (option_map (λ (x : lack.Entry). miss_asked all x (step_input (plans_in g) g.here.now what) (states_in w))) (named (plans_in g) what some)
         ∙ (λ k. Some (miss_asked all (entry_meant (sym entry k)) (sym input k) (sym are k)))
         ∙ ap (λ (m : lack.Miss). Some m) (sym told);
   }
 
 -- where nothing had changed before it was asked what the step lacks
 module _ (g : Ground) (old new : Works) (what : Entered) (same : AreSame old new) where
-  at_same : IsIn (stack_of g) g.most g.here.view g.id (states_in old) → IsIn (stack_of g) g.most g.here.view g.id (states_in new)
-  at_same is_in = subst (IsIn (stack_of g) g.most g.here.view g.id) (sym (same_states old new same)) is_in
+  at_same : IsIn (stack_of g) g.most g.here.now.view g.id (states_in old) → IsIn (stack_of g) g.most g.here.now.view g.id (states_in new)
+  at_same is_in = subst (IsIn (stack_of g) g.most g.here.now.view g.id) (sym (same_states old new same)) is_in
 
-  pub not_made : IsReady (stack_of g) g.most old → IsIn (stack_of g) g.most g.here.view g.id (states_in old) → (out : Gathered) → out.outputs ≡ [] →
+  pub not_made : IsReady (stack_of g) g.most old → IsIn (stack_of g) g.most g.here.now.view g.id (states_in old) → (out : Gathered) → out.outputs ≡ [] →
       (miss : Option Miss) → Lacks (stack_of g) (plans_in g) (step_over g (states_in new) what) miss → IsNotMade g old what new out miss
   not_made ready is_in out none miss lacks = record {
     same = same;

@@ -71,20 +71,20 @@ module _ (plans : List Plan) (here : Here) where
   its_ltime (from_peer p) = refl
 
 -- so the code of an entry handles its step
-module _ (g : Ground) (w : Works) (what : Entered) (ground : IsGround g) (is_in : IsIn (stack_of g) g.most g.here.view g.id (states_in w)) where
-  pub own : AreOf (step_input (plans_in g) g.here what) (stack_of g) (states_in w)
-  own = are_also (input_at g.here.view g.id) (step_input (plans_in g) g.here what)
-      (sym ground.rank ∙ sym (its_rank (plans_in g) g.here what))
-      (sym (its_count (plans_in g) g.here what))
-      (sym (its_ltime (plans_in g) g.here what)) (stack_of g) (states_in w) is_in.members.own
+module _ (g : Ground) (w : Works) (what : Entered) (ground : IsGround g) (is_in : IsIn (stack_of g) g.most g.here.now.view g.id (states_in w)) where
+  pub own : AreOf (step_input (plans_in g) g.here.now what) (stack_of g) (states_in w)
+  own = are_also (input_at g.here.now.view g.id) (step_input (plans_in g) g.here.now what)
+      (sym ground.rank ∙ sym (its_rank (plans_in g) g.here.now what))
+      (sym (its_count (plans_in g) g.here.now what))
+      (sym (its_ltime (plans_in g) g.here.now what)) (stack_of g) (states_in w) is_in.members.own
 
   pub handles : StepsAreHandled → accepted (stack_of g) ≡ Ok (stack_of g) → IsEntered (stack_of g) what → (codes : CodesTree) →
       codes_in g ≡ Some codes → (case : Case) → Handles g (states_in w) what codes case
   handles law accepts is_entered codes is case =
       let of : AreCodesOf (stack_of g) codes = subst (λ (c : Option CodesTree). AreCodes (stack_of g) c) is ground.codes in
-      subst (λ (c : CodesTree). IsHandled case (stack_of g) (plans_in g) g.here g.id (states_in w) what
+      subst (λ (c : CodesTree). IsHandled case (stack_of g) (plans_in g) g.here.now g.id (states_in w) what
       (code_at c (entry_for (plans_in g) what) case)) (sym of.is)
-      (law case (stack_of g) (plans_in g) of.bypasses g.here g.id (states_in w) what ground.typed accepts ground.plans of.of
+      (law case (stack_of g) (plans_in g) of.bypasses g.here.now g.id (states_in w) what ground.typed accepts ground.plans of.of
       (record { typed = ground.typed; at = ground.here; states_are = is_in.inside_is.states_are; input = is_entered }) own)
 
 -- places stay
@@ -102,17 +102,17 @@ serves_on codes v v' serves empty same = record {
   };
 }
 
-module _ (case : Case) (g : Ground) (old : Works) (what : Entered) (code : Code) (i : Input) (same : i ≡ step_input (plans_in g) g.here what)
+module _ (case : Case) (g : Ground) (old : Works) (what : Entered) (code : Code) (i : Input) (same : i ≡ step_input (plans_in g) g.here.now what)
     (ready : IsReady (stack_of g) g.most old)
-    (handled : HandlesStep case (stack_of g) (plans_in g) g.here g.id (states_in old) what code) (out : Gathered) (begun : IsBegun g out) where
+    (handled : HandlesStep case (stack_of g) (plans_in g) g.here.now g.id (states_in old) what code) (out : Gathered) (begun : IsBegun g out) where
   trees : map tree_of old.layers.items ≡ stack_of g
   trees = ready.stand.layers
 
   -- code can be performed
-  pub can_perform : (v : Values) → IsIn (stack_of g) g.most g.here.view g.id (states_in old) → length (stack_of g) ≤ most_places →
+  pub can_perform : (v : Values) → IsIn (stack_of g) g.most g.here.now.view g.id (states_in old) → length (stack_of g) ≤ most_places →
       i.count ≤ most_members → length i.body ≤ longest_body → HasRoom v code → IsEmpty v → CanPerform code i old.pool old.layers.items v out
   can_perform v is_in short members body room empty =
-      let pool = own_pool (stack_of g) g.most g.id g.here.view old ready is_in in
+      let pool = own_pool (stack_of g) g.most g.id g.here.now.view old ready is_in in
       let rows_few = pool.few in let rows_within = pool.within in let size = pool.slots in
       let shared = slots-shared old.pool (refs_in old) pool.exact in
       let joins = handled.joins in let none = begun.none in let places = begun.places in record {
@@ -158,8 +158,8 @@ module _ (case : Case) (g : Ground) (old : Works) (what : Entered) (code : Code)
               did.outputs
               ∙ ap (λ (os : List (Output × Option ℕ)). os ++ map (full_output out.here) did.end.outs) begun.none
               ∙ ap (λ (here : Here). map (full_output here) did.end.outs) begun.here
-              ∙ ap (λ (xs : List (Dir × Event)). map (full_output g.here) xs) end.outs
-              ∙ full_twice g.here (step_over g (states_in old) what).work.outs;
+              ∙ ap (λ (xs : List (Dir × Event)). map (full_output g.here.now) xs) end.outs
+              ∙ full_twice g.here.now (step_over g (states_in old) what).work.outs;
           here = did.here ∙ begun.here;
           taken = did.taken;
         };
@@ -190,9 +190,9 @@ places_same code i p layers v out q layers' v' out' false did = ap (λ (o : Gath
 -- the code that is asked for is that of the entry
 pub handled_at : (case : Case) (g : Ground) (states : List State) (what : Entered) (t : Tried) (r : Option Code) → IsTried g what t →
     Handles g states what t.codes.now case → r ≡ code_at t.codes.now t.entry case →
-    IsHandled case (stack_of g) (plans_in g) g.here g.id states what r
+    IsHandled case (stack_of g) (plans_in g) g.here.now g.id states what r
 handled_at case g states what t r tried handles at =
-    subst (λ (o : Option Code). IsHandled case (stack_of g) (plans_in g) g.here g.id states what o)
+    subst (λ (o : Option Code). IsHandled case (stack_of g) (plans_in g) g.here.now g.id states what o)
     (sym (at ∙ ap (λ (e : EntryOf). code_at t.codes.now e case) tried.entry)) handles
 
 -- the layers are performed on as they are lent

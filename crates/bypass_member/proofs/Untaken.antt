@@ -52,7 +52,7 @@ same_placed m m' is same = ap placed is ∙ (λ i. record {
 
 module _ (p : Placed) (view : View) (states : List State) (input : Input) (is : p.member ≡ inside view states) where
   pub left : (g : Ground) (what : Entered) (old works : Works) (gathered : Gathered) (miss : Option Miss) (new : Placed) →
-      stack_of g ≡ p.stack → plans_in g ≡ p.plans → g.here ≡ here_in p view → g.id ≡ p.id →
+      stack_of g ≡ p.stack → plans_in g ≡ p.plans → g.here.now ≡ here_in p view → g.id ≡ p.id →
       entered p.stack p.plans (here_in p view) input ≡ Ok what → states_in old ≡ states → IsNotMade g old what works gathered miss → new ≡ p →
       IsNotTaken p input new gathered.outputs miss
   left g what old works gathered miss new stack plans here id enters are not same =

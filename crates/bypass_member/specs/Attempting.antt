@@ -16,7 +16,7 @@ use Rattle.bypass_member.specs.declared.works.Works.{Works}
 pub record IsNotMade (g : Ground) (old : Works) (what : Entered) (new : Works) (out : Gathered) (miss : Option Miss) : Type 0 where
   pub same : AreSame old new
   pub ready : IsReady (stack_of g) g.most new
-  pub at : IsIn (stack_of g) g.most g.here.view g.id (states_in new)
+  pub at : IsIn (stack_of g) g.most g.here.now.view g.id (states_in new)
   pub none : out.outputs ≡ []
   pub lacks : Lacks (stack_of g) (plans_in g) (step_over g (states_in old) what) miss
 

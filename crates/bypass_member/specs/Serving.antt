@@ -1,8 +1,9 @@
 -- The code by which members run, and what is kept ready for its runs.
-use Rattle.std.specs.Prelude.{◌≡◌, ℕ, ◌≤◌, List, length, vec_capacity, Option, Some, None}
+use Rattle.std.specs.Prelude.{◌≡◌, List, vec_capacity, Option, Some, None}
 use Rattle.std.specs.List.{AllByRecursion}
 use Rattle.layer_mean.specs.Tree.{LayerTree}
 use Rattle.stack_mean.specs.Plan.{Plan}
+use Rattle.packet_short.specs.Keeping.{HasAtMost}
 use Rattle.bypass_mean.specs.Bypasses.{Bypasses}
 use Rattle.bypass_laws.specs.Stack.{AreOfStack}
 use Rattle.trace_reads.specs.Registers.{IsEmpty}
@@ -25,10 +26,6 @@ AreCodes stack None = Unit {0}
 abbrev pub Serves : Option CodesTree → Values → Type 0
 Serves (Some codes) v = ServesAll codes v
 Serves None v = IsEmpty v
-
--- A plan has so many fields at most.
-abbrev pub HasAtMost : ℕ → Plan → Type 0
-HasAtMost most plan = length plan.fields ≤ most
 
 -- So it is between two runs, with a place for each field of each plan.
 pub record IsSpare (codes : Option CodesTree) (plans : List Plan) (s : Scratch) : Type 0 where

@@ -1,5 +1,6 @@
 -- A step of a member in a view, over what it works with.
 use Rattle.std.specs.Prelude.{◌≡◌, ℕ, ◌+◌, Bool, List, [], map, Option, None, option_map}
+use Rattle.std.specs.Rc.{rc_value}
 use Rattle.layer_mean.specs.State.{State}
 use Rattle.layer_mean.specs.Tree.{LayerTree}
 use Rattle.stack_mean.specs.Plan.{Plan}
@@ -49,20 +50,20 @@ mode_of g = mode_with (codes_in g)
 pub record IsGround (g : Ground) : Type 0 where
   pub typed : TypedStack (stack_of g)
   pub plans : plans_in g ≡ plans_of (stack_of g)
-  pub entries : g.entries.now ≡ short_shapes (stack_of g) (plans_in g)
-  pub starts : starts_tree g.starts ≡ starts_of (stack_of g)
+  pub entries : rc_value g.entries.now ≡ short_shapes (stack_of g) (plans_in g)
+  pub starts : starts_tree g.starts.now ≡ starts_of (stack_of g)
   pub codes : AreCodes (stack_of g) (codes_in g)
   pub bare : g.bare.now ≡ []
-  pub here : IsHere g.here
-  pub rank : g.here.rank ≡ rank_of g.here.view g.id
+  pub here : IsHere g.here.now
+  pub rank : g.here.now.rank ≡ rank_of g.here.now.view g.id
 
 -- The step of a member whose layers have these states, from what entered.
 abbrev pub step_over : Ground → List State → Entered → Step
-step_over g states what = step_from (stack_of g) g.here g.id states what
+step_over g states what = step_from (stack_of g) g.here.now g.id states what
 
 -- How many events each layer has taken behind the run of that step.
 abbrev pub taken_over : Ground → List State → Entered → List ℕ → List ℕ
-taken_over g states what taken = taken_behind (stack_of g) states (first_task (stack_of g) g.here.rank what) taken
+taken_over g states what taken = taken_behind (stack_of g) states (first_task (stack_of g) g.here.now.rank what) taken
 
 -- An output that isn't sent short.
 abbrev pub in_full : Output → Output × Option ℕ
@@ -73,9 +74,9 @@ pub record HasPlayed (g : Ground) (states : List State) (counts : List ℕ) (wha
     (result : Predicted) : Type 0 where
   pub ready : IsReady (stack_of g) g.most new
   pub states_are : states_in new ≡ (step_over g states what).work.states
-  pub members : HasMembers (stack_of g) g.most g.here.view g.id (states_in new)
+  pub members : HasMembers (stack_of g) g.most g.here.now.view g.id (states_in new)
   pub outputs : out.outputs ≡ map in_full (step_over g states what).outputs
-  pub here : out.here ≡ g.here
+  pub here : out.here ≡ g.here.now
   pub predicted : result ≡ as_predicted (step_over g states what).work.decided
   pub visits : after ≡ before + (step_over g states what).work.visits
   pub taken : taken_in new ≡ taken_over g states what counts
@@ -84,9 +85,9 @@ pub record HasPlayed (g : Ground) (states : List State) (counts : List ℕ) (wha
 pub record HasGone (g : Ground) (old : Works) (what : Entered) (new : Works) (out : Gathered) (before after : ℕ) (result : Bool) : Type 0 where
   pub ready : IsReady (stack_of g) g.most new
   pub states_are : states_in new ≡ (step_over g (states_in old) what).work.states
-  pub members : HasMembers (stack_of g) g.most g.here.view g.id (states_in new)
+  pub members : HasMembers (stack_of g) g.most g.here.now.view g.id (states_in new)
   pub outputs : out.outputs ≡ as_sent (mode_of g) (stack_of g) (plans_in g) (step_over g (states_in old) what)
-  pub here : out.here ≡ g.here
+  pub here : out.here ≡ g.here.now
   pub common : result ≡ is_common (stack_of g) (plans_in g) (step_over g (states_in old) what)
   pub visits : after ≡ before + counted (mode_of g) (stack_of g) (plans_in g) (step_over g (states_in old) what)
   pub taken : IsTakenSo (mode_of g) (is_common (stack_of g) (plans_in g) (step_over g (states_in old) what)) (taken_in old)
@@ -95,10 +96,10 @@ pub record HasGone (g : Ground) (old : Works) (what : Entered) (new : Works) (ou
 -- The step was taken.
 pub record HasTaken (g : Ground) (old : Works) (what : Entered) (new : Works) (out : Gathered) (before after : ℕ) (result : Took) : Type 0 where
   pub ready : IsReady (stack_of g) g.most new
-  pub at : IsAt (stack_of g) g.most g.id (view_behind g.here.view result.change) (states_in new)
-  pub member : member_in (view_behind g.here.view result.change) (states_in new) ≡ member_behind g.here.view (step_over g (states_in old) what)
+  pub at : IsAt (stack_of g) g.most g.id (view_behind g.here.now.view result.change) (states_in new)
+  pub member : member_in (view_behind g.here.now.view result.change) (states_in new) ≡ member_behind g.here.now.view (step_over g (states_in old) what)
   pub outputs : out.outputs ≡ as_sent (mode_of g) (stack_of g) (plans_in g) (step_over g (states_in old) what)
-  pub here : out.here ≡ g.here
+  pub here : out.here ≡ g.here.now
   pub common : result.common ≡ is_common (stack_of g) (plans_in g) (step_over g (states_in old) what)
   pub change : result.change ≡ changed (step_over g (states_in old) what).installs
   pub visits : after ≡ before + counted (mode_of g) (stack_of g) (plans_in g) (step_over g (states_in old) what)

@@ -5,6 +5,7 @@ use Rattle.msg_core.specs.View.{most_members}
 use Rattle.layer_mean.specs.State.{State}
 use Rattle.layer_mean.specs.declared.run.Case.{Case}
 use Rattle.packet_mean.specs.Plan.{fields_of, variable}
+use Rattle.packet_mean.specs.declared.here.Here.{Here}
 use Rattle.stack_mean.specs.Plan.{Plan}
 use Rattle.stack_mean.specs.Acceptance.{largest_weight}
 use Rattle.run_mean.specs.Mode.{Mode, layered, bypass}
@@ -16,9 +17,11 @@ use Rattle.trace_reads.specs.Registers.{input_of}
 use Rattle.bypass_codes.specs.Codes.{CodesTree, code_at}
 use Rattle.handler_laws.specs.Handled.{step_input, IsHandled}
 use Rattle.step_outputs.specs.Gathered.{Gathered}
+use Rattle.bypass_member.specs.Judged.{entry_meant}
 use Rattle.bypass_member.specs.Stepping.{stack_of, plans_in, codes_in, mode_of, in_full, step_over, HasGone}
 use Rattle.bypass_member.specs.Working.{states_in, taken_in, AreSame, IsReady}
 use Rattle.bypass_member.specs.declared.commons.Tried.{Tried}
+use Rattle.bypass_member.specs.declared.entry.Entry.{Entry}
 use Rattle.bypass_member.specs.declared.ground.Ground.{Ground}
 use Rattle.bypass_member.specs.declared.works.Works.{Works}
 
@@ -27,31 +30,36 @@ abbrev pub fields_given : List Plan → Entered → List ℕ
 fields_given plans (from_peer p) = variable (entry_fields plans (from_peer p)) (fields_of p.message)
 fields_given plans what = []
 
+-- Where a member runs by code, these are the fields that the code of what entered is given.
+abbrev pub AreGiven : Ground → Entry → List ℕ → Type 0
+AreGiven g entry fields = (codes : CodesTree) → codes_in g ≡ Some codes → (here : Here) →
+    fields ≡ fields_given (plans_in g) (entry_meant here entry)
+
 -- The code is looked for by the entry of what entered, and given what the member and its input say.
 pub record IsTried (g : Ground) (what : Entered) (t : Tried) : Type 0 where
   pub codes : codes_in g ≡ Some t.codes.now
   pub entry : t.entry ≡ entry_for (plans_in g) what
-  pub given : input_of t.given ≡ step_input (plans_in g) g.here what
+  pub given : input_of t.given ≡ step_input (plans_in g) g.here.now what
   pub members : t.given.count ≤ most_members
   pub body : length t.given.body.now ≤ longest_body
 
 -- Outputs are begun where the member stands, with a place for each that a step may have.
 pub record IsBegun (g : Ground) (out : Gathered) : Type 0 where
-  pub here : out.here ≡ g.here
+  pub here : out.here ≡ g.here.now
   pub none : out.outputs ≡ []
   pub places : out.places ≡ largest_weight (stack_of g)
 
 -- The code in a case does what the step does.
 abbrev pub Handles : Ground → List State → Entered → CodesTree → Case → Type 0
 Handles g states what codes case =
-    IsHandled case (stack_of g) (plans_in g) g.here g.id states what (code_at codes (entry_for (plans_in g) what) case)
+    IsHandled case (stack_of g) (plans_in g) g.here.now g.id states what (code_at codes (entry_for (plans_in g) what) case)
 
 -- The step was made by its code: the member is between two steps, its states and what came out are those of the step, and no layer took an event.
 pub record IsMade (g : Ground) (old : Works) (what : Entered) (new : Works) (out : Gathered) : Type 0 where
   pub ready : IsReady (stack_of g) g.most new
   pub states_are : states_in new ≡ (step_over g (states_in old) what).work.states
   pub outputs : out.outputs ≡ map in_full (step_over g (states_in old) what).outputs
-  pub here : out.here ≡ g.here
+  pub here : out.here ≡ g.here.now
   pub taken : taken_in new ≡ taken_in old
 
 -- Of a case: its code passed, and the step is common in the case and was made; or it isn't, and nothing has changed.

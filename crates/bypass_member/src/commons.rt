@@ -14,13 +14,14 @@ ghost use Rattle.trace_reads.specs.Registers.{input_of};
 ghost use Rattle.bypass_codes.specs.Room.{ServesAll};
 ghost use Rattle.handler_laws.specs.Handled.{step_input};
 ghost use Rattle.bypass_member.specs.Judged.{body_of, entry_meant, LiesWithin};
-ghost use Rattle.bypass_member.specs.Serving.{HasAtMost, IsSpare};
+ghost use Rattle.packet_short.specs.Keeping.{HasAtMost};
+ghost use Rattle.bypass_member.specs.Serving.{IsSpare};
 ghost use Rattle.bypass_member.specs.Stepping.{codes_in, plans_in, stack_of, IsGround};
-ghost use Rattle.bypass_member.specs.Trying.{fields_given, Handles, IsBegun, IsTried, MakesCommon, Tries};
+ghost use Rattle.bypass_member.specs.Trying.{fields_given, AreGiven, Handles, IsBegun, IsTried, MakesCommon, Tries};
 ghost use Rattle.bypass_member.specs.Viewing.{IsIn};
 ghost use Rattle.bypass_member.specs.Working.{states_in, IsReady};
 
-use crate::entry::Entry;
+use crate::entry::{Entry, entry_of};
 use crate::ground::Ground;
 use crate::scratch::Scratch;
 use crate::works::Works;
@@ -29,7 +30,7 @@ use handler_laws::steps_are_handled;
 use layer_mean::Case;
 use packet_full::member_count;
 use packet_mean::Here;
-use packet_short::variable_fields;
+use packet_short::fits_with_fields;
 use stack_shapes::{EntryOf, Plans};
 use step_outputs::Outputs;
 use trace_reads::{Given, Values};
@@ -43,20 +44,40 @@ pub(crate) struct Tried<'c, 'g> {
     pub(crate) given: Given<'g>,
 }
 
-/// Keeps the fields of what entered that the plan of its entry leaves variable; others than packets have none.
-pub(crate) fn keep_fields(plans: &Plans, what: EntryOf, entry: &Entry<'_>, fields: &mut Vec<u32>)
-    requires what { (here : stands.Here) → what ≡ entry_for (plans_tree plans.now) (entry_meant here entry.now) }
+/// The entry by which it is told whether a step is common. The fields of a packet that its plan leaves variable are kept;
+/// others than packets have none.
+#[inline(always)]
+pub(crate) fn keep_entry(plans: &Plans, entry: &Entry<'_>, fields: &mut Vec<u32>) -> EntryOf
     requires room { AllByRecursion (HasAtMost (vec_capacity fields.old)) (plans_tree plans.now) }
+    ensures what { (here : stands.Here) → result ≡ entry_for (plans_tree plans.now) (entry_meant here entry.now) }
     ensures fields { (here : stands.Here) → fields.new.items ≡ fields_given (plans_tree plans.now) (entry_meant here entry.now) }
     ensures capacity { vec_capacity fields.new ≡ vec_capacity fields.old }
 {
     fields.clear();
-    if let Entry::Packet(scan, _) = entry {
-        if let EntryOf::Plan(number) = what {
-            if let Some(plan) = plans.get(number) {
-                variable_fields(plan, &scan.headers, fields);
-            }
-        }
+    match entry {
+        Entry::Cast(_) => EntryOf::Cast,
+        Entry::Send(_, _) => EntryOf::Send,
+        Entry::Leave => EntryOf::None,
+        Entry::Tick(_) => EntryOf::None,
+        Entry::Packet(scan, _) => match fits_with_fields(plans, scan, fields) {
+            Some(number) => EntryOf::Plan(number),
+            None => EntryOf::None,
+        },
+    }
+}
+
+/// The entry by which it is told whether a step is common; where it may be made by code, with the fields that this is
+/// given.
+#[inline(always)]
+pub(crate) fn entry_in(ground: &Ground<'_>, entry: &Entry<'_>, fields: &mut Vec<u32>) -> EntryOf
+    requires room { AllByRecursion (HasAtMost (vec_capacity fields.old)) (plans_in ground.now) }
+    ensures what { (here : stands.Here) → result ≡ entry_for (plans_in ground.now) (entry_meant here entry.now) }
+    ensures fields { AreGiven ground.now entry.now fields.new.items }
+    ensures capacity { vec_capacity fields.new ≡ vec_capacity fields.old }
+{
+    match ground.codes {
+        Some(_) => keep_entry(ground.plans, entry, fields),
+        None => entry_of(ground.plans, entry),
     }
 }
 
@@ -111,6 +132,7 @@ pub(crate) fn given_of<'a>(
 }
 
 /// Makes a step by its code in a case, if there is some and it passes, and tells whether it did.
+#[inline(always)]
 fn try_case(
     works: &mut Works,
     values: &mut Values,
@@ -121,12 +143,12 @@ fn try_case(
     out: &mut Outputs,
 ) -> bool
     requires ready { IsReady (stack_of ground.now) ground.now.most works.old }
-    requires is_in { IsIn (stack_of ground.now) ground.now.most ground.now.here.view ground.now.id (states_in works.old) }
-    requires tried { IsTried ground.now (entry_meant ground.now.here _entry.now) tried.now }
-    requires handles { Handles ground.now (states_in works.old) (entry_meant ground.now.here _entry.now) tried.now.codes.now case }
+    requires is_in { IsIn (stack_of ground.now) ground.now.most ground.now.here.now.view ground.now.id (states_in works.old) }
+    requires tried { IsTried ground.now (entry_meant ground.now.here.now _entry.now) tried.now }
+    requires handles { Handles ground.now (states_in works.old) (entry_meant ground.now.here.now _entry.now) tried.now.codes.now case }
     requires serves { ServesAll tried.now.codes.now values.old }
     requires begun { IsBegun ground.now out.old }
-    ensures tries { Tries case ground.now works.old (entry_meant ground.now.here _entry.now) out.old works.new out.new result }
+    ensures tries { Tries case ground.now works.old (entry_meant ground.now.here.now _entry.now) out.old works.new out.new result }
     ensures serves { ServesAll tried.now.codes.now values.new }
     ensures places { out.new.places ≡ out.old.places }
 {
@@ -139,6 +161,7 @@ fn try_case(
 }
 
 /// Makes a step by its code in the first case in which it passes, and tells that case, if there is one.
+#[inline(always)]
 fn try_cases(
     works: &mut Works,
     values: &mut Values,
@@ -148,13 +171,13 @@ fn try_cases(
     out: &mut Outputs,
 ) -> Option<Case>
     requires ready { IsReady (stack_of ground.now) ground.now.most works.old }
-    requires is_in { IsIn (stack_of ground.now) ground.now.most ground.now.here.view ground.now.id (states_in works.old) }
-    requires tried { IsTried ground.now (entry_meant ground.now.here entry.now) tried.now }
-    requires first { Handles ground.now (states_in works.old) (entry_meant ground.now.here entry.now) tried.now.codes.now cases.First }
-    requires second { Handles ground.now (states_in works.old) (entry_meant ground.now.here entry.now) tried.now.codes.now cases.Second }
+    requires is_in { IsIn (stack_of ground.now) ground.now.most ground.now.here.now.view ground.now.id (states_in works.old) }
+    requires tried { IsTried ground.now (entry_meant ground.now.here.now entry.now) tried.now }
+    requires first { Handles ground.now (states_in works.old) (entry_meant ground.now.here.now entry.now) tried.now.codes.now cases.First }
+    requires second { Handles ground.now (states_in works.old) (entry_meant ground.now.here.now entry.now) tried.now.codes.now cases.Second }
     requires serves { ServesAll tried.now.codes.now values.old }
     requires begun { IsBegun ground.now out.old }
-    ensures made { MakesCommon ground.now works.old (entry_meant ground.now.here entry.now) works.new out.new result }
+    ensures made { MakesCommon ground.now works.old (entry_meant ground.now.here.now entry.now) works.new out.new result }
     ensures serves { ServesAll tried.now.codes.now values.new }
     ensures places { out.new.places ≡ out.old.places }
 {
@@ -180,13 +203,15 @@ pub(crate) fn make_common<'x>(
     requires ground { IsGround ground.now }
     requires ready { IsReady (stack_of ground.now) ground.now.most works.old }
     requires spare { IsSpare (codes_in ground.now) (plans_in ground.now) scratch.old }
-    requires is_in { IsIn (stack_of ground.now) ground.now.most ground.now.here.view ground.now.id (states_in works.old) }
-    requires entered { IsEntered (stack_of ground.now) (entry_meant ground.now.here entry.now) }
+    requires is_in { IsIn (stack_of ground.now) ground.now.most ground.now.here.now.view ground.now.id (states_in works.old) }
+    requires entered { IsEntered (stack_of ground.now) (entry_meant ground.now.here.now entry.now) }
     requires lies { LiesWithin entry.now }
     requires what { (here : stands.Here) → what ≡ entry_for (plans_in ground.now) (entry_meant here entry.now) }
+    requires fields { AreGiven ground.now entry.now scratch.old.fields.items }
     requires out { out.old.places ≡ largest_weight (stack_of ground.now) }
-    ensures made { MakesCommon ground.now works.old (entry_meant ground.now.here entry.now) works.new out.new result }
+    ensures made { MakesCommon ground.now works.old (entry_meant ground.now.here.now entry.now) works.new out.new result }
     ensures spare { IsSpare (codes_in ground.now) (plans_in ground.now) scratch.new }
+    ensures fields { scratch.new.fields ≡ scratch.old.fields }
     ensures places { out.new.places ≡ out.old.places }
 {
     let Some(codes) = ground.codes else {
@@ -194,13 +219,15 @@ pub(crate) fn make_common<'x>(
     };
     steps_are_handled();
     ground.stack.is_accepted();
-    keep_fields(ground.plans, what, entry, &mut scratch.fields);
-    let given = given_of(ground.plans, &ground.here, entry, scratch.fields.as_slice());
+    if let EntryOf::None = what {
+        return None;
+    }
+    let given = given_of(ground.plans, ground.here, entry, scratch.fields.as_slice());
     let tried = Tried {
         codes,
         entry: what,
         given,
     };
-    out.begin(ground.here);
+    out.begin(*ground.here);
     try_cases(works, &mut scratch.values, ground, &tried, entry, out)
 }

@@ -22,11 +22,11 @@ use view_core::{Change, rank};
 pub(crate) struct Ground<'a> {
     pub(crate) stack: &'a Stack,
     pub(crate) plans: &'a Plans,
-    pub(crate) entries: &'a EntryShapes,
-    pub(crate) starts: PlanStarts,
+    pub(crate) entries: &'a Rc<EntryShapes>,
+    pub(crate) starts: &'a PlanStarts,
     pub(crate) codes: Option<&'a Codes>,
     pub(crate) bare: &'a Headers,
-    pub(crate) here: Here,
+    pub(crate) here: &'a Here,
     pub(crate) id: u8,
     pub(crate) most: u8,
 }
@@ -39,6 +39,7 @@ pub(crate) struct Took {
 }
 
 /// The rank of a member in a view; 0 where it isn't in it.
+#[inline(never)]
 pub(crate) fn rank_in(view: View, id: u8) -> u8
     ensures rank { result ≡ rank_of view id }
     ensures few { result < members.most_members }
@@ -50,25 +51,19 @@ pub(crate) fn rank_in(view: View, id: u8) -> u8
     }
 }
 
-/// The rank that a member has behind a change of its view.
-pub(crate) fn rank_after(rank: u8, id: u8, change: Option<Change>) -> u8
-    ensures { (view : View) → IsRankIn (Some view) id rank → IsRankIn (view_behind view change) id result }
+/// The view that a member is in, and its rank in it, become those behind a change, if there was one.
+#[inline(always)]
+pub(crate) fn follow(view: &mut Option<View>, rank: &mut u8, id: u8, change: Option<Change>)
+    ensures view { (before : View) → view.old ≡ Some before → view.new ≡ view_behind before change }
+    ensures rank { IsRankIn view.old id rank.old → IsRankIn view.new id rank.new }
 {
     match change {
-        Some(Change::Into(next)) => rank_in(next, id),
-        Some(Change::Out) => rank,
-        None => rank,
-    }
-}
-
-/// The view that a member is in behind a change.
-pub(crate) fn view_after(view: View, change: Option<Change>) -> Option<View>
-    ensures { result ≡ view_behind view change }
-{
-    match change {
-        Some(Change::Into(next)) => Some(next),
-        Some(Change::Out) => None,
-        None => Some(view),
+        Some(Change::Into(next)) => {
+            *view = Some(next);
+            *rank = rank_in(next, id);
+        }
+        Some(Change::Out) => *view = None,
+        None => {}
     }
 }
 

@@ -2,7 +2,7 @@
 
 use crate::entry::judge;
 use crate::error::OpenError;
-use crate::ground::{Ground, Took, lent, rank_after, rank_in, view_after};
+use crate::ground::{Ground, Took, follow, lent, rank_in};
 use crate::opening::Opening;
 use crate::opens::{Kit, close_works, open_kit};
 use crate::probes::{Attempt, probed_of, try_common};
@@ -157,10 +157,10 @@ impl Member {
             stack: &self.stack,
             plans: &self.plans,
             entries: &self.entries,
-            starts: self.starts,
+            starts: &self.starts,
             codes: lent(&self.codes),
             bare: &self.bare,
-            here,
+            here: &here,
             id,
             most: self.most,
         };
@@ -172,8 +172,7 @@ impl Member {
             out,
             visits,
         );
-        self.view = view_after(view, change);
-        self.rank = rank_after(here.rank, id, change);
+        follow(&mut self.view, &mut self.rank, id, change);
         Stepped::Taken { common, change }
     }
 
@@ -208,10 +207,10 @@ impl Member {
             stack: &self.stack,
             plans: &self.plans,
             entries: &self.entries,
-            starts: self.starts,
+            starts: &self.starts,
             codes: lent(&self.codes),
             bare: &self.bare,
-            here,
+            here: &here,
             id,
             most: self.most,
         };
@@ -224,8 +223,7 @@ impl Member {
             out,
         ) {
             Attempt::Made(change) => {
-                self.view = view_after(view, change);
-                self.rank = rank_after(here.rank, id, change);
+                follow(&mut self.view, &mut self.rank, id, change);
                 Probed::Common
             }
             Attempt::Left(miss) => probed_of(miss),

@@ -1,7 +1,6 @@
 //! What entered, tried as a common step.
 
-ghost use Rattle.std.specs.Prelude.{◌≡◌, ℕ, List, Option, is_some, vec_capacity};
-ghost use Rattle.std.specs.List.{AllByRecursion};
+ghost use Rattle.std.specs.Prelude.{◌≡◌, ℕ, List, Option, is_some};
 ghost use Rattle.bypass_laws.specs.Making.{IsSound};
 ghost use Rattle.run_mean.specs.Mode.{bypass};
 ghost use Rattle.member_laws.specs.Members.{IsEntered};
@@ -16,14 +15,14 @@ ghost use Rattle.bypass_member.specs.Attempting.{Attempts};
 ghost use Rattle.bypass_member.specs.Judged.{entry_meant, LiesWithin};
 ghost use Rattle.bypass_member.specs.Placed.{Placed};
 ghost use Rattle.bypass_member.specs.Probing.{IsNotTaken, Lacks, ProbesMember, StandsWhere};
-ghost use Rattle.bypass_member.specs.Serving.{HasAtMost, IsSpare};
+ghost use Rattle.bypass_member.specs.Serving.{IsSpare};
 ghost use Rattle.bypass_member.specs.Stepping.{codes_in, mode_of, plans_in, stack_of, step_over, IsGround};
-ghost use Rattle.bypass_member.specs.Trying.{IsUncommon};
+ghost use Rattle.bypass_member.specs.Trying.{fields_given, IsUncommon};
 ghost use Rattle.bypass_member.specs.Viewing.{IsIn};
 ghost use Rattle.bypass_member.specs.Working.{states_in, IsReady};
 
-use crate::commons::{given_of, keep_fields};
-use crate::entry::{Entry, entry_of};
+use crate::commons::{given_of, keep_entry};
+use crate::entry::Entry;
 use crate::ground::Ground;
 use crate::scratch::Scratch;
 use crate::steps::make_by_code;
@@ -57,10 +56,10 @@ fn is_told(entry: &Entry<'_>) -> bool
     }
 }
 
-/// What the step of what entered lacks, which isn't common, if that is told of it. The fields of a packet are kept for that.
+/// What the step of what entered lacks, which isn't common, if that is told of it.
 fn lacked<'x>(
     works: &Works,
-    fields: &'x mut Vec<u32>,
+    fields: &'x [u32],
     ground: &Ground<'_>,
     what: EntryOf,
     entry: &'x Entry<'_>,
@@ -71,23 +70,21 @@ fn lacked<'x>(
     requires sound { IsSound (stack_of ground.now) }
     requires checks { AreChecksOf (stack_of ground.now) checks.old }
     requires ready { IsReady (stack_of ground.now) ground.now.most works.now }
-    requires is_in { IsIn (stack_of ground.now) ground.now.most ground.now.here.view ground.now.id (states_in works.now) }
-    requires room { AllByRecursion (HasAtMost (vec_capacity fields.old)) (plans_in ground.now) }
-    requires entered { IsEntered (stack_of ground.now) (entry_meant ground.now.here entry.now) }
+    requires is_in { IsIn (stack_of ground.now) ground.now.most ground.now.here.now.view ground.now.id (states_in works.now) }
+    requires entered { IsEntered (stack_of ground.now) (entry_meant ground.now.here.now entry.now) }
     requires lies { LiesWithin entry.now }
     requires what { (here : stands.Here) → what ≡ entry_for (plans_in ground.now) (entry_meant here entry.now) }
-    requires uncommon { IsUncommon (mode_of ground.now) ground.now (states_in works.now) (entry_meant ground.now.here entry.now) }
+    requires fields { fields.now ≡ fields_given (plans_in ground.now) (entry_meant ground.now.here.now entry.now) }
+    requires uncommon { IsUncommon (mode_of ground.now) ground.now (states_in works.now) (entry_meant ground.now.here.now entry.now) }
     ensures lacks { Lacks (stack_of ground.now) (plans_in ground.now)
-        (step_over ground.now (states_in works.now) (entry_meant ground.now.here entry.now)) result }
+        (step_over ground.now (states_in works.now) (entry_meant ground.now.here.now entry.now)) result }
     ensures checks { checks.new ≡ checks.old }
-    ensures capacity { vec_capacity fields.new ≡ vec_capacity fields.old }
 {
     if !is_told(entry) {
         return None;
     }
     misses_are_told();
-    keep_fields(ground.plans, what, entry, fields);
-    let given = given_of(ground.plans, &ground.here, entry, fields.as_slice());
+    let given = given_of(ground.plans, ground.here, entry, fields);
     Some(checks.miss(what, &given, works.layers.as_slice(), &works.pool))
 }
 
@@ -106,22 +103,29 @@ pub(crate) fn try_common(
     requires checks { AreChecksOf (stack_of ground.now) checks.old }
     requires ready { IsReady (stack_of ground.now) ground.now.most works.old }
     requires spare { IsSpare (codes_in ground.now) (plans_in ground.now) scratch.old }
-    requires is_in { IsIn (stack_of ground.now) ground.now.most ground.now.here.view ground.now.id (states_in works.old) }
-    requires entered { IsEntered (stack_of ground.now) (entry_meant ground.now.here entry.now) }
+    requires is_in { IsIn (stack_of ground.now) ground.now.most ground.now.here.now.view ground.now.id (states_in works.old) }
+    requires entered { IsEntered (stack_of ground.now) (entry_meant ground.now.here.now entry.now) }
     requires lies { LiesWithin entry.now }
     requires out { out.old.places ≡ largest_weight (stack_of ground.now) }
-    ensures attempts { Attempts ground.now works.old (entry_meant ground.now.here entry.now) works.new out.new result }
+    ensures attempts { Attempts ground.now works.old (entry_meant ground.now.here.now entry.now) works.new out.new result }
     ensures spare { IsSpare (codes_in ground.now) (plans_in ground.now) scratch.new }
     ensures checks { checks.new ≡ checks.old }
     ensures places { out.new.places ≡ out.old.places }
 {
-    let what = entry_of(ground.plans, entry);
+    let what = keep_entry(ground.plans, entry, &mut scratch.fields);
     if make_by_code(works, scratch, ground, what, &*entry, out) {
         let view = ground.here.view;
         return Attempt::Made(change_view(works, ground.stack, ground.most, view, ground.id, out));
     }
     out.clear();
-    Attempt::Left(lacked(works, &mut scratch.fields, ground, what, &*entry, checks))
+    Attempt::Left(lacked(
+        works,
+        scratch.fields.as_slice(),
+        ground,
+        what,
+        &*entry,
+        checks,
+    ))
 }
 
 /// What is answered where the step of an input isn't made.

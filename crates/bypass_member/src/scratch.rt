@@ -5,7 +5,8 @@ ghost use Rattle.std.specs.List.{AllByRecursion};
 ghost use Rattle.std.specs.Rc.{rc_value};
 ghost use Rattle.stack_shapes.specs.Trees.{plans_tree};
 ghost use Rattle.trace_reads.specs.Registers.{IsEmpty};
-ghost use Rattle.bypass_member.specs.Serving.{HasAtMost, IsSpare, Serves};
+ghost use Rattle.packet_short.specs.Keeping.{HasAtMost};
+ghost use Rattle.bypass_member.specs.Serving.{IsSpare, Serves};
 
 use bypass_codes::Codes;
 use slot_pool::Memory;

@@ -10,13 +10,13 @@ ghost use Rattle.stack_shapes.specs.Entries.{entry_for};
 ghost use Rattle.bypass_member.specs.Judged.{entry_meant, LiesWithin};
 ghost use Rattle.bypass_member.specs.Serving.{IsSpare};
 ghost use Rattle.bypass_member.specs.Stepping.{codes_in, in_full, plans_in, stack_of, IsGround, HasGone, HasPlayed, HasTaken};
-ghost use Rattle.bypass_member.specs.Trying.{MakesByCode};
+ghost use Rattle.bypass_member.specs.Trying.{AreGiven, MakesByCode};
 ghost use Rattle.bypass_member.specs.Viewing.{IsIn};
 ghost use Rattle.bypass_member.specs.Working.{states_in, taken_in, IsReady};
 
-use crate::commons::make_common;
+use crate::commons::{entry_in, make_common};
 use crate::enters::enter;
-use crate::entry::{Entry, entry_of};
+use crate::entry::Entry;
 use crate::gathers::gather;
 use crate::ground::{Ground, Took};
 use crate::runs::run_layers;
@@ -38,26 +38,26 @@ fn play(
 ) -> Predicted
     requires ground { IsGround ground.now }
     requires ready { IsReady (stack_of ground.now) ground.now.most works.old }
-    requires is_in { IsIn (stack_of ground.now) ground.now.most ground.now.here.view ground.now.id (states_in works.old) }
-    requires entered { IsEntered (stack_of ground.now) (entry_meant ground.now.here entry) }
+    requires is_in { IsIn (stack_of ground.now) ground.now.most ground.now.here.now.view ground.now.id (states_in works.old) }
+    requires entered { IsEntered (stack_of ground.now) (entry_meant ground.now.here.now entry) }
     requires lies { LiesWithin entry }
     requires out { out.old.places ≡ largest_weight (stack_of ground.now) }
     requires visits { visits.old ≤ 2 ^ 63 }
-    ensures played { HasPlayed ground.now (states_in works.old) (taken_in works.old) (entry_meant ground.now.here entry.entry) works.new out.new
+    ensures played { HasPlayed ground.now (states_in works.old) (taken_in works.old) (entry_meant ground.now.here.now entry.entry) works.new out.new
         visits.old visits.new result }
     ensures places { out.new.places ≡ out.old.places }
 {
     ground.stack.is_accepted();
     enter(
         entry,
-        &ground.here,
+        ground.here,
         ground.stack,
         ground.bare,
         &mut works.tasks,
         &mut works.pool,
     );
     let predicted = run_layers(works, ground.stack, visits);
-    out.begin(ground.here);
+    out.begin(*ground.here);
     gather(&mut works.outs, &mut works.pool, out);
     predicted
 }
@@ -87,13 +87,15 @@ pub(crate) fn make_by_code<'x>(
     requires ground { IsGround ground.now }
     requires ready { IsReady (stack_of ground.now) ground.now.most works.old }
     requires spare { IsSpare (codes_in ground.now) (plans_in ground.now) scratch.old }
-    requires is_in { IsIn (stack_of ground.now) ground.now.most ground.now.here.view ground.now.id (states_in works.old) }
-    requires entered { IsEntered (stack_of ground.now) (entry_meant ground.now.here entry.now) }
+    requires is_in { IsIn (stack_of ground.now) ground.now.most ground.now.here.now.view ground.now.id (states_in works.old) }
+    requires entered { IsEntered (stack_of ground.now) (entry_meant ground.now.here.now entry.now) }
     requires lies { LiesWithin entry.now }
     requires what { (here : stands.Here) → what ≡ entry_for (plans_in ground.now) (entry_meant here entry.now) }
+    requires fields { AreGiven ground.now entry.now scratch.old.fields.items }
     requires out { out.old.places ≡ largest_weight (stack_of ground.now) }
-    ensures made { MakesByCode ground.now works.old (entry_meant ground.now.here entry.now) works.new out.new result }
+    ensures made { MakesByCode ground.now works.old (entry_meant ground.now.here.now entry.now) works.new out.new result }
     ensures spare { IsSpare (codes_in ground.now) (plans_in ground.now) scratch.new }
+    ensures fields { scratch.new.fields ≡ scratch.old.fields }
     ensures places { out.new.places ≡ out.old.places }
 {
     match make_common(works, scratch, ground, what, entry, out) {
@@ -118,16 +120,16 @@ fn make(
     requires ground { IsGround ground.now }
     requires ready { IsReady (stack_of ground.now) ground.now.most works.old }
     requires spare { IsSpare (codes_in ground.now) (plans_in ground.now) scratch.old }
-    requires is_in { IsIn (stack_of ground.now) ground.now.most ground.now.here.view ground.now.id (states_in works.old) }
-    requires entered { IsEntered (stack_of ground.now) (entry_meant ground.now.here entry) }
+    requires is_in { IsIn (stack_of ground.now) ground.now.most ground.now.here.now.view ground.now.id (states_in works.old) }
+    requires entered { IsEntered (stack_of ground.now) (entry_meant ground.now.here.now entry) }
     requires lies { LiesWithin entry }
     requires out { out.old.places ≡ largest_weight (stack_of ground.now) }
     requires visits { visits.old ≤ 2 ^ 63 }
-    ensures gone { HasGone ground.now works.old (entry_meant ground.now.here entry.entry) works.new out.new visits.old visits.new result }
+    ensures gone { HasGone ground.now works.old (entry_meant ground.now.here.now entry.entry) works.new out.new visits.old visits.new result }
     ensures spare { IsSpare (codes_in ground.now) (plans_in ground.now) scratch.new }
     ensures places { out.new.places ≡ out.old.places }
 {
-    let what = entry_of(ground.plans, &entry);
+    let what = entry_in(ground, &entry, &mut scratch.fields);
     if make_by_code(works, scratch, ground, what, &entry, out) {
         return true;
     }
@@ -149,12 +151,12 @@ pub(crate) fn take(
     requires ground { IsGround ground.now }
     requires ready { IsReady (stack_of ground.now) ground.now.most works.old }
     requires spare { IsSpare (codes_in ground.now) (plans_in ground.now) scratch.old }
-    requires is_in { IsIn (stack_of ground.now) ground.now.most ground.now.here.view ground.now.id (states_in works.old) }
-    requires entered { IsEntered (stack_of ground.now) (entry_meant ground.now.here entry) }
+    requires is_in { IsIn (stack_of ground.now) ground.now.most ground.now.here.now.view ground.now.id (states_in works.old) }
+    requires entered { IsEntered (stack_of ground.now) (entry_meant ground.now.here.now entry) }
     requires lies { LiesWithin entry }
     requires out { out.old.places ≡ largest_weight (stack_of ground.now) }
     requires visits { visits.old ≤ 2 ^ 63 }
-    ensures taken { HasTaken ground.now works.old (entry_meant ground.now.here entry.entry) works.new out.new visits.old visits.new result }
+    ensures taken { HasTaken ground.now works.old (entry_meant ground.now.here.now entry.entry) works.new out.new visits.old visits.new result }
     ensures spare { IsSpare (codes_in ground.now) (plans_in ground.now) scratch.new }
     ensures places { out.new.places ≡ out.old.places }
 {

@@ -34,6 +34,7 @@ fn reset_all(layers: &mut Vec<FileLayer>, pool: &mut Pool, me: u32, count: u32, 
 }
 
 /// Installs the view behind a member's own in which these ranks are, if there is one and the member is in it.
+#[inline(never)]
 fn install(works: &mut Works, _stack: &Stack, _most: u8, view: View, id: u8, ranks: u32) -> Change
     requires ready { IsReady (stack_tree _stack.now) _most works.old }
     requires members { HasMembers (stack_tree _stack.now) _most view id (states_in works.old) }
@@ -57,6 +58,7 @@ fn install(works: &mut Works, _stack: &Stack, _most: u8, view: View, id: u8, ran
 }
 
 /// Installs the first view that was announced, if one was.
+#[inline(always)]
 pub(crate) fn change_view(
     works: &mut Works,
     _stack: &Stack,

@@ -12,21 +12,21 @@ use Rattle.bypass_member.proofs.commons.try_case.Goals as goal
 
 pub perform-requires : goal.perform-requires
 perform-requires c =
-    let handled = handled_at c.args.case c.args.ground.now (states_in c.args.works.now) (entry_meant c.args.ground.now.here c.args._entry.now)
+    let handled = handled_at c.args.case c.args.ground.now (states_in c.args.works.now) (entry_meant c.args.ground.now.here.now c.args._entry.now)
     c.args.tried.now (Some (code_tree c.in-Some.code.now)) c.requires.tried c.requires.handles c.in-Some.ensures in
     let room = c.requires.serves.each c.args.tried.now.entry c.args.case (code_tree c.in-Some.code.now) (sym c.in-Some.ensures) in
     subst (λ (layers : List FileLayer). CanPerform (code_tree c.in-Some.code.now) (input_of c.args.tried.now.given) c.args.works.now.pool layers
     c.args.values.now c.args.out.now) (sym c.as_mut_slice-layers.ensures.value)
-    (can_perform c.args.case c.args.ground.now c.args.works.now (entry_meant c.args.ground.now.here c.args._entry.now)
+    (can_perform c.args.case c.args.ground.now c.args.works.now (entry_meant c.args.ground.now.here.now c.args._entry.now)
     (code_tree c.in-Some.code.now) (input_of c.args.tried.now.given) c.requires.tried.given c.requires.ready handled c.args.out.now
     c.requires.begun c.args.values.now c.requires.is_in c.is_within_limits.ensures.places c.requires.tried.members c.requires.tried.body room
     c.requires.serves.empty)
 
 pub returns-clause-tries : goal.returns-clause-tries
 returns-clause-tries c =
-    let handled = handled_at c.args.case c.args.ground.now (states_in c.args.works.now) (entry_meant c.args.ground.now.here c.args._entry.now)
+    let handled = handled_at c.args.case c.args.ground.now (states_in c.args.works.now) (entry_meant c.args.ground.now.here.now c.args._entry.now)
     c.args.tried.now (Some (code_tree c.in-Some.code.now)) c.requires.tried c.requires.handles c.in-Some.ensures in
-    tried c.args.case c.args.ground.now c.args.works.now (entry_meant c.args.ground.now.here c.args._entry.now)
+    tried c.args.case c.args.ground.now c.args.works.now (entry_meant c.args.ground.now.here.now c.args._entry.now)
     (code_tree c.in-Some.code.now) (input_of c.args.tried.now.given) c.requires.tried.given c.requires.ready handled c.args.out.now
     c.requires.begun c.args.values.now c.perform.new.values
     (record {

@@ -1,7 +1,7 @@
 use Rattle.std.proofs.Common.{map, take}
 use Rattle.std.specs.List.{AllByRecursion}
 use Rattle.stack_shapes.specs.Lists.{plan_tree}
-use Rattle.bypass_member.specs.Serving.{HasAtMost}
+use Rattle.packet_short.specs.Keeping.{HasAtMost}
 use Rattle.bypass_member.proofs.scratch.most_fields.Given as goal
 
 abbrev pub invariant-loop-plan : goal.invariant-loop-plan

@@ -1,12 +1,17 @@
-use Rattle.std.proofs.Common.{sym, ap, subst}
+use Rattle.std.proofs.Common.{◌∙◌, refl, sym, ap, subst}
 use Rattle.layer_eval.specs.declared.predicted.Predicted.{Predicted}
 use Rattle.bypass_member.specs.Judged.{entry_meant}
-use Rattle.bypass_member.specs.Stepping.{stack_of, plans_in, step_over}
+use Rattle.bypass_member.specs.Stepping.{codes_in, plans_in, stack_of, step_over}
 use Rattle.bypass_member.specs.Viewing.{IsIn}
 use Rattle.bypass_member.specs.Working.{states_in}
 use Rattle.bypass_member.proofs.Going.{gone_by_run}
 use Rattle.bypass_member.proofs.Same.{same_ready, same_states}
+use Rattle.bypass_member.proofs.Places.{spare_on}
 use Rattle.bypass_member.proofs.steps.make.Goals as goal
+
+pub make_by_code-requires-clause-spare : goal.make_by_code-requires-clause-spare
+make_by_code-requires-clause-spare c =
+    spare_on (codes_in c.args.ground.now) (plans_in c.args.ground.now) c.args.scratch.now _ refl c.entry_in-what.ensures.capacity c.requires.spare
 
 pub play-predicted-requires-clause-ready : goal.play-predicted-requires-clause-ready
 play-predicted-requires-clause-ready c =
@@ -15,19 +20,19 @@ play-predicted-requires-clause-ready c =
 
 pub play-predicted-requires-clause-is_in : goal.play-predicted-requires-clause-is_in
 play-predicted-requires-clause-is_in c =
-    subst (IsIn (stack_of c.args.ground.now) c.args.ground.now.most c.args.ground.now.here.view c.args.ground.now.id)
+    subst (IsIn (stack_of c.args.ground.now) c.args.ground.now.most c.args.ground.now.here.now.view c.args.ground.now.id)
     (sym (same_states c.args.works.now c.make_by_code.new.works c.if-make_by_code.ensures.made.same)) c.requires.is_in
 
 pub returns-clause-gone : goal.returns-clause-gone
 returns-clause-gone c =
-    let what = entry_meant c.args.ground.now.here c.args.entry in
+    let what = entry_meant c.args.ground.now.here.now c.args.entry in
     let played = c.play-predicted.ensures.played in
     gone_by_run c.args.ground.now c.args.works.now what c.play-predicted.new.works c.play-predicted.new.out c.args.visits.now
     c.play-predicted.new.visits c.make_by_code.new.works c.play-predicted.result c.is_common.result c.if-make_by_code.ensures.made.same
     c.if-make_by_code.ensures.made.uncommon played
     (c.is_common.ensures.common (stack_of c.args.ground.now) (plans_in c.args.ground.now)
-    (step_over c.args.ground.now (states_in c.make_by_code.new.works) what) c.requires.ground.entries
-    (c.entry_of-what.ensures c.args.ground.now.here) (ap (λ (p : Predicted). p.first) played.predicted)
+    (step_over c.args.ground.now (states_in c.make_by_code.new.works) what) (c.deref.ensures ∙ c.requires.ground.entries)
+    (c.entry_in-what.ensures.what c.args.ground.now.here.now) (ap (λ (p : Predicted). p.first) played.predicted)
     (ap (λ (p : Predicted). p.second) played.predicted))
 
 pub returns-then-make_by_code-clause-gone : goal.returns-then-make_by_code-clause-gone

@@ -6,14 +6,14 @@ use Rattle.bypass_member.proofs.Pools.{covers_back}
 use Rattle.bypass_member.proofs.steps.play.Goals as goal
 
 pub enter-requires-clause-room : goal.enter-requires-clause-room
-enter-requires-clause-room c = has_slot _ _ c.args.ground.now.id c.args.ground.now.here.view c.args.works.now c.requires.ready c.requires.is_in
+enter-requires-clause-room c = has_slot _ _ c.args.ground.now.id c.args.ground.now.here.now.view c.args.works.now c.requires.ready c.requires.is_in
 
 pub enter-requires-clause-places : goal.enter-requires-clause-places
-enter-requires-clause-places c = has_place _ _ c.args.ground.now.id c.args.ground.now.here _ c.requires.ground.here c.requires.entered c.args.works.now c.requires.ready
+enter-requires-clause-places c = has_place _ _ c.args.ground.now.id c.args.ground.now.here.now _ c.requires.ground.here c.requires.entered c.args.works.now c.requires.ready
 
 pub run_layers-predicted-requires-clause-can : goal.run_layers-predicted-requires-clause-can
 run_layers-predicted-requires-clause-can c =
-    can_run _ _ c.args.ground.now.id c.args.ground.now.here _ c.requires.ground.here c.requires.entered c.args.works.now _ _ c.requires.ready c.requires.is_in
+    can_run _ _ c.args.ground.now.id c.args.ground.now.here.now _ c.requires.ground.here c.requires.entered c.args.works.now _ _ c.requires.ready c.requires.is_in
     c.enter.ensures.brings _ c.enter.ensures.only
 
 pub gather-requires-clause-covers : goal.gather-requires-clause-covers

@@ -40,19 +40,20 @@ returns-in-Made-clause-probed c =
     let enters = entered_same c.deref.result.now (rc_value c.self.inside.stack) c.deref-2.result.now (rc_value c.self.inside.plans)
     (here_at c.self.inside c.in-Some.view)
     (here_in (placed c.self.inside) c.in-Some.view) (input_meant c.args.input) _ c.deref.ensures c.deref-2.ensures here c.in-Ok.ensures.judged in
+    let new = record c.self.inside { view = c.follow.new.view; rank = c.follow.new.rank; works = c.try_common.new.works; scratch = c.try_common.new.scratch } in
     record {
       change = c.in-Made.change;
       takes =
           subst (λ (p : Placed). Takes p (input_meant c.args.input)
-          (placed (record c.self.inside { view = c.view_after-self-inside.result; rank = c.rank_after-self-inside.result; works = c.try_common.new.works; scratch = c.try_common.new.scratch }))
+          (placed new)
           c.try_common.new.out.outputs 0 0 true c.in-Made.change)
           c.self.view_is
           (takes (placed c.self.inside) c.in-Some.view (states_in c.self.inside.works) (input_meant c.args.input)
           (ap (λ (v : Option View). member_in v (states_in c.self.inside.works)) c.in-Some.is) _ (entry_meant (here_at c.self.inside c.in-Some.view) c.in-Ok.entry)
           c.self.inside.works c.try_common.new.works c.try_common.new.out 0 0 (record { common = true; change = c.in-Made.change })
-          (placed (record c.self.inside { view = c.view_after-self-inside.result; rank = c.rank_after-self-inside.result; works = c.try_common.new.works; scratch = c.try_common.new.scratch }))
+          (placed new)
           (ap stack_tree c.deref-3.ensures) (ap plans_tree c.deref-4.ensures) (ap mode_with c.lent.ensures) here refl enters c.in-Made.ensures.attempts
-          refl refl (ap (λ (v : Option View). member_in v (states_in c.try_common.new.works)) c.view_after-self-inside.ensures) refl
+          refl refl (ap (λ (v : Option View). member_in v (states_in c.try_common.new.works)) (c.follow.ensures.view c.in-Some.view c.in-Some.is)) refl
           (record { stack = refl; plans = refl; mode = refl; group = refl; stamp = refl; id = refl; most = refl }));
     }
 

@@ -30,7 +30,7 @@ returns-in-Err-clause-step c =
 
 pub take-common-requires-clause-ground : goal.take-common-requires-clause-ground
 take-common-requires-clause-ground c =
-    ground_is c.self.inside _ c.in-Some.view c.self.invariant c.in-Some.is c.deref-3.ensures c.deref-4.ensures c.deref-5.ensures refl
+    ground_is c.self.inside _ c.in-Some.view c.self.invariant c.in-Some.is c.deref-3.ensures c.deref-4.ensures refl refl
     c.lent.ensures refl refl (omega arith) (omega arith) refl refl
 
 pub take-common-requires-clause-entered : goal.take-common-requires-clause-entered
@@ -46,13 +46,13 @@ returns-clause-step c =
     (here_at c.self.inside c.in-Some.view)
     (here_in (placed c.self.inside) c.in-Some.view) (input_meant c.args.input) _ c.deref.ensures c.deref-2.ensures here c.in-Ok.ensures.judged in
     subst (λ (p : Placed). Takes p (input_meant c.args.input)
-    (placed (record c.self.inside { view = c.view_after-self-inside.result; rank = c.rank_after-self-inside.result; works = c.take-common.new.works; scratch = c.take-common.new.scratch }))
+    (placed (record c.self.inside { view = c.follow.new.view; rank = c.follow.new.rank; works = c.take-common.new.works; scratch = c.take-common.new.scratch }))
     c.take-common.new.out.outputs c.args.visits.now c.take-common.new.visits c.take-common.result.common c.take-common.result.change)
     c.self.view_is
     (takes (placed c.self.inside) c.in-Some.view (states_in c.self.inside.works) (input_meant c.args.input)
     (ap (λ (v : Option View). member_in v (states_in c.self.inside.works)) c.in-Some.is) _ (entry_meant (here_at c.self.inside c.in-Some.view) c.in-Ok.entry)
     c.self.inside.works c.take-common.new.works c.take-common.new.out c.args.visits.now c.take-common.new.visits c.take-common.result
-    (placed (record c.self.inside { view = c.view_after-self-inside.result; rank = c.rank_after-self-inside.result; works = c.take-common.new.works; scratch = c.take-common.new.scratch }))
+    (placed (record c.self.inside { view = c.follow.new.view; rank = c.follow.new.rank; works = c.take-common.new.works; scratch = c.take-common.new.scratch }))
     (ap stack_tree c.deref-3.ensures) (ap plans_tree c.deref-4.ensures) (ap mode_with c.lent.ensures) here refl enters c.take-common.ensures.taken
-    refl refl (ap (λ (v : Option View). member_in v (states_in c.take-common.new.works)) c.view_after-self-inside.ensures) refl
+    refl refl (ap (λ (v : Option View). member_in v (states_in c.take-common.new.works)) (c.follow.ensures.view c.in-Some.view c.in-Some.is)) refl
     (record { stack = refl; plans = refl; mode = refl; group = refl; stamp = refl; id = refl; most = refl }))
