@@ -1,5 +1,5 @@
 -- What an event comes to that is tried as a common step.
-use Rattle.std.specs.Prelude.{◌≡◌, ℕ, true, false, List, Option, Some, None, option_map, Result, Ok, Err}
+use Rattle.std.specs.Prelude.{◌≡◌, true, false, List, Option, Some, None, option_map, Result, Ok, Err}
 use Rattle.layer_mean.specs.Tree.{LayerTree}
 use Rattle.msg_core.specs.declared.message.Memory.{Memory}
 use Rattle.stack_mean.specs.Plan.{Plan}

@@ -3,7 +3,7 @@ use Rattle.std.specs.Prelude.{◌≡◌, ℕ, ◌<◌, List, Result, Ok, Err}
 use Rattle.std.specs.Rc.{rc_value}
 use Rattle.run_mean.specs.Mode.{bypass}
 use Rattle.layer_mean.specs.Tree.{LayerTree}
-use Rattle.stack_mean.specs.Acceptance.{rows_of, largest_weight, most_rows}
+use Rattle.stack_mean.specs.Acceptance.{rows_of, most_rows}
 use Rattle.stack_mean.specs.Plans.{plans_of}
 use Rattle.event_graph.specs.Answer.{stack_tree}
 use Rattle.stack_shapes.specs.Trees.{plans_tree}
@@ -11,7 +11,7 @@ use Rattle.stack_shapes.specs.Shapes.{short_shapes}
 use Rattle.group_mean.specs.Room.{HasRoom}
 use Rattle.bypass_member.specs.declared.error.OpenError.{OpenError}
 use Rattle.bypass_member.specs.declared.error.OpenError.TheVariants.{TooLarge, Memory}
-use Rattle.group_open.specs.Ready.{Starts}
+use Rattle.group_feed.specs.Beginning.{IsAtFirst}
 use Rattle.group_open.specs.declared.run.Examination.{Examination}
 
 -- A group is where it begins by bypasses, and its members have room; the shapes of its stack's entries are those that aren't too long.
@@ -19,8 +19,7 @@ pub record IsExamination (stack : List LayerTree) (group stamp members : ℕ) (e
   pub stack_is : stack_tree e.stack ≡ stack
   pub plans_are : plans_tree (rc_value e.plans) ≡ plans_of stack
   pub entries_are : rc_value e.entries ≡ short_shapes stack (plans_of stack)
-  pub places : e.outputs.places ≡ largest_weight stack
-  pub starts : Starts bypass stack (plans_of stack) group stamp members e.group
+  pub first : IsAtFirst bypass stack (plans_of stack) group stamp members e.group e.outputs.places
   pub room : HasRoom stack members
 
 -- It is open, or its members would keep too many rows, or memory ran out.

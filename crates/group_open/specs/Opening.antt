@@ -18,11 +18,10 @@ use Rattle.file_layer.specs.Making.{making}
 use Rattle.miss_laws.specs.Asked.{AllAsked}
 use Rattle.miss_laws.specs.Told.{AreChecksOf}
 use Rattle.group_mean.specs.Room.{HasRoom}
-use Rattle.group_open.specs.Ready.{IsAtFirst, Starts}
+use Rattle.group_feed.specs.Beginning.{IsAtFirst}
 use Rattle.bypass_member.specs.declared.error.OpenError.{OpenError}
 use Rattle.bypass_member.specs.declared.error.OpenError.TheVariants.{TooLarge, Memory}
 use Rattle.group_open.specs.declared.run.Opened.{Opened}
-use Rattle.group_open.specs.declared.run.Begun.{Begun}
 use Rattle.group_open.specs.declared.run.Drawn.{Drawn}
 use Rattle.group_open.specs.declared.run.Parts.{Parts}
 
@@ -76,24 +75,11 @@ pub record IsExaminable (stack : List LayerTree) (p : Parts) (checks : AllAsked)
   pub checks_are : AreChecksOf stack checks
 
 -- A group begins in a mode, whose members have room.
-pub record HasBegun (mode : Mode) (stack : List LayerTree) (group stamp members : ℕ) (b : Begun) : Type 0 where
-  pub stack_is : stack_tree b.stack ≡ stack
-  pub plans_are : plans_tree (rc_value b.plans) ≡ plans_of stack
-  pub entries_are : rc_value b.entries ≡ short_shapes stack (plans_of stack)
-  pub places : b.outputs.places ≡ largest_weight stack
-  pub starts : Starts mode stack (plans_of stack) group stamp members b.world
-  pub room : HasRoom stack members
-
-abbrev pub Begins : Mode → List LayerTree → (group stamp members : ℕ) → Result Begun OpenError → Type 0
-Begins mode stack group stamp members (Ok b) = HasBegun mode stack group stamp members b
-Begins mode stack group stamp members (Err TooLarge) = most_rows < rows_of stack members
-Begins mode stack group stamp members (Err Memory) = Unit {0}
-
--- A run where a group begins in a mode, whose members have room.
 pub record IsOpen (mode : Mode) (stack : List LayerTree) (group stamp members : ℕ) (o : Opened) : Type 0 where
   pub stack_is : stack_tree o.stack ≡ stack
   pub plans_are : plans_tree (rc_value o.plans) ≡ plans_of stack
-  pub first : IsAtFirst mode stack (plans_of stack) group stamp members o.run
+  pub entries_are : rc_value o.entries ≡ short_shapes stack (plans_of stack)
+  pub first : IsAtFirst mode stack (plans_of stack) group stamp members o.group o.outputs.places
   pub room : HasRoom stack members
 
 -- It is open, or its members would keep too many rows, or memory ran out.

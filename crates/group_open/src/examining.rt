@@ -8,7 +8,7 @@ ghost use Rattle.msg_core.specs.View.{most_members};
 
 use crate::opening::begin;
 use crate::preparing::prepare_examined;
-use crate::run::{Begun, Examination};
+use crate::run::{Examination, Opened};
 use bypass_member::OpenError;
 use event_graph::Stack;
 use msg_core::Memory;
@@ -32,14 +32,14 @@ pub fn open_examined(
         Err(Memory) => return Err(OpenError::Memory),
     };
     match begin(alloc, parts, group, stamp, members) {
-        Ok(begun) => {
-            let Begun {
+        Ok(opened) => {
+            let Opened {
                 stack,
                 plans,
                 entries,
                 outputs,
-                world,
-            } = begun;
+                group: world,
+            } = opened;
             Ok(Examination {
                 stack,
                 plans,

@@ -11,4 +11,4 @@ mod run;
 pub use examining::open_examined;
 pub use opening::{open, open_with};
 pub use room::has_room;
-pub use run::{Examination, Opened, Run};
+pub use run::{Examination, Opened};

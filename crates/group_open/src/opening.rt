@@ -8,34 +8,33 @@ ghost use Rattle.bypass_member.specs.Modes.{mode_with};
 ghost use Rattle.chain_laws.specs.Runs.{TypedStack};
 ghost use Rattle.event_graph.specs.Answer.{stack_tree};
 ghost use Rattle.group_mean.specs.Shown.{shown_mode};
-ghost use Rattle.group_open.specs.Opening.{Begins, CanRun, IsPrepared, Opens};
+ghost use Rattle.group_open.specs.Opening.{CanRun, IsPrepared, Opens};
 ghost use Rattle.msg_core.specs.View.{most_members};
 ghost use Rattle.run_mean.specs.Mode.{bypass};
 ghost use Rattle.trace_core.specs.Bypasses.{bypasses_tree};
 
 use crate::preparing::{prepare, prepare_with};
-use crate::run::{Begun, Opened, Parts, Run};
+use crate::run::{Opened, Parts};
 use bypass_member::{OpenError, Opening};
 use event_graph::Stack;
 use group_mean::Mode;
 use msg_core::Memory;
-use report_text::Pen;
 use std::alloc::Global;
 use trace_core::Bypasses;
 use world_core::World;
 
-/// Begins a group of so many members with what it is made of.
+/// Opens a group of so many members with what it is made of.
 pub(crate) fn begin(
     alloc: Global,
     parts: Parts,
     group: u32,
     stamp: u32,
     members: u8,
-) -> Result<Begun, OpenError>
+) -> Result<Opened, OpenError>
     requires typed { TypedStack (stack_tree parts.stack) }
     requires prepared { IsPrepared (mode_with (option_map rc_value parts.codes)) (stack_tree parts.stack) parts }
     requires members { (1 ≤ members) × (members ≤ most_members) }
-    ensures { Begins (mode_with (option_map rc_value parts.codes)) (stack_tree parts.stack) group stamp members result }
+    ensures { Opens (mode_with (option_map rc_value parts.codes)) (stack_tree parts.stack) group stamp members result }
 {
     let Parts {
         mut maker,
@@ -56,50 +55,13 @@ pub(crate) fn begin(
         stamp,
     };
     match World::begin(alloc, &mut maker, opening, members) {
-        Ok(world) => Ok(Begun {
+        Ok(world) => Ok(Opened {
             stack,
             plans,
             entries,
             outputs,
-            world,
+            group: world,
         }),
-        Err(error) => Err(error),
-    }
-}
-
-/// Opens a group of so many members with what it is made of.
-fn start(
-    alloc: Global,
-    parts: Parts,
-    group: u32,
-    stamp: u32,
-    members: u8,
-) -> Result<Opened, OpenError>
-    requires typed { TypedStack (stack_tree parts.stack) }
-    requires prepared { IsPrepared (mode_with (option_map rc_value parts.codes)) (stack_tree parts.stack) parts }
-    requires members { (1 ≤ members) × (members ≤ most_members) }
-    ensures { Opens (mode_with (option_map rc_value parts.codes)) (stack_tree parts.stack) group stamp members result }
-{
-    match begin(alloc, parts, group, stamp, members) {
-        Ok(begun) => {
-            let Begun {
-                stack,
-                plans,
-                entries: _,
-                outputs,
-                world,
-            } = begun;
-            Ok(Opened {
-                stack,
-                plans,
-                run: Run {
-                    world,
-                    outputs,
-                    visits: 0,
-                    pen: Pen::new(alloc),
-                },
-            })
-        }
         Err(error) => Err(error),
     }
 }
@@ -118,7 +80,7 @@ pub fn open(
     ensures { Opens (shown_mode mode) (stack_tree stack) group stamp members result }
 {
     match prepare(alloc, mode, stack) {
-        Ok(parts) => start(alloc, parts, group, stamp, members),
+        Ok(parts) => begin(alloc, parts, group, stamp, members),
         Err(Memory) => Err(OpenError::Memory),
     }
 }
@@ -138,7 +100,7 @@ pub fn open_with(
     ensures { Opens bypass (stack_tree stack) group stamp members result }
 {
     match prepare_with(alloc, bypasses, stack) {
-        Ok(parts) => start(alloc, parts, group, stamp, members),
+        Ok(parts) => begin(alloc, parts, group, stamp, members),
         Err(Memory) => Err(OpenError::Memory),
     }
 }

@@ -56,6 +56,7 @@ fn look_over<C: Clock + Drop, N: Write + Drop>(
     ensures { Looks (request_shown request.entry) file.now result }
 {
     if stack.rows(request.members) > MOST_ROWS {
+        drop(stack);
         return Err(Ending::TooManyRows);
     }
     let aim = Aim {
@@ -64,7 +65,11 @@ fn look_over<C: Clock + Drop, N: Write + Drop>(
         events: request.events,
     };
     match Search::of(alloc, stack, aim) {
-        Ok(mut search) => all_runs(alloc, request, file, &mut search, watch),
+        Ok(mut search) => {
+            let made = all_runs(alloc, request, file, &mut search, watch);
+            drop(search);
+            made
+        }
         Err(_) => Err(Ending::Memory),
     }
 }

@@ -73,7 +73,9 @@ fn serve_plan<O: Sink, N: Links, C: Clock>(
             let Opened {
                 stack,
                 plans,
-                mut run,
+                entries: _,
+                outputs: _,
+                mut group,
             } = opened;
             let course = Course {
                 stack: &stack,
@@ -82,9 +84,8 @@ fn serve_plan<O: Sink, N: Links, C: Clock>(
                 me: &me,
                 turns: node.turns,
             };
-            let group = &mut run.world;
-            let served = serve(alloc, group, course, node.patience, out, links, clock);
-            run.close();
+            let served = serve(alloc, &mut group, course, node.patience, out, links, clock);
+            group.close();
             ending(served)
         }
         Err(OpenError::TooLarge) => Ending::TooManyRows,

@@ -1,3 +1,5 @@
 pub mod Events
+mod Explained
+mod Opened
 pub mod Plays
 pub mod Reading

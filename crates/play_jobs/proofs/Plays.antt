@@ -27,11 +27,11 @@ use Rattle.job_ends.specs.Comes.{Around, surrounding, Beside, Behind, Finds, IsO
 use Rattle.job_ends.proofs.Comes.{written}
 use Rattle.file_jobs.specs.Stack.{IsStack}
 use Rattle.file_jobs.specs.Second.{IsSpelled}
-use Rattle.stack_play.specs.Play.{Plays}
+use Rattle.play_jobs.specs.Play.{Plays}
 use Rattle.play_jobs.specs.Ends.{end_of}
 use Rattle.play_jobs.specs.Traces.{lines_of, AreTraces, PlaysTraces}
-use Rattle.stack_play.specs.declared.error.PlayError.{PlayError}
-use Rattle.stack_play.specs.declared.error.PlayError.TheVariants.{TooManyRows, Failed, Memory}
+use Rattle.play_jobs.specs.declared.error.PlayError.{PlayError}
+use Rattle.play_jobs.specs.declared.error.PlayError.TheVariants.{TooManyRows, Failed, Memory}
 
 -- too many rows are a fault
 too_many : (stack : List LayerTree) (members : ℕ) → most_rows < rows_of stack members → crowded stack members ≡ Some too_many_rows

@@ -1,8 +1,8 @@
 -- How a job ends whose run came to something.
 use Rattle.std.specs.Prelude.{Result, Ok, Err}
 use Rattle.end_mean.specs.Status.{Ended, done, second_refused, write_failed, no_memory, too_many_rows}
-use Rattle.stack_play.specs.declared.error.PlayError.{PlayError}
-use Rattle.stack_play.specs.declared.error.PlayError.TheVariants.{TooManyRows, Failed, Memory}
+use Rattle.play_jobs.specs.declared.error.PlayError.{PlayError}
+use Rattle.play_jobs.specs.declared.error.PlayError.TheVariants.{TooManyRows, Failed, Memory}
 
 abbrev pub end_of : Result (Unit {0}) PlayError → Ended
 end_of (Ok run) = done

@@ -4,13 +4,13 @@ ghost use Rattle.job_mean.specs.Job as job;
 ghost use Rattle.job_ends.specs.Comes.{Comes, around};
 ghost use Rattle.job_ends.specs.Shown.{shown};
 
+use crate::explaining::explain_steps;
 use crate::played::ending;
 use crate::script::fetch_script;
 use file_jobs::{StackFile, fetch_file};
 use job_ends::Ending;
 use job_text::Explain;
 use outside::{Shelf, Sink};
-use stack_play::explain_steps;
 use std::alloc::Global;
 use std::mem::forget;
 

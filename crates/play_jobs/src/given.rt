@@ -6,12 +6,12 @@ ghost use Rattle.event_graph.specs.Answer.{stack_tree};
 ghost use Rattle.job_ends.specs.Comes.{Comes, around};
 ghost use Rattle.job_ends.specs.Shown.{shown};
 ghost use Rattle.job_mean.specs.Job as job;
-ghost use Rattle.outside.specs.Tells.{tells_of};
 ghost use Rattle.play_jobs.specs.Traces.{PlaysTraces};
 ghost use Rattle.script_mean.specs.Script.{IsRunnable};
-ghost use Rattle.stack_play.specs.Play.{most_events};
+ghost use Rattle.stack_play.specs.Turns.{most_events};
 
 use crate::played::ending;
+use crate::playing::play_with;
 use crate::script::fetch_script;
 use crate::traces::fetch_traces;
 use event_graph::Stack;
@@ -21,7 +21,6 @@ use job_ends::Ending;
 use job_text::ReplayWith;
 use outside::{Shelf, Sink};
 use script_mean::Script;
-use stack_play::play_with;
 use std::alloc::Global;
 use std::mem::forget;
 

@@ -6,13 +6,13 @@ ghost use Rattle.job_ends.specs.Comes.{Comes, around};
 ghost use Rattle.job_ends.specs.Shown.{shown};
 ghost use Rattle.group_mean.specs.Shown.{shown_mode};
 
+use crate::counting::play_load;
 use crate::played::ending;
 use file_jobs::fetch_stack;
 use job_ends::Ending;
 use job_text::Load;
 use outside::{Shelf, Sink};
 use script_text::Workload;
-use stack_play::play_load;
 use std::alloc::Global;
 
 /// What the script of a load is made from.

@@ -4,8 +4,8 @@ ghost use Rattle.std.specs.Prelude.{◌≡◌};
 ghost use Rattle.job_ends.specs.Shown.{shown};
 ghost use Rattle.play_jobs.specs.Ends.{end_of};
 
+use crate::error::PlayError;
 use job_ends::Ending;
-use stack_play::PlayError;
 
 /// How the job ends whose run came to this.
 pub(crate) fn ending(run: Result<(), PlayError>) -> Ending

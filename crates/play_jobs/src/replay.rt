@@ -6,12 +6,12 @@ ghost use Rattle.job_ends.specs.Shown.{shown};
 ghost use Rattle.group_mean.specs.Shown.{shown_mode};
 
 use crate::played::ending;
+use crate::playing::play;
 use crate::script::fetch_script;
 use file_jobs::fetch_stack;
 use job_ends::Ending;
 use job_text::Replay;
 use outside::{Shelf, Sink};
-use stack_play::play;
 use std::alloc::Global;
 
 /// Replays a script over a stack file, and writes its report.

@@ -5,7 +5,7 @@ use Rattle.std.specs.List.{enumerate_from, flat_map}
 use Rattle.layer_mean.specs.State.{State, cell_at, queues_in}
 use Rattle.layer_mean.specs.Tree.{LayerTree, ItemsTree, queue, queues}
 use Rattle.layer_mean.specs.declared.run.Row.{Row}
-use Rattle.member_reads.specs.Shown.{view_shown}
+use Rattle.group_feed.specs.Showing.{view_shown}
 use Rattle.msg_core.specs.declared.packet.View.{View}
 use Rattle.report_lines.specs.Cells.{cell_front}
 use Rattle.std.specs.Fmt.{decimal}
@@ -39,6 +39,13 @@ pub queue_parts : (is_array : Bool) (id place : ℕ) (layer : LayerTree) (name t
 queue_parts is_array id place layer name text i =
     parts_joined (decimal id) (decimal place) layer.name name (index_if is_array i) text
     ∙ ap (λ shown. cell_line id place layer shown text) (named_by_parts is_array name i)
+
+-- the line of a cell of numbers by its parts
+pub numbers_parts : (id place : ℕ) (layer : LayerTree) (name text : List ℕ) →
+    cell_front id place layer.name name ++ codes " " ++ text ++ codes "\n" ≡ cell_line id place layer name text
+numbers_parts id place layer name text =
+    ap (λ front. front ++ codes " " ++ text ++ codes "\n") (sym (append-nil (cell_front id place layer.name name)))
+    ∙ queue_parts false id place layer name text 0
 
 -- the rows of a queue that is alone are the first of a list of one
 alone : (stack : List LayerTree) (id place : ℕ) (layer : LayerTree) (name : List ℕ) (n : ℕ) (qs : List (List Row)) →

@@ -7,7 +7,7 @@ use Rattle.layer_mean.specs.State.{Contents, State, numbers_in, queues_in}
 use Rattle.run_mean.specs.Lines.{cell_line, numbers_text, queue_name}
 use Rattle.run_mean.specs.Member.{Member}
 use Rattle.run_mean.specs.Report.{cell_lines}
-use Rattle.member_reads.specs.Shown.{state_shown}
+use Rattle.group_feed.specs.Showing.{state_shown}
 use Rattle.run_mean.specs.Text.{rows_text}
 use Rattle.report_lines.specs.Cells.{index_text}
 

@@ -3,8 +3,7 @@
 ghost use Rattle.std.specs.Prelude.{◌≡◌, ◌++◌, ◌<◌, OnOk, length, slice_index_or, codes};
 ghost use Rattle.event_graph.specs.Answer.{stack_tree};
 ghost use Rattle.layer_mean.specs.State.{cell_at, numbers_in, rows_at};
-ghost use Rattle.member_reads.specs.Rows.{row_meant};
-ghost use Rattle.member_reads.specs.Shown.{state_shown};
+ghost use Rattle.group_feed.specs.Showing.{row_meant, state_at};
 ghost use Rattle.report_lines.specs.Cells.{cell_front};
 ghost use Rattle.report_lines.specs.Lead.{lead};
 ghost use Rattle.run_mean.specs.Lines.{cell_line, numbers_text};
@@ -12,21 +11,13 @@ ghost use Rattle.run_mean.specs.Text.{row_text, rows_text};
 ghost use Rattle.typed_layer.specs.View.{layer_tree};
 ghost use Rattle.report_text.specs.Cells.{index_if, no_row, queue_line};
 
+use group_feed::{RowView, Shows, Spot};
 use layer_ast::Word;
-use member_reads::{RowView, Shown};
 use msg_core::Memory;
 use report_lines::{
     Line, NamedStack, push_cell, push_index, push_lead, push_message_row, push_numbers_row,
 };
 use typed_layer::TypedLayer;
-
-/// A cell of a layer of a member.
-#[derive(Clone, Copy)]
-pub(crate) struct Spot {
-    pub(crate) id: u8,
-    pub(crate) place: u8,
-    pub(crate) cell: u8,
-}
 
 /// A cell of queues: the only one, or an array.
 #[derive(Clone, Copy)]
@@ -37,32 +28,48 @@ pub(crate) struct Queues<'a> {
 }
 
 /// Appends the numbers of a cell, with spaces between.
-fn push_numbers(line: &mut Line, shown: &Shown<'_>, spot: Spot) -> Result<(), Memory>
-    ensures { OnOk result (line.new ≡ line.old ++ numbers_text (numbers_in (cell_at (state_shown shown.now spot.place) spot.cell))) }
+fn push_numbers<S: Shows>(line: &mut Line, group: &S, spot: Spot) -> Result<(), Memory>
+    ensures { OnOk result (line.new ≡ line.old
+        ++ numbers_text (numbers_in (cell_at (state_at (S.group group.now) spot.id spot.place) spot.cell))) }
 {
-    for k in 0..shown.numbers_count(spot.place, spot.cell) {
+    for k in 0..group.numbers_count(spot) {
         push_lead(line, b" ", k)?;
-        line.number(u64::from(shown.number(spot.place, spot.cell, k)))?;
+        line.number(u64::from(group.number(spot, k)))?;
     }
     Ok(())
 }
 
-/// Builds the line of a cell of numbers.
-pub(crate) fn build_numbers(
+/// Appends the parts of the line of a cell of numbers.
+fn push_cell_numbers<S: Shows>(
     line: &mut Line,
-    shown: &Shown<'_>,
+    group: &S,
+    layer: &TypedLayer,
+    name: &Word,
+    spot: Spot,
+) -> Result<(), Memory>
+    ensures { OnOk result (line.new ≡ line.old
+        ++ (cell_front spot.id spot.place (layer_tree layer.now).name name.now ++ codes " "
+        ++ numbers_text (numbers_in (cell_at (state_at (S.group group.now) spot.id spot.place) spot.cell)) ++ codes "\n")) }
+{
+    push_cell(line, spot.id, spot.place, layer.name.bytes(), name.bytes())?;
+    line.text(b" ")?;
+    push_numbers(line, group, spot)?;
+    line.text(b"\n")
+}
+
+/// Builds the line of a cell of numbers.
+pub(crate) fn build_numbers<S: Shows>(
+    line: &mut Line,
+    group: &S,
     layer: &TypedLayer,
     name: &Word,
     spot: Spot,
 ) -> Result<(), Memory>
     ensures { OnOk result (line.new ≡ line.old
         ++ cell_line spot.id spot.place (layer_tree layer.now) name.now
-        (numbers_text (numbers_in (cell_at (state_shown shown.now spot.place) spot.cell)))) }
+        (numbers_text (numbers_in (cell_at (state_at (S.group group.now) spot.id spot.place) spot.cell)))) }
 {
-    push_cell(line, spot.id, spot.place, layer.name.bytes(), name.bytes())?;
-    line.text(b" ")?;
-    push_numbers(line, shown, spot)?;
-    line.text(b"\n")
+    push_cell_numbers(line, group, layer, name, spot)
 }
 
 /// Appends a row.
@@ -78,41 +85,42 @@ fn push_row(line: &mut Line, stack: &NamedStack, row: &RowView<'_>) -> Result<()
 }
 
 /// Appends row number `k` of a queue, behind what separates it from the one in front.
-fn push_row_at(
+fn push_row_at<S: Shows>(
     line: &mut Line,
     stack: &NamedStack,
-    shown: &Shown<'_>,
+    group: &S,
     spot: Spot,
     queue: u32,
     k: u32,
 ) -> Result<(), Memory>
-    requires { k < length (rows_at (state_shown shown.now spot.place) spot.cell queue) }
+    requires { k < length (rows_at (state_at (S.group group.now) spot.id spot.place) spot.cell queue) }
     ensures { OnOk result (line.new ≡ line.old ++ lead (codes " ") k
-        ++ row_text (stack_tree stack.now) (slice_index_or (rows_at (state_shown shown.now spot.place) spot.cell queue) k no_row)) }
+        ++ row_text (stack_tree stack.now) (slice_index_or (rows_at (state_at (S.group group.now) spot.id spot.place) spot.cell queue) k no_row)) }
 {
     push_lead(line, b" ", k)?;
-    match shown.row(spot.place, spot.cell, queue, k) {
+    match group.row(spot, queue, k) {
         Some(row) => push_row(line, stack, &row),
         None => unreachable!(),
     }
 }
 
 /// Appends the rows of a queue from the front, with spaces between, or `-` for none.
-fn push_rows(
+fn push_rows<S: Shows>(
     line: &mut Line,
     stack: &NamedStack,
-    shown: &Shown<'_>,
+    group: &S,
     spot: Spot,
     queue: u32,
 ) -> Result<(), Memory>
-    ensures { OnOk result (line.new ≡ line.old ++ rows_text (stack_tree stack.now) (rows_at (state_shown shown.now spot.place) spot.cell queue)) }
+    ensures { OnOk result (line.new ≡ line.old
+        ++ rows_text (stack_tree stack.now) (rows_at (state_at (S.group group.now) spot.id spot.place) spot.cell queue)) }
 {
-    let count = shown.rows(spot.place, spot.cell, queue);
+    let count = group.rows(spot, queue);
     if count == 0 {
         return line.text(b"-");
     }
     for k in 0..count {
-        push_row_at(line, stack, shown, spot, queue, k)?;
+        push_row_at(line, stack, group, spot, queue, k)?;
     }
     Ok(())
 }
@@ -129,38 +137,38 @@ fn push_queue_index(line: &mut Line, is_array: bool, queue: u32) -> Result<(), M
 }
 
 /// Appends the parts of the line of a queue.
-fn push_queue(
+fn push_queue<S: Shows>(
     line: &mut Line,
     stack: &NamedStack,
-    shown: &Shown<'_>,
+    group: &S,
     queues: Queues<'_>,
     spot: Spot,
     queue: u32,
 ) -> Result<(), Memory>
     ensures { OnOk result (line.new ≡ line.old
         ++ (cell_front spot.id spot.place (layer_tree queues.entry.layer.now).name queues.entry.name.now ++ index_if queues.entry.is_array queue
-        ++ codes " " ++ rows_text (stack_tree stack.now) (rows_at (state_shown shown.now spot.place) spot.cell queue) ++ codes "\n")) }
+        ++ codes " " ++ rows_text (stack_tree stack.now) (rows_at (state_at (S.group group.now) spot.id spot.place) spot.cell queue) ++ codes "\n")) }
 {
     let layer = queues.layer.name.bytes();
     push_cell(line, spot.id, spot.place, layer, queues.name.bytes())?;
     push_queue_index(line, queues.is_array, queue)?;
     line.text(b" ")?;
-    push_rows(line, stack, shown, spot, queue)?;
+    push_rows(line, stack, group, spot, queue)?;
     line.text(b"\n")
 }
 
 /// Builds the line of a queue: the only one of a cell, or one of its array.
-pub(crate) fn build_queue(
+pub(crate) fn build_queue<S: Shows>(
     line: &mut Line,
     stack: &NamedStack,
-    shown: &Shown<'_>,
+    group: &S,
     queues: Queues<'_>,
     spot: Spot,
     queue: u32,
 ) -> Result<(), Memory>
     ensures { OnOk result (line.new ≡ line.old
         ++ queue_line (stack_tree stack.now) spot.id spot.place (layer_tree queues.entry.layer.now) queues.entry.is_array queues.entry.name.now
-        (queue, rows_at (state_shown shown.now spot.place) spot.cell queue)) }
+        (queue, rows_at (state_at (S.group group.now) spot.id spot.place) spot.cell queue)) }
 {
-    push_queue(line, stack, shown, queues, spot, queue)
+    push_queue(line, stack, group, queues, spot, queue)
 }

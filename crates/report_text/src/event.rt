@@ -2,6 +2,7 @@
 
 ghost use Rattle.std.specs.Prelude.{◌≡◌, ◌+◌, ◌^◌, ◌<◌, ◌∷◌, ◌++◌, [], OnOk, length};
 ghost use Rattle.event_graph.specs.Answer.{stack_tree};
+ghost use Rattle.group_feed.specs.Showing.{shown_in};
 ghost use Rattle.stack_shapes.specs.Trees.{plans_tree};
 ghost use Rattle.run_mean.specs.Lines as report;
 ghost use Rattle.run_mean.specs.Report.{end_line, packet_given, visits_line};
@@ -15,6 +16,7 @@ use crate::manner::{Issue, Manner, Outcome};
 use crate::output::write_outputs;
 use crate::pen::Pen;
 use crate::state::write_member;
+use group_feed::Shows;
 use msg_core::Memory;
 use outside::{Sink, SinkError, put_line};
 use report_lines::{Line, absent_line, out_line, refused_line, view_line};
@@ -125,17 +127,19 @@ fn write_absent<O: Sink>(pen: &mut Pen, id: u8, number: u32, out: &mut O) -> Res
 }
 
 /// Puts the lines of what an event came to, one by one: those of a step's outputs, and of where the member is then; a refusal; a packet that
-/// isn't there; or the member that is shown. Where it is wanted, the bytes of each packet stand behind its line,
-/// as it is sent: short under the plan beside it, or in full.
-pub fn write_event<O: Sink>(
+/// isn't there; or the member that is shown, as the group has it. Where it is wanted, the bytes of each packet stand
+/// behind its line, as it is sent: short under the plan beside it, or in full.
+pub fn write_event<S: Shows, O: Sink>(
     pen: &mut Pen,
     manner: Manner<'_>,
+    group: &S,
     outcome: &Outcome<'_>,
     out: &mut O,
 ) -> Result<(), SinkError>
     requires { outcome.now.first + length outcome.now.outputs.now.outputs < 2 ^ 64 }
     ensures { Wrote (told_lines (stack_tree manner.entry.stack.now) (plans_tree manner.entry.plans.now) manner.entry.wire outcome.now.event.now
-        outcome.now.did outcome.now.outputs.now.outputs outcome.now.shown.now outcome.now.first)
+        outcome.now.did outcome.now.outputs.now.outputs (shown_in (S.group group.now) (member_of outcome.now.event.now))
+        outcome.now.first)
         (tells_of O.Sink out.old) (tells_of O.Sink out.new) result }
 {
     let id = member_of(outcome.event);
@@ -149,7 +153,7 @@ pub fn write_event<O: Sink>(
             write_stepped(pen, manner, issue, stepped, out)
         }
         Did::Absent => write_absent(pen, id, packet_given(outcome.event), out),
-        Did::Shown => write_member(pen, manner.stack, id, outcome.shown, out),
+        Did::Shown => write_member(pen, manner.stack, id, group, out),
     }
 }
 

@@ -1,6 +1,5 @@
 //! How lines are written, and what of.
 
-use member_reads::Shown;
 use report_lines::NamedStack;
 use script_mean::ScriptEvent;
 use stack_shapes::Plans;
@@ -16,13 +15,12 @@ pub struct Manner<'a> {
     pub wire: bool,
 }
 
-/// What an event of a script came to: what was done, what came out, the member that it names, and the number of the first packet.
+/// What an event of a script came to: what was done, what came out, and the number of the first packet.
 #[derive(Clone, Copy)]
 pub struct Outcome<'a> {
     pub event: &'a ScriptEvent,
     pub did: Did,
     pub outputs: &'a Outputs,
-    pub shown: &'a Shown<'a>,
     pub first: u64,
 }
 

@@ -3,7 +3,7 @@
 ghost use Rattle.std.specs.Prelude.{◌∷◌, [], codes};
 ghost use Rattle.event_graph.specs.Answer.{stack_tree};
 ghost use Rattle.layer_mean.specs.State.{cell_at, rows_at};
-ghost use Rattle.member_reads.specs.Shown.{state_shown};
+ghost use Rattle.group_feed.specs.Showing.{shown_in, state_at};
 ghost use Rattle.run_mean.specs.Lines as report;
 ghost use Rattle.run_mean.specs.Report as whole;
 ghost use Rattle.outside.specs.Lines.{Wrote};
@@ -11,10 +11,10 @@ ghost use Rattle.outside.specs.Tells.{tells_of};
 ghost use Rattle.typed_layer.specs.View.{cell_tree, layer_tree};
 ghost use Rattle.report_text.specs.Cells.{cells_shown, layers_shown, numbers_lines, one_queue, queue_lines};
 
-use crate::cells::{Queues, Spot, build_numbers, build_queue};
+use crate::cells::{Queues, build_numbers, build_queue};
 use crate::pen::Pen;
+use group_feed::{Shows, Spot};
 use layer_ast::Word;
-use member_reads::Shown;
 use msg_core::{Memory, View};
 use outside::{Sink, SinkError, put_line};
 use report_lines::{NamedStack, state_line, state_out_line};
@@ -24,83 +24,83 @@ use typed_layer::{Cell, Form, TypedLayer};
 const NUMBERED_CELLS: usize = 256;
 
 /// Puts the line of a cell of numbers.
-fn write_numbers<O: Sink>(
+fn write_numbers<S: Shows, O: Sink>(
     pen: &mut Pen,
-    shown: &Shown<'_>,
+    group: &S,
     layer: &TypedLayer,
     name: &Word,
     spot: Spot,
     out: &mut O,
 ) -> Result<(), SinkError>
-    ensures { Wrote (numbers_lines spot.id spot.place (layer_tree layer.now) name.now (cell_at (state_shown shown.now spot.place) spot.cell))
+    ensures { Wrote (numbers_lines spot.id spot.place (layer_tree layer.now) name.now (cell_at (state_at (S.group group.now) spot.id spot.place) spot.cell))
         (tells_of O.Sink out.old) (tells_of O.Sink out.new) result }
 {
     pen.line.clear();
-    match build_numbers(&mut pen.line, shown, layer, name, spot) {
+    match build_numbers(&mut pen.line, group, layer, name, spot) {
         Ok(()) => put_line(pen.line.slice(), out),
         Err(Memory) => Err(SinkError::Memory),
     }
 }
 
 /// Puts the line of a queue.
-fn write_queue<O: Sink>(
+fn write_queue<S: Shows, O: Sink>(
     pen: &mut Pen,
     stack: &NamedStack,
-    shown: &Shown<'_>,
+    group: &S,
     queues: Queues<'_>,
     spot: Spot,
     queue: u32,
     out: &mut O,
 ) -> Result<(), SinkError>
     ensures { Wrote (one_queue (stack_tree stack.now) spot.id spot.place (layer_tree queues.entry.layer.now) queues.entry.is_array queues.entry.name.now
-        (queue, rows_at (state_shown shown.now spot.place) spot.cell queue))
+        (queue, rows_at (state_at (S.group group.now) spot.id spot.place) spot.cell queue))
         (tells_of O.Sink out.old) (tells_of O.Sink out.new) result }
 {
     pen.line.clear();
-    match build_queue(&mut pen.line, stack, shown, queues, spot, queue) {
+    match build_queue(&mut pen.line, stack, group, queues, spot, queue) {
         Ok(()) => put_line(pen.line.slice(), out),
         Err(Memory) => Err(SinkError::Memory),
     }
 }
 
 /// Puts the lines of the queues of a cell.
-fn write_queues<O: Sink>(
+fn write_queues<S: Shows, O: Sink>(
     pen: &mut Pen,
     stack: &NamedStack,
-    shown: &Shown<'_>,
+    group: &S,
     queues: Queues<'_>,
     spot: Spot,
     out: &mut O,
 ) -> Result<(), SinkError>
     ensures { Wrote (queue_lines (stack_tree stack.now) spot.id spot.place (layer_tree queues.entry.layer.now) queues.entry.is_array
-        queues.entry.name.now (cell_at (state_shown shown.now spot.place) spot.cell))
+        queues.entry.name.now (cell_at (state_at (S.group group.now) spot.id spot.place) spot.cell))
         (tells_of O.Sink out.old) (tells_of O.Sink out.new) result }
 {
-    for queue in 0..shown.queues_count(spot.place, spot.cell) {
-        write_queue(pen, stack, shown, queues, spot, queue, out)?;
+    for queue in 0..group.queues_count(spot) {
+        write_queue(pen, stack, group, queues, spot, queue, out)?;
     }
     Ok(())
 }
 
 /// Puts the lines of a cell.
-fn write_cell<O: Sink>(
+fn write_cell<S: Shows, O: Sink>(
     pen: &mut Pen,
     stack: &NamedStack,
-    shown: &Shown<'_>,
+    group: &S,
     layer: &TypedLayer,
     cell: &Cell,
     spot: Spot,
     out: &mut O,
 ) -> Result<(), SinkError>
     ensures { Wrote (whole.cell_lines (stack_tree stack.now) spot.id spot.place (layer_tree layer.now)
-        (state_shown shown.now spot.place) (spot.cell, cell_tree cell.now))
+        (state_at (S.group group.now) spot.id spot.place) (spot.cell, cell_tree cell.now))
         (tells_of O.Sink out.old) (tells_of O.Sink out.new) result }
 {
     match &cell.form {
         Form::Numbers {
             shape: _,
             initial: _,
-        } => { write_numbers(pen, shown, layer, &cell.name, spot, out) }
+        } => { write_numbers(pen, group, layer, &cell.name, spot, out) }
         Form::Queue {
             capacity: _,
             items: _,
@@ -110,7 +110,7 @@ fn write_cell<O: Sink>(
                 name: &cell.name,
                 is_array: false,
             };
-            write_queues(pen, stack, shown, queues, spot, out)
+            write_queues(pen, stack, group, queues, spot, out)
         }
         Form::Queues {
             capacity: _,
@@ -121,23 +121,23 @@ fn write_cell<O: Sink>(
                 name: &cell.name,
                 is_array: true,
             };
-            write_queues(pen, stack, shown, queues, spot, out)
+            write_queues(pen, stack, group, queues, spot, out)
         }
     }
 }
 
 /// Puts the lines of a layer's cells. They have numbers of eight bits: beyond this bound of the type, a layer with more than 256 cells, which
 /// no file declares, is answered as want of memory is.
-fn write_layer<O: Sink>(
+fn write_layer<S: Shows, O: Sink>(
     pen: &mut Pen,
     stack: &NamedStack,
-    shown: &Shown<'_>,
+    group: &S,
     layer: &TypedLayer,
     id: u8,
     place: u8,
     out: &mut O,
 ) -> Result<(), SinkError>
-    ensures { Wrote (cells_shown (stack_tree stack.now) id place (layer_tree layer.now) (state_shown shown.now place))
+    ensures { Wrote (cells_shown (stack_tree stack.now) id place (layer_tree layer.now) (state_at (S.group group.now) id place))
         (tells_of O.Sink out.old) (tells_of O.Sink out.new) result }
 {
     let count = layer.cells.len();
@@ -148,24 +148,24 @@ fn write_layer<O: Sink>(
         let cell = number as u8;
         let spot = Spot { id, place, cell };
         let item = &layer.cells[number];
-        write_cell(pen, stack, shown, layer, item, spot, out)?;
+        write_cell(pen, stack, group, layer, item, spot, out)?;
     }
     Ok(())
 }
 
 /// Puts the lines of all layers' cells, the lowest layer's first.
-fn write_layers<O: Sink>(
+fn write_layers<S: Shows, O: Sink>(
     pen: &mut Pen,
     stack: &NamedStack,
-    shown: &Shown<'_>,
+    group: &S,
     id: u8,
     out: &mut O,
 ) -> Result<(), SinkError>
-    ensures { Wrote (layers_shown (stack_tree stack.now) id shown.now)
+    ensures { Wrote (layers_shown (stack_tree stack.now) id (shown_in (S.group group.now) id))
         (tells_of O.Sink out.old) (tells_of O.Sink out.new) result }
 {
     for place in 0..stack.places() {
-        write_layer(pen, stack, shown, stack.layer(place), id, place, out)?;
+        write_layer(pen, stack, group, stack.layer(place), id, place, out)?;
     }
     Ok(())
 }
@@ -195,20 +195,20 @@ fn write_out<O: Sink>(pen: &mut Pen, id: u8, out: &mut O) -> Result<(), SinkErro
 }
 
 /// Puts the lines of a member that is shown: where it is, and what its layers' cells hold.
-pub(crate) fn write_member<O: Sink>(
+pub(crate) fn write_member<S: Shows, O: Sink>(
     pen: &mut Pen,
     stack: &NamedStack,
     id: u8,
-    shown: &Shown<'_>,
+    group: &S,
     out: &mut O,
 ) -> Result<(), SinkError>
-    ensures { Wrote (whole.member_lines (stack_tree stack.now) id shown.now)
+    ensures { Wrote (whole.member_lines (stack_tree stack.now) id (shown_in (S.group group.now) id))
         (tells_of O.Sink out.old) (tells_of O.Sink out.new) result }
 {
-    match shown.view() {
+    match group.view(id) {
         Some(view) => {
             write_view(pen, id, view, out)?;
-            write_layers(pen, stack, shown, id, out)
+            write_layers(pen, stack, group, id, out)
         }
         None => write_out(pen, id, out),
     }

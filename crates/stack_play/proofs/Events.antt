@@ -14,7 +14,7 @@ use Rattle.stack_mean.specs.Plan.{Plan}
 use Rattle.run_mean.specs.Member.{Member, inside, out, Output, Input, cast, send, leave, tick, datagram, Refusal, Entered, entered}
 use Rattle.run_mean.specs.Report.{mode_if, moment_lines, visits_in}
 use Rattle.run_mean.specs.World as world
-use Rattle.run_mean.specs.World.{World, Happening, happens, here_of, member_at, packet_number, stepped_inside, stepped_of, given}
+use Rattle.run_mean.specs.World.{World, happens, here_of, member_at, packet_number, stepped_inside, stepped_of, given}
 use Rattle.outside.specs.Lines.{Wrote}
 use Rattle.outside.specs.Tells.{Tells}
 use Rattle.outside.proofs.Turns.{wrote_as}
@@ -25,9 +25,9 @@ use Rattle.view_core.specs.declared.step.Stepped.TheVariants.{Taken, Refused}
 use Rattle.report_text.specs.Told.{told_lines}
 use Rattle.report_text.proofs.Moments.{told_is_moment}
 use Rattle.group_feed.specs.Feeding.{IsFed}
+use Rattle.group_feed.specs.Showing.{shown_in}
 use Rattle.group_feed.specs.Standing.{Peopled, Stands}
-use Rattle.stack_play.specs.Turns.{moment_at, TellsEvent}
-use Rattle.group_open.specs.declared.run.Run.{Run}
+use Rattle.stack_play.specs.Turns.{Playing, moment_at, TellsEvent}
 
 -- An event happened: the world behind it, and what is told of it.
 pub record Happened (mode : Mode) (stack : List LayerTree) (plans : List Plan) (w : World) (event : ScriptEvent) (c : Peopled) (outs : List (Output × Option ℕ))
@@ -95,37 +95,36 @@ module _ (stack : List LayerTree) (plans : List Plan) (w : World) where
   same_world (script.Raw id bytes) is = absurd (step_shows_none id (datagram bytes) (member_at w id) is)
   same_world (script.Show id) is = refl
 
-module _ (mode : Mode) (stack : List LayerTree) (plans : List Plan) (wire : Bool) (w : World) (event : ScriptEvent) (old new : Run) (did : Did)
-    (h : Happened mode stack plans w event new.world new.outputs.outputs old.visits new.visits did) where
+module _ (mode : Mode) (stack : List LayerTree) (plans : List Plan) (wire : Bool) (w : World) (event : ScriptEvent) (old new : Playing)
+    (outs : List (Output × Option ℕ)) (did : Did) (h : Happened mode stack plans w event new.group outs old.visits new.visits did) where
   -- the member that is shown is the one of the world before
-  member_shown : (shown : Member) → shown ≡ slice_index_or new.world.members (member_of event) out → did ≡ Shown → shown ≡ member_at w (member_of event)
-  member_shown shown is shows =
-      let told : DidIs mode stack plans (happens stack plans w event).did new.outputs.outputs old.visits new.visits Shown =
-      subst (DidIs mode stack plans (happens stack plans w event).did new.outputs.outputs old.visits new.visits) shows h.told in
+  member_shown : did ≡ Shown → shown_in new.group (member_of event) ≡ member_at w (member_of event)
+  member_shown shows =
+      let told : DidIs mode stack plans (happens stack plans w event).did outs old.visits new.visits Shown =
+      subst (DidIs mode stack plans (happens stack plans w event).did outs old.visits new.visits) shows h.told in
       let same : (happens stack plans w event).world ≡ w =
-      same_world stack plans w event (is_shown mode stack plans (happens stack plans w event).did new.outputs.outputs old.visits new.visits told) in
-      is ∙ ap (λ ms. slice_index_or ms (member_of event) out) (sym h.world.members)
+      same_world stack plans w event (is_shown mode stack plans (happens stack plans w event).did outs old.visits new.visits told) in
+      ap (λ ms. slice_index_or ms (member_of event) out) (sym h.world.members)
       ∙ ap (λ x. slice_index_or x.members (member_of event) out) same
 
-  pub told_event : (shown : Member) (first : ℕ) (a b : Tells) (r : Result (Unit {0}) SinkError) →
-      shown ≡ slice_index_or new.world.members (member_of event) out → first ≡ length old.world.spelled + 1 → Stands old.world w →
-      Wrote (told_lines stack plans wire event did new.outputs.outputs shown first) a b r → TellsEvent mode stack plans wire w event old new a b r
-  told_event shown first a b r is number stands wrote =
-      go r (wrote_as a b (told_lines stack plans wire event did new.outputs.outputs shown first)
+  pub told_event : (first : ℕ) (a b : Tells) (r : Result (Unit {0}) SinkError) → first ≡ length old.group.spelled + 1 → Stands old.group w →
+      Wrote (told_lines stack plans wire event did outs (shown_in new.group (member_of event)) first) a b r → TellsEvent mode stack plans wire w event old new a b r
+  told_event first a b r number stands wrote =
+      go r (wrote_as a b (told_lines stack plans wire event did outs (shown_in new.group (member_of event)) first)
       (moment_lines stack plans (mode_if wire mode) (moment_at stack plans w event)) r same wrote) where
         numbered : first ≡ length w.packets + 1
         numbered = number ∙ ap (λ n. n + 1) (sym (ap length stands.spelled) ∙ length-map w.packets full_bytes)
 
-        same : told_lines stack plans wire event did new.outputs.outputs shown first
+        same : told_lines stack plans wire event did outs (shown_in new.group (member_of event)) first
             ≡ moment_lines stack plans (mode_if wire mode) (moment_at stack plans w event)
-        same = told_is_moment mode stack plans wire (moment_at stack plans w event) new.outputs.outputs old.visits new.visits did shown first h.told
-            (member_shown shown is) numbered
+        same = told_is_moment mode stack plans wire (moment_at stack plans w event) outs old.visits new.visits did
+            (shown_in new.group (member_of event)) first h.told member_shown numbered
 
         go : (r : Result (Unit {0}) SinkError) → Wrote (moment_lines stack plans (mode_if wire mode) (moment_at stack plans w event)) a b r →
             TellsEvent mode stack plans wire w event old new a b r
         go (Ok done) gained = record {
           world = h.world;
-          visits = visits_told mode stack plans (happens stack plans w event).did new.outputs.outputs old.visits new.visits did h.told;
+          visits = visits_told mode stack plans (happens stack plans w event).did outs old.visits new.visits did h.told;
           gained = gained;
         }
         go (Err e) cut = cut

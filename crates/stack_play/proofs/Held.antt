@@ -18,9 +18,8 @@ use Rattle.outside.proofs.Gaining.{gains_none, gains_then, cut_short}
 use Rattle.run_mean.specs.World.{first_world, happens}
 use Rattle.run_mean.specs.Report.{moments}
 use Rattle.group_feed.specs.Standing.{Stands}
-use Rattle.group_open.specs.Ready.{IsReady, IsAtFirst}
-use Rattle.stack_play.specs.Turns.{Keeps, moment_at, IsTold}
-use Rattle.group_open.specs.declared.run.Run.{Run}
+use Rattle.group_feed.specs.Beginning.{IsReady, IsAtFirst}
+use Rattle.stack_play.specs.Turns.{Keeps, Playing, moment_at, IsTold}
 use Rattle.stack_play.proofs.Moments.{stands_at, front, front_more, stands_more, rest, whole}
 
 -- The lines of a moment, and its visits.
@@ -31,50 +30,47 @@ abbrev pub visits_at : Mode → List LayerTree → List Plan → Moment → ℕ
 visits_at mode stack plans = visits_of mode stack plans
 
 -- After k events a run stands at their world, with as many members as at first and their visits.
-pub record StandsAt (mode : Mode) (stack : List LayerTree) (plans : List Plan) (s : Script) (k : ℕ) (r : Run) : Type 0 where
-  pub ready : IsReady mode stack plans r
-  pub count : length r.world.members ≡ s.members
-  pub world : Stands r.world (stands_at stack plans s k)
+pub record StandsAt (mode : Mode) (stack : List LayerTree) (plans : List Plan) (s : Script) (k : ℕ) (r : Playing) : Type 0 where
+  pub ready : IsReady mode stack plans r.group r.places
+  pub count : length r.group.members ≡ s.members
+  pub world : Stands r.group (stands_at stack plans s k)
   pub few : r.visits ≤ k * 65536
 
 -- The sink gained their lines.
-pub record Held (mode : Mode) (stack : List LayerTree) (plans : List Plan) (wire : Bool) (s : Script) (k : ℕ) (r : Run) (a b : Tells) : Type 0 where
+pub record Held (mode : Mode) (stack : List LayerTree) (plans : List Plan) (wire : Bool) (s : Script) (k : ℕ) (r : Playing) (a b : Tells) : Type 0 where
   pub stands : StandsAt mode stack plans s k r
   pub visits : r.visits ≡ sum_by (visits_at mode stack plans) (front stack plans s k)
   pub gained : Gains a b (flat_map (lines_at mode stack plans wire) (front stack plans s k))
 
--- A run that is ready, or where its group begins, in a mode is so in its own.
-pub ready_as_it_is : (mode : Mode) (stack : List LayerTree) (plans : List Plan) (r : Run) → IsReady mode stack plans r →
-    IsReady r.world.mode stack plans r
-ready_as_it_is mode stack plans r ready = subst (λ x. IsReady x stack plans r) (sym ready.mode_is) ready
-
-pub first_as_it_is : (mode : Mode) (stack : List LayerTree) (plans : List Plan) (group stamp members : ℕ) (r : Run) →
-    IsAtFirst mode stack plans group stamp members r → IsAtFirst r.world.mode stack plans group stamp members r
-first_as_it_is mode stack plans group stamp members r first =
-    subst (λ x. IsAtFirst x stack plans group stamp members r) (sym first.ready.mode_is) first
+-- A run that is ready in a mode is so in its own.
+pub ready_as_it_is : (mode : Mode) (stack : List LayerTree) (plans : List Plan) (r : Playing) → IsReady mode stack plans r.group r.places →
+    IsReady r.group.mode stack plans r.group r.places
+ready_as_it_is mode stack plans r ready = subst (λ x. IsReady x stack plans r.group r.places) (sym ready.mode_is) ready
 
 module _ (mode : Mode) (stack : List LayerTree) (plans : List Plan) (s : Script) where
-  pub stands_first : (r : Run) → IsAtFirst mode stack plans s.group s.stamp s.members r → StandsAt mode stack plans s 0 r
-  stands_first r first = let none = first.visits in record {
+  pub stands_first : (r : Playing) → IsAtFirst mode stack plans s.group s.stamp s.members r.group r.places → r.visits ≡ 0 →
+      StandsAt mode stack plans s 0 r
+  stands_first r first none = record {
     ready = first.ready;
     count = first.count;
     world = first.world;
     few = omega (arith, none);
   }
 
-  pub stands_next : (k : ℕ) (event : ScriptEvent) (r next : Run) → StandsAt mode stack plans s k r → Keeps mode stack plans r next →
-      Stands next.world (happens stack plans (stands_at stack plans s k) event).world → k < length s.events → event ≡ get_or s.events k event →
+  pub stands_next : (k : ℕ) (event : ScriptEvent) (r next : Playing) → StandsAt mode stack plans s k r → Keeps mode stack plans r next →
+      Stands next.group (happens stack plans (stands_at stack plans s k) event).world → k < length s.events → event ≡ get_or s.events k event →
       StandsAt mode stack plans s (k + 1) next
   stands_next k event r next held kept world lt is = let few = held.few in let more = kept.few in record {
     ready = kept.ready;
     count = kept.count ∙ held.count;
-    world = subst (Stands next.world) (sym (stands_more stack plans s k event lt is)) world;
+    world = subst (Stands next.group) (sym (stands_more stack plans s k event lt is)) world;
     few = omega (arith, few, more);
   }
 
   module _ (wire : Bool) where
-    pub held_first : (r : Run) (a : Tells) → IsAtFirst mode stack plans s.group s.stamp s.members r → Held mode stack plans wire s 0 r a a
-    held_first r a first = record { stands = stands_first r first; visits = first.visits; gained = gains_none a }
+    pub held_first : (r : Playing) (a : Tells) → IsAtFirst mode stack plans s.group s.stamp s.members r.group r.places → r.visits ≡ 0 →
+        Held mode stack plans wire s 0 r a a
+    held_first r a first none = record { stands = stands_first r first none; visits = none; gained = gains_none a }
 
     module _ (k : ℕ) (event : ScriptEvent) (lt : k < length s.events) (is : event ≡ get_or s.events k event) where
       abbrev m : Moment
@@ -91,7 +87,7 @@ module _ (mode : Mode) (stack : List LayerTree) (plans : List Plan) (s : Script)
       visits_more = ap (sum_by (visits_at mode stack plans)) (front_more stack plans s k event lt is)
           ∙ fold-append (λ n x. n + visits_at mode stack plans x) 0 (front stack plans s k) (m ∷ [])
 
-      more : (r next : Run) (a b c : Tells) → Held mode stack plans wire s k r a b → Keeps mode stack plans r next →
+      more : (r next : Playing) (a b c : Tells) → Held mode stack plans wire s k r a b → Keeps mode stack plans r next →
           IsTold mode stack plans wire (stands_at stack plans s k) event r next b c → Held mode stack plans wire s (k + 1) next a c
       more r next a b c held kept told = record {
         stands = stands_next k event r next held.stands kept told.world lt is;
@@ -99,27 +95,27 @@ module _ (mode : Mode) (stack : List LayerTree) (plans : List Plan) (s : Script)
         gained = gains_then a b c _ _ _ held.gained told.gained lines_more;
       }
 
-      pub held_more : (r next : Run) (a b c : Tells) → Held mode stack plans wire s k r a b → Keeps r.world.mode stack plans r next →
-          IsTold r.world.mode stack plans wire (stands_at stack plans s k) event r next b c → Held mode stack plans wire s (k + 1) next a c
+      pub held_more : (r next : Playing) (a b c : Tells) → Held mode stack plans wire s k r a b → Keeps r.group.mode stack plans r next →
+          IsTold r.group.mode stack plans wire (stands_at stack plans s k) event r next b c → Held mode stack plans wire s (k + 1) next a c
       held_more r next a b c held kept told =
           let is = held.stands.ready.mode_is in
           more r next a b c held (subst (λ x. Keeps x stack plans r next) is kept)
           (subst (λ x. IsTold x stack plans wire (stands_at stack plans s k) event r next b c) is told)
 
-      cut_at : (r : Run) (a b c : Tells) (e : SinkError) → Held mode stack plans wire s k r a b → Wrote (lines_at mode stack plans wire m) b c (Err e) →
+      cut_at : (r : Playing) (a b c : Tells) (e : SinkError) → Held mode stack plans wire s k r a b → Wrote (lines_at mode stack plans wire m) b c (Err e) →
           Wrote (flat_map (lines_at mode stack plans wire) (run_of stack plans s)) a c (Err e)
       cut_at r a b c e held cut = cut_short a b c _ _ _ (flat_map (lines_at mode stack plans wire) (rest stack plans s k event lt is)) e held.gained cut
           (ap (flat_map (lines_at mode stack plans wire)) (whole stack plans s k event lt is)
           ∙ flat_map-append (lines_at mode stack plans wire) (front stack plans s (k + 1)) (rest stack plans s k event lt is)
           ∙ ap (λ ls. ls ++ flat_map (lines_at mode stack plans wire) (rest stack plans s k event lt is)) lines_more)
 
-      pub held_cut : (r : Run) (a b c : Tells) (e : SinkError) → Held mode stack plans wire s k r a b →
-          Wrote (lines_at r.world.mode stack plans wire m) b c (Err e) →
+      pub held_cut : (r : Playing) (a b c : Tells) (e : SinkError) → Held mode stack plans wire s k r a b →
+          Wrote (lines_at r.group.mode stack plans wire m) b c (Err e) →
           Wrote (flat_map (lines_at mode stack plans wire) (run_of stack plans s)) a c (Err e)
       held_cut r a b c e held cut =
           cut_at r a b c e held (subst (λ x. Wrote (lines_at x stack plans wire m) b c (Err e)) held.stands.ready.mode_is cut)
 
-    pub held_last : (k : ℕ) (r : Run) (a b : Tells) → Held mode stack plans wire s k r a b → length s.events ≤ k →
+    pub held_last : (k : ℕ) (r : Playing) (a b : Tells) → Held mode stack plans wire s k r a b → length s.events ≤ k →
         Gains a b (flat_map (lines_at mode stack plans wire) (run_of stack plans s)) × (r.visits ≡ sum_by (visits_at mode stack plans) (run_of stack plans s))
     held_last k r a b held all =
         let same : front stack plans s k ≡ run_of stack plans s =

@@ -3,4 +3,3 @@ pub mod Events
 pub mod Held
 pub mod Counted
 pub mod Outputs
-mod Explained

@@ -1,13 +1,9 @@
-//! A script played over a stack, layer by layer or by bypasses: its report on a sink, or in place of it how many lines of each kind it has, or why its
-//! steps weren't common.
+//! Scripts that are played in a group that is fed, and what is written of a run: its report, or the counts of its lines.
 #![tactic(auto)]
 
 mod counting;
-mod error;
-mod explaining;
 mod reporting;
+mod run;
 
-pub use counting::play_load;
-pub use error::PlayError;
-pub use explaining::explain_steps;
-pub use reporting::{play, play_with};
+pub use counting::write_counts;
+pub use reporting::write_report;

@@ -1,10 +1,10 @@
 -- The members of a group by their ids.
-use Rattle.std.specs.Prelude.{◌≡◌, ℕ, Bool, true, false, List, map, length}
+use Rattle.std.specs.Prelude.{◌≡◌, ℕ, Bool, true, false, List, map, length, Option, Some, None}
 use Rattle.std.specs.List.{range_with_len}
 use Rattle.layer_mean.specs.Tree.{LayerTree}
 use Rattle.stack_mean.specs.Plan.{Plan}
 use Rattle.run_mean.specs.Mode.{Mode, layered, bypass}
-use Rattle.run_mean.specs.Member.{Member}
+use Rattle.run_mean.specs.Member.{Member, out}
 use Rattle.bypass_member.specs.Placed.{Placed}
 
 -- The mode of members, by whether they run by bypasses.
@@ -38,3 +38,8 @@ AreSeated mode stack plans group stamp members = map seat_of members ≡ seats m
 -- Where a member is.
 abbrev pub member_of : Placed → Member
 member_of p = p.member
+
+-- A member that is shown, or one that is in no view where there is none.
+abbrev pub shown_or_out : Option Member → Member
+shown_or_out (Some m) = m
+shown_or_out None = out

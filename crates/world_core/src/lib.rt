@@ -6,6 +6,7 @@ mod examined;
 mod laws;
 mod members;
 mod packets;
+mod showing;
 mod world;
 
 pub use examined::Examined;

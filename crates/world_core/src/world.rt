@@ -1,10 +1,9 @@
 //! The members of a group at work, and every packet ever sent in it.
 
-ghost use Rattle.std.specs.Prelude.{◌≡◌, ◌+◌, ◌^◌, ◌<◌, ◌≤◌, IfOk, length, slice_index_or};
+ghost use Rattle.std.specs.Prelude.{◌≡◌, ◌+◌, ◌^◌, ◌<◌, ◌≤◌, IfOk, length};
 ghost use Rattle.std.specs.Rc.{rc_value};
 ghost use Rattle.stack_mean.specs.Acceptance.{largest_weight};
 ghost use Rattle.file_layer.specs.Making.{making};
-ghost use Rattle.run_mean.specs.Member.{out as is_in_none};
 ghost use Rattle.run_mean.specs.World as mean;
 ghost use Rattle.bypass_member.specs.Opening.{CanOpen};
 ghost use Rattle.group_feed.specs.Feeding.{Fed};
@@ -13,6 +12,8 @@ ghost use Rattle.run_mean.specs.Mode.{bypass};
 ghost use Rattle.script_mean.specs.Event.{member_of};
 ghost use Rattle.world_core.specs.Examining.{IsExamined};
 ghost use Rattle.world_core.specs.Opening.{Begins};
+ghost use Rattle.world_core.specs.Seats.{shown_or_out};
+ghost use Rattle.group_feed.specs.Showing.{shown_in};
 ghost use Rattle.group_feed.specs.Standing.{Stands, Stays};
 ghost use Rattle.msg_core.specs.View.{most_members};
 
@@ -178,12 +179,14 @@ impl World {
         }
     }
 
-    /// A member, shown.
-    pub fn shown(&self, member: u8) -> Shown<'_>
-        requires { member < length self.now.members }
-        ensures { result ≡ slice_index_or self.now.members member is_in_none }
+    /// A member, shown; None where the group doesn't have it.
+    pub(crate) fn shown(&self, id: u8) -> Option<Shown<'_>>
+        ensures { shown_or_out result ≡ shown_in self.now id }
     {
-        self.members[usize::from(member)].shown()
+        match self.members.get(usize::from(id)) {
+            Some(member) => Some(member.shown()),
+            None => None,
+        }
     }
 
     /// Lets the members go.

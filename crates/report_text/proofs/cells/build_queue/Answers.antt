@@ -1,6 +1,6 @@
 use Rattle.event_graph.specs.Answer.{stack_tree}
 use Rattle.layer_mean.specs.State.{rows_at}
-use Rattle.member_reads.specs.Shown.{state_shown}
+use Rattle.group_feed.specs.Showing.{state_at}
 use Rattle.report_lines.proofs.Rows.{in_other_words}
 use Rattle.run_mean.specs.Text.{rows_text}
 use Rattle.typed_layer.specs.View.{layer_tree}
@@ -8,8 +8,9 @@ use Rattle.report_text.proofs.Shown.{queue_parts}
 use Rattle.report_text.proofs.cells.build_queue.Goals as goal
 
 pub returns : goal.returns
-returns c =
+returns g c =
+    let s = state_at (g.S.Feed.group c.args.group.now) c.args.spot.id c.args.spot.place in
     in_other_words _ _ _ _ _
     (queue_parts c.args.queues.is_array c.args.spot.id c.args.spot.place (layer_tree c.args.queues.layer.now) c.args.queues.name.now
-    (rows_text (stack_tree c.args.stack.now) (rows_at (state_shown c.args.shown.now c.args.spot.place) c.args.spot.cell c.args.queue)) c.args.queue)
+    (rows_text (stack_tree c.args.stack.now) (rows_at s c.args.spot.cell c.args.queue)) c.args.queue)
     c.push_queue.ensures

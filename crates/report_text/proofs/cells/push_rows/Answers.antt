@@ -1,14 +1,15 @@
 use Rattle.std.proofs.Common.{codes, arith}
 use Rattle.event_graph.specs.Answer.{stack_tree}
 use Rattle.layer_mean.specs.State.{rows_at}
-use Rattle.member_reads.specs.Shown.{state_shown}
+use Rattle.group_feed.specs.Showing.{state_at}
 use Rattle.run_mean.specs.Text.{row_text}
 use Rattle.report_lines.proofs.Joined.{line_next}
 use Rattle.report_text.specs.Cells.{no_row}
 use Rattle.report_text.proofs.cells.push_rows.Goals as goal
 
 pub loop-k-preserved : goal.loop-k-preserved
-loop-k-preserved c =
+loop-k-preserved g c =
+    let s = state_at (g.S.Feed.group c.args.group.now) c.args.spot.id c.args.spot.place in
     line_next (row_text (stack_tree c.args.stack.now)) (codes " ")
-    (rows_at (state_shown c.args.shown.now c.args.spot.place) c.args.spot.cell c.args.queue) c.loop-k.k no_row _ _ _
+    (rows_at s c.args.spot.cell c.args.queue) c.loop-k.k no_row _ _ _
     c.loop-k.invariant c.in_ok-push_row_at.ensures (omega (arith, c.loop-k-test.true, c.rows-count.ensures))

@@ -1,6 +1,6 @@
 use Rattle.std.proofs.Common.{sym, ap, ◌∙◌}
 use Rattle.event_graph.specs.Answer.{stack_tree}
-use Rattle.member_reads.specs.Shown.{state_shown}
+use Rattle.group_feed.specs.Showing.{state_at}
 use Rattle.run_mean.specs.Report.{cell_lines}
 use Rattle.outside.proofs.Turns.{wrote_as}
 use Rattle.typed_layer.specs.View.{form_tree, items_tree, layer_tree}
@@ -9,7 +9,7 @@ use Rattle.report_text.proofs.state.write_cell.Goals as goal
 
 pub returns-in-Numbers : goal.returns-in-Numbers
 returns-in-Numbers g c =
-    let s = state_shown c.args.shown.now c.args.spot.place in
+    let s = state_at (g.S.Feed.group c.args.group.now) c.args.spot.id c.args.spot.place in
     wrote_as _ _ _ _ _
     (ap (λ form. cell_lines (stack_tree c.args.stack.now) c.args.spot.id c.args.spot.place (layer_tree c.args.layer.now) s
     (c.args.spot.cell, record { name = c.args.cell.now.name; form = form_tree form })) (sym c.in-Numbers.is))
@@ -17,7 +17,7 @@ returns-in-Numbers g c =
 
 pub returns-in-Queue : goal.returns-in-Queue
 returns-in-Queue g c =
-    let s = state_shown c.args.shown.now c.args.spot.place in
+    let s = state_at (g.S.Feed.group c.args.group.now) c.args.spot.id c.args.spot.place in
     wrote_as _ _ _ _ _
     (queue_cell (stack_tree c.args.stack.now) c.args.spot.id c.args.spot.place (layer_tree c.args.layer.now) s c.args.spot.cell c.args.cell.now.name
     c.in-Queue.capacity (items_tree c.in-Queue.items)
@@ -27,7 +27,7 @@ returns-in-Queue g c =
 
 pub returns-in-Queues : goal.returns-in-Queues
 returns-in-Queues g c =
-    let s = state_shown c.args.shown.now c.args.spot.place in
+    let s = state_at (g.S.Feed.group c.args.group.now) c.args.spot.id c.args.spot.place in
     wrote_as _ _ _ _ _
     (queues_cell (stack_tree c.args.stack.now) c.args.spot.id c.args.spot.place (layer_tree c.args.layer.now) s c.args.spot.cell c.args.cell.now.name
     c.in-Queues.capacity (items_tree c.in-Queues.items)

@@ -2,7 +2,7 @@ use Rattle.std.proofs.Common.{arith}
 use Rattle.std.proofs.lemmas.List.{length-map}
 use Rattle.std.proofs.lemmas.Result.{err_from_is_err_and}
 use Rattle.event_graph.specs.Answer.{stack_tree}
-use Rattle.member_reads.specs.Shown.{state_shown}
+use Rattle.group_feed.specs.Showing.{state_at}
 use Rattle.run_mean.specs.Report.{cell_lines}
 use Rattle.outside.proofs.Turns.{turns_cut, turns_done, turns_more}
 use Rattle.typed_layer.specs.View.{cell_tree, layer_tree}
@@ -11,9 +11,10 @@ use Rattle.report_text.proofs.state.write_layer.Goals as goal
 
 pub loop-number-preserved : goal.loop-number-preserved
 loop-number-preserved g c =
+    let s = state_at (g.S.Feed.group c.args.group.now) c.args.id c.args.place in
     let item = c.index-item.result.now in
     turns_more
-    (cell_lines (stack_tree c.args.stack.now) c.args.id c.args.place (layer_tree c.args.layer.now) (state_shown c.args.shown.now c.args.place))
+    (cell_lines (stack_tree c.args.stack.now) c.args.id c.args.place (layer_tree c.args.layer.now) s)
     (layer_tree c.args.layer.now).cells c.loop-number.number (cell_tree item) (cell_tree item) _ _ _
     c.loop-number.invariant c.in_ok-write_cell.ensures
     (omega (arith, c.loop-number-test.true, c.len-count.ensures, length-map c.args.layer.now.cells.items cell_tree))
@@ -22,10 +23,11 @@ loop-number-preserved g c =
 
 pub returns-in_err-write_cell : goal.returns-in_err-write_cell
 returns-in_err-write_cell g c =
+    let s = state_at (g.S.Feed.group c.args.group.now) c.args.id c.args.place in
     let item = c.index-item.result.now in
     let p = err_from_is_err_and c.from_residual.result c.from_residual.ensures.1 in
     rw (p.1, p.2) (turns_cut
-    (cell_lines (stack_tree c.args.stack.now) c.args.id c.args.place (layer_tree c.args.layer.now) (state_shown c.args.shown.now c.args.place))
+    (cell_lines (stack_tree c.args.stack.now) c.args.id c.args.place (layer_tree c.args.layer.now) s)
     (layer_tree c.args.layer.now).cells c.loop-number.number (cell_tree item) (cell_tree item) _ _ _ _
     c.loop-number.invariant c.in_err-write_cell.ensures
     (omega (arith, c.loop-number-test.true, c.len-count.ensures, length-map c.args.layer.now.cells.items cell_tree))
@@ -34,7 +36,8 @@ returns-in_err-write_cell g c =
 
 pub returns : goal.returns
 returns g c =
+    let s = state_at (g.S.Feed.group c.args.group.now) c.args.id c.args.place in
     turns_done
-    (cell_lines (stack_tree c.args.stack.now) c.args.id c.args.place (layer_tree c.args.layer.now) (state_shown c.args.shown.now c.args.place))
+    (cell_lines (stack_tree c.args.stack.now) c.args.id c.args.place (layer_tree c.args.layer.now) s)
     (layer_tree c.args.layer.now).cells c.loop-number.number _ _ c.loop-number.invariant
     (omega (arith, c.loop-number-test.false, c.len-count.ensures, length-map c.args.layer.now.cells.items cell_tree))

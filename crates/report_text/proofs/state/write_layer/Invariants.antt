@@ -1,7 +1,7 @@
 use Rattle.std.proofs.Common.{take}
 use Rattle.std.specs.List.{enumerate_from, flat_map}
 use Rattle.event_graph.specs.Answer.{stack_tree}
-use Rattle.member_reads.specs.Shown.{state_shown}
+use Rattle.group_feed.specs.Showing.{state_at}
 use Rattle.run_mean.specs.Report.{cell_lines}
 use Rattle.outside.specs.Lines.{Gains}
 use Rattle.outside.specs.Tells.{tells_of}
@@ -12,5 +12,5 @@ abbrev pub invariant-loop-number : goal.invariant-loop-number
 invariant-loop-number g l = Gains
     (tells_of g.O.Sink l.initial.out)
     (tells_of g.O.Sink l.out)
-    (flat_map (cell_lines (stack_tree l.stack) l.id l.place (layer_tree l.layer) (state_shown l.shown l.place))
+    (flat_map (cell_lines (stack_tree l.stack) l.id l.place (layer_tree l.layer) (state_at (g.S.Feed.group l.group) l.id l.place))
     (take l.number (enumerate_from 0 (layer_tree l.layer).cells)))

@@ -2,7 +2,7 @@ use Rattle.std.proofs.Common.{[], arith, refl}
 use Rattle.std.proofs.lemmas.Result.{err_from_is_err_and}
 use Rattle.event_graph.specs.Answer.{stack_tree}
 use Rattle.layer_mean.specs.State.{cell_at, queues_in, rows_at}
-use Rattle.member_reads.specs.Shown.{state_shown}
+use Rattle.group_feed.specs.Showing.{state_at}
 use Rattle.outside.proofs.Turns.{turns_cut, turns_done, turns_more}
 use Rattle.typed_layer.specs.View.{layer_tree}
 use Rattle.report_text.specs.Cells.{one_queue}
@@ -11,7 +11,7 @@ use Rattle.report_text.proofs.state.write_queues.Goals as goal
 pub loop-queue-preserved : goal.loop-queue-preserved
 loop-queue-preserved g c =
     let queues = c.args.queues in
-    let s = state_shown c.args.shown.now c.args.spot.place in
+    let s = state_at (g.S.Feed.group c.args.group.now) c.args.spot.id c.args.spot.place in
     turns_more
     (one_queue (stack_tree c.args.stack.now) c.args.spot.id c.args.spot.place (layer_tree queues.layer.now) queues.is_array queues.name.now)
     (queues_in (cell_at s c.args.spot.cell)) c.loop-queue.queue (rows_at s c.args.spot.cell c.loop-queue.queue) [] _ _ _
@@ -20,7 +20,7 @@ loop-queue-preserved g c =
 pub returns-in_err-write_queue : goal.returns-in_err-write_queue
 returns-in_err-write_queue g c =
     let queues = c.args.queues in
-    let s = state_shown c.args.shown.now c.args.spot.place in
+    let s = state_at (g.S.Feed.group c.args.group.now) c.args.spot.id c.args.spot.place in
     let p = err_from_is_err_and c.from_residual.result c.from_residual.ensures.1 in
     rw (p.1, p.2) (turns_cut
     (one_queue (stack_tree c.args.stack.now) c.args.spot.id c.args.spot.place (layer_tree queues.layer.now) queues.is_array queues.name.now)
@@ -30,7 +30,7 @@ returns-in_err-write_queue g c =
 pub returns : goal.returns
 returns g c =
     let queues = c.args.queues in
-    let s = state_shown c.args.shown.now c.args.spot.place in
+    let s = state_at (g.S.Feed.group c.args.group.now) c.args.spot.id c.args.spot.place in
     turns_done
     (one_queue (stack_tree c.args.stack.now) c.args.spot.id c.args.spot.place (layer_tree queues.layer.now) queues.is_array queues.name.now)
     (queues_in (cell_at s c.args.spot.cell)) c.loop-queue.queue _ _ c.loop-queue.invariant

@@ -2,7 +2,7 @@ use Rattle.std.proofs.Common.{take}
 use Rattle.std.specs.List.{enumerate_from, flat_map}
 use Rattle.event_graph.specs.Answer.{stack_tree}
 use Rattle.layer_mean.specs.State.{cell_at, queues_in}
-use Rattle.member_reads.specs.Shown.{state_shown}
+use Rattle.group_feed.specs.Showing.{state_at}
 use Rattle.outside.specs.Lines.{Gains}
 use Rattle.outside.specs.Tells.{tells_of}
 use Rattle.typed_layer.specs.View.{layer_tree}
@@ -14,4 +14,4 @@ invariant-loop-queue g l = Gains
     (tells_of g.O.Sink l.initial.out)
     (tells_of g.O.Sink l.out)
     (flat_map (one_queue (stack_tree l.stack) l.spot.id l.spot.place (layer_tree l.queues.layer.now) l.queues.is_array l.queues.name.now)
-    (take l.queue (enumerate_from 0 (queues_in (cell_at (state_shown l.shown l.spot.place) l.spot.cell)))))
+    (take l.queue (enumerate_from 0 (queues_in (cell_at (state_at (g.S.Feed.group l.group) l.spot.id l.spot.place) l.spot.cell)))))

@@ -1,7 +1,9 @@
 use Rattle.event_graph.specs.Answer.{stack_tree}
 use Rattle.stack_shapes.specs.Trees.{plans_tree}
+use Rattle.stack_play.specs.Turns.{playing}
 use Rattle.stack_play.proofs.Counted.{CountedSoFar}
 use Rattle.stack_play.proofs.counting.count_events.Given as goal
 
 abbrev pub invariant-loop : goal.invariant-loop
-invariant-loop l = CountedSoFar l.initial.run.world.mode (stack_tree l.stack) (plans_tree l.plans) l.fn.workload l.counter l.run l.counts l.script
+invariant-loop g l = CountedSoFar (g.G.Feed.group l.initial.group).mode (stack_tree l.stack) (plans_tree l.plans) l.fn.workload l.counter
+    (playing (g.G.Feed.group l.group) l.run) l.counts l.script

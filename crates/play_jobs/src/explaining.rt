@@ -7,8 +7,9 @@ ghost use Rattle.layer_ast.specs.View.{file_tree};
 ghost use Rattle.miss_mean.specs.Text.{explained_lines};
 ghost use Rattle.outside.specs.Tells.{tells_of};
 ghost use Rattle.script_mean.specs.Script.{IsRunnable};
+ghost use Rattle.play_jobs.specs.Play.{Plays};
 ghost use Rattle.stack_mean.specs.Plans.{plans_of};
-ghost use Rattle.stack_play.specs.Play.{Plays, most_events};
+ghost use Rattle.stack_play.specs.Turns.{most_events};
 
 use crate::error::{PlayError, unopened, with_room};
 use event_graph::Stack;
@@ -21,7 +22,7 @@ use std::alloc::Global;
 
 /// Plays a script by bypasses in the world in which it begins, and writes why its steps weren't common: a line for each, with lines of the file that
 /// the stack is of.
-pub fn explain_steps<O: Sink>(
+pub(crate) fn explain_steps<O: Sink>(
     alloc: Global,
     file: &File,
     stack: Stack,

@@ -1,8 +1,8 @@
 use Rattle.event_graph.specs.Answer.{stack_tree}
 use Rattle.layer_ast.specs.View.{file_tree}
 use Rattle.outside.specs.Tells.{tells_of}
-use Rattle.stack_play.proofs.Explained.{explained, first}
-use Rattle.stack_play.proofs.explaining.explain_steps.Goals as goal
+use Rattle.play_jobs.proofs.Explained.{explained, first}
+use Rattle.play_jobs.proofs.explaining.explain_steps.Goals as goal
 
 pub explain-wrote-requires-clause-first : goal.explain-wrote-requires-clause-first
 explain-wrote-requires-clause-first g c =

@@ -1,7 +1,7 @@
 //! Why not all lines of a run were written.
 
 ghost use Rattle.std.specs.Prelude.{◌≡◌};
-ghost use Rattle.stack_play.specs.Play.{cut_short, not_opened};
+ghost use Rattle.play_jobs.specs.Play.{cut_short, not_opened};
 
 use bypass_member::OpenError;
 use outside::SinkError;

@@ -10,13 +10,8 @@ use Rattle.outside.specs.declared.sink.SinkError.{SinkError}
 use Rattle.outside.specs.declared.sink.SinkError.TheVariants as sink
 use Rattle.bypass_member.specs.declared.error.OpenError.{OpenError}
 use Rattle.bypass_member.specs.declared.error.OpenError.TheVariants as opening
-use Rattle.stack_play.specs.declared.error.PlayError.{PlayError}
-use Rattle.stack_play.specs.declared.error.PlayError.TheVariants.{TooManyRows, Failed, Memory}
-use Rattle.script_mean.specs.Lines.{most_lines}
-
--- The most events of a script that is played: as many as one has lines.
-abbrev pub most_events : ℕ
-most_events = most_lines
+use Rattle.play_jobs.specs.declared.error.PlayError.{PlayError}
+use Rattle.play_jobs.specs.declared.error.PlayError.TheVariants.{TooManyRows, Failed, Memory}
 
 -- Where so many members of a stack have room, lines were written: all, or those in front of a put that failed, or a prefix of their bytes
 -- before memory ran out; where they have none, and where memory ran out before, nothing was.

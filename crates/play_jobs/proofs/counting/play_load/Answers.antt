@@ -3,13 +3,12 @@ use Rattle.event_graph.specs.Answer.{stack_tree}
 use Rattle.group_mean.specs.Shown.{shown_mode}
 use Rattle.run_mean.specs.Tally.{tally}
 use Rattle.stack_mean.specs.Plans.{plans_of}
-use Rattle.stack_play.proofs.Held.{first_as_it_is}
-use Rattle.stack_play.proofs.Outputs.{plays}
 use Rattle.script_text.specs.Course.{script_for}
-use Rattle.stack_play.proofs.counting.play_load.Goals as goal
+use Rattle.play_jobs.proofs.Opened.{first_as_it_is, plays}
+use Rattle.play_jobs.proofs.counting.play_load.Goals as goal
 
 pub write_counts-wrote-requires-clause-first : goal.write_counts-wrote-requires-clause-first
-write_counts-wrote-requires-clause-first g c = first_as_it_is (shown_mode c.args.mode) _ _ _ _ _ _ (search rules)
+write_counts-wrote-requires-clause-first g c = first_as_it_is (shown_mode c.args.mode) _ _ _ _ _ _ _ (search rules)
 
 pub returns-in-Ok : goal.returns-in-Ok
 returns-in-Ok g c = rw c.with_room.ensures (plays (λ mode stack plans. tally stack plans mode (script_for c.args.workload)) (shown_mode c.args.mode) _

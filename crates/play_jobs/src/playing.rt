@@ -1,0 +1,124 @@
+//! Scripts that are played over a stack, and their reports.
+
+ghost use Rattle.std.specs.Prelude.{◌≤◌, length};
+ghost use Rattle.std.specs.Rc.{rc_value};
+ghost use Rattle.bypass_laws.specs.Stack.{AreOfStack};
+ghost use Rattle.chain_laws.specs.Runs.{TypedStack};
+ghost use Rattle.event_graph.specs.Answer.{stack_tree};
+ghost use Rattle.group_feed.specs.Beginning.{IsAtFirst};
+ghost use Rattle.group_mean.specs.Shown.{shown_mode};
+ghost use Rattle.group_open.specs.Opening.{CanRun};
+ghost use Rattle.outside.specs.Lines.{Wrote};
+ghost use Rattle.outside.specs.Tells.{tells_of};
+ghost use Rattle.play_jobs.specs.Play.{Plays};
+ghost use Rattle.run_mean.specs.Mode.{bypass};
+ghost use Rattle.run_mean.specs.Report.{output_in};
+ghost use Rattle.script_mean.specs.Script.{IsRunnable};
+ghost use Rattle.stack_mean.specs.Plans.{plans_of};
+ghost use Rattle.stack_play.specs.Turns.{most_events};
+ghost use Rattle.stack_shapes.specs.Trees.{plans_tree};
+ghost use Rattle.trace_core.specs.Bypasses.{bypasses_tree};
+
+use crate::error::{PlayError, unopened, with_room};
+use event_graph::Stack;
+use group_mean::Mode;
+use group_open::{Opened, open, open_with};
+use outside::{Sink, SinkError};
+use report_text::Manner;
+use script_mean::Script;
+use stack_play::write_report;
+use std::alloc::Global;
+use trace_core::Bypasses;
+
+/// Plays a script in the world in which it begins, in a mode, and writes its report: with the packets' bytes and the number of visits where these
+/// are wanted.
+pub fn play<O: Sink>(
+    alloc: Global,
+    mode: Mode,
+    stack: Stack,
+    script: &Script,
+    wire: bool,
+    count: bool,
+    out: &mut O,
+) -> Result<(), PlayError>
+    requires runs_stack { CanRun (shown_mode mode) (stack_tree stack) }
+    requires runs { IsRunnable script.now }
+    requires few { length script.now.events ≤ most_events }
+    ensures { Plays (stack_tree stack) script.now.members (output_in (stack_tree stack) (plans_of (stack_tree stack)) script.now (shown_mode mode) wire count)
+        (tells_of O.Sink out.old) (tells_of O.Sink out.new) result }
+{
+    match open(
+        alloc,
+        mode,
+        stack,
+        script.group,
+        script.stamp,
+        script.members,
+    ) {
+        Ok(opened) => with_room(play_opened(alloc, opened, script, wire, count, out)),
+        Err(error) => Err(unopened(error)),
+    }
+}
+
+/// Plays a script by bypasses that are given, and are the stack's: to the same report as `play` in bypass mode.
+pub(crate) fn play_with<O: Sink>(
+    alloc: Global,
+    bypasses: &Bypasses,
+    stack: Stack,
+    script: &Script,
+    wire: bool,
+    count: bool,
+    out: &mut O,
+) -> Result<(), PlayError>
+    requires typed { TypedStack (stack_tree stack) }
+    requires of_stack { AreOfStack (stack_tree stack) (bypasses_tree bypasses.now) }
+    requires runs { IsRunnable script.now }
+    requires few { length script.now.events ≤ most_events }
+    ensures { Plays (stack_tree stack) script.now.members (output_in (stack_tree stack) (plans_of (stack_tree stack)) script.now bypass wire count)
+        (tells_of O.Sink out.old) (tells_of O.Sink out.new) result }
+{
+    match open_with(
+        alloc,
+        bypasses,
+        stack,
+        script.group,
+        script.stamp,
+        script.members,
+    ) {
+        Ok(opened) => with_room(play_opened(alloc, opened, script, wire, count, out)),
+        Err(error) => Err(unopened(error)),
+    }
+}
+
+/// Plays a script in a group that begins, and lets the group go.
+fn play_opened<O: Sink>(
+    alloc: Global,
+    opened: Opened,
+    script: &Script,
+    wire: bool,
+    count: bool,
+    out: &mut O,
+) -> Result<(), SinkError>
+    requires first { IsAtFirst opened.group.mode (stack_tree opened.stack) (plans_tree (rc_value opened.plans)) script.now.group script.now.stamp
+        script.now.members opened.group opened.outputs.places }
+    requires runs { IsRunnable script.now }
+    requires few { length script.now.events ≤ most_events }
+    ensures { Wrote (output_in (stack_tree opened.stack) (plans_tree (rc_value opened.plans)) script.now opened.group.mode wire count)
+        (tells_of O.Sink out.old) (tells_of O.Sink out.new) result }
+{
+    let Opened {
+        stack,
+        plans,
+        entries: _,
+        outputs,
+        mut group,
+    } = opened;
+    let manner = Manner {
+        stack: &stack,
+        plans: &plans,
+        wire,
+    };
+    let wrote = write_report(alloc, &mut group, outputs, manner, script, count, out);
+    group.close();
+    wrote
+}
