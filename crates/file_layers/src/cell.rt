@@ -23,7 +23,6 @@ use std::alloc::{AllocError, Global};
 use typed_layer::{Carried, Cell, Expression, Form, HeaderForm, ItemMessage, Items};
 
 /// The words of some items.
-#[tactic(auto, using(file_numbers::proofs::Lists::trees_more))]
 fn words(alloc: Global, items: &[ast::Item]) -> Result<Vec<Word>, AllocError>
     ensures { IfOk result (λ words. words.items ≡ map (λ i. i.name.word) (map written.item_tree items.now)) }
 {
@@ -46,7 +45,9 @@ fn last_word(row: &ast::Items) -> Word
 
 /// The last item of a row as its message, where it carries one.
 fn item_message(row: &ast::Items, carried: Option<Carried>) -> Option<ItemMessage>
-    ensures { option_map (λ m. (m.name, carried_tree m.carried)) result ≡ option_zip (message_among (is_some (option_map carried_tree carried)) (map (λ i. i.name.word) (items_in (written.items_tree row.now)))) (option_map carried_tree carried) }
+    ensures { option_map (λ m. (m.name, carried_tree m.carried)) result
+        ≡ option_zip (message_among (is_some (option_map carried_tree carried))
+        (map (λ i. i.name.word) (items_in (written.items_tree row.now)))) (option_map carried_tree carried) }
 {
     match carried {
         None => None,
@@ -77,11 +78,18 @@ fn initial_value(
     place: &Place,
     initial: &Option<ast::Expression>,
 ) -> Result<Expression, AllocError>
-    ensures { IfOk result (λ x. expression_tree x ≡ option_map_or (number_of (own_names (placed_of place.now))) (option_map written.expression_tree initial.now) (tree.number 0)) }
+    ensures { IfOk result (λ x. expression_tree x
+        ≡ option_map_or (number_of (own_names (placed_of place.now))) (option_map written.expression_tree initial.now)
+        (tree.number 0)) }
 {
     match initial {
         None => Ok(Expression::Number(0)),
-        Some(e) => number(alloc, &Names::own(alloc, place), e),
+        Some(e) => {
+            let names = Names::own(alloc, place);
+            let initial = number(alloc, &names, e);
+            drop(names);
+            initial
+        }
     }
 }
 

@@ -17,6 +17,7 @@ ghost use Rattle.file_numbers.specs.Scope.{names_of};
 ghost use Rattle.fault_mean.specs.Limits.{most_names};
 ghost use Rattle.msg_core.specs.Headers.{most_declared};
 
+use crate::made::made;
 use crate::statement::block;
 use file_numbers::{Names, Place, carries, number, numbers_of};
 use file_scope::{listed, written};
@@ -46,7 +47,7 @@ fn popped_names(alloc: Global, popped: &Option<Popped>) -> Result<Vec<Name>, All
     }
 }
 
-/// Names for numbers, with those of the fields of the header that is taken off behind them.
+/// Names for numbers, and after them those of the fields of the header that is taken off.
 fn with_fields(
     alloc: Global,
     numbers: &[Name],
@@ -96,13 +97,17 @@ struct Entered {
     block: Block,
 }
 
-/// The block of a handler, in front of which these names are visible.
+/// The block of a handler, before which these names are visible.
 fn whole_block(alloc: Global, names: &mut Names, b: &ast::Block) -> Result<Entered, AllocError>
     requires numbers { IsByte ((behind_all (written.block_tree b.now) (names_of names.old)).taken.numbers - (names_of names.old).taken.numbers) }
     requires messages { IsByte ((behind_all (written.block_tree b.now) (names_of names.old)).taken.messages - (names_of names.old).taken.messages) }
     requires block { HoldsBlock (statements_of (names_of names.old) (written.block_tree b.now)) }
-    ensures numbers { IfOk result (λ x. x.numbers ≡ (behind_all (written.block_tree b.now) (names_of names.old)).taken.numbers - (names_of names.old).taken.numbers) }
-    ensures messages { IfOk result (λ x. x.messages ≡ (behind_all (written.block_tree b.now) (names_of names.old)).taken.messages - (names_of names.old).taken.messages) }
+    ensures numbers { IfOk result (λ x. x.numbers
+        ≡ (behind_all (written.block_tree b.now) (names_of names.old)).taken.numbers -
+        (names_of names.old).taken.numbers) }
+    ensures messages { IfOk result (λ x. x.messages
+        ≡ (behind_all (written.block_tree b.now) (names_of names.old)).taken.messages -
+        (names_of names.old).taken.messages) }
     ensures block { IfOk result (λ x. block_tree x.block ≡ statements_of (names_of names.old) (written.block_tree b.now)) }
 {
     let numbers = names.numbers.taken();
@@ -123,8 +128,10 @@ fn handler(alloc: Global, place: &Place, h: &ast::Handler) -> Result<Handler, Al
     ensures tagged { IfOk result (λ x. IsTagged x) }
 {
     let mut names = enter(alloc, place, h)?;
-    let expected = expected(alloc, &names, &h.expected)?;
-    let entered = whole_block(alloc, &mut names, &h.block)?;
+    let expected = made!(expected(alloc, &names, &h.expected), names);
+    let entered = whole_block(alloc, &mut names, &h.block);
+    drop(names);
+    let entered = made!(entered, expected);
     Ok(Handler {
         direction: h.direction,
         kind: h.kind,

@@ -5,6 +5,7 @@ ghost use Rattle.layer_ast.specs.View as written;
 ghost use Rattle.file_mean.specs.Layers as spec;
 ghost use Rattle.typed_layer.specs.View.{layer_tree};
 ghost use Rattle.file_laws.specs.Bounds.{HoldsLayer};
+ghost use Rattle.file_numbers.specs.Place.{placed_of};
 ghost use Rattle.file_numbers.specs.Placed.{placed, words_of};
 
 use crate::cell::{cells, headers};
@@ -16,7 +17,6 @@ use std::alloc::{AllocError, Global};
 use typed_layer::{Blank, Handler, Handlers, TypedLayer};
 
 /// The words that declarations declare, in order.
-#[tactic(auto, using(file_numbers::proofs::Places::word_next))]
 fn own_words(alloc: Global, declarations: &[Declaration]) -> Result<Words, AllocError>
     ensures { IfOk result (λ words. words ≡ words_of (map written.declaration_tree declarations.now)) }
 {
@@ -27,8 +27,25 @@ fn own_words(alloc: Global, declarations: &[Declaration]) -> Result<Words, Alloc
     Ok(words)
 }
 
-/// The layer that a layer of a file is at a place that gives these params and has these places above.
+/// The layer that a layer of a file is at its place.
 #[tactic(auto, unfolding(file_mean::specs::Layers::layer_of))]
+fn layer_of(alloc: Global, place: &Place, layer: &Layer) -> Result<TypedLayer, AllocError>
+    requires layer { (placed_of place.now).layer ≡ written.layer_tree layer.now }
+    requires holds { HoldsLayer (placed_of place.now) }
+    ensures { IfOk result (λ x. layer_tree x ≡ spec.layer_of (placed_of place.now)) }
+{
+    let cells = cells(alloc, place, &layer.declarations)?;
+    let headers = headers(alloc, place, &layer.declarations)?;
+    let handlers = handlers(alloc, place, &layer.handlers)?;
+    Ok(TypedLayer {
+        name: layer.name.word,
+        cells,
+        headers,
+        handlers: Handlers::of(alloc, handlers)?,
+    })
+}
+
+/// The layer that a layer of a file is at a place that gives these params and has these places above.
 pub fn layer(
     alloc: Global,
     layer: &Layer,
@@ -40,13 +57,5 @@ pub fn layer(
 {
     let own = own_words(alloc, &layer.declarations)?;
     let place = Place::of(alloc, layer, &own, given, blank)?;
-    let cells = cells(alloc, &place, &layer.declarations)?;
-    let headers = headers(alloc, &place, &layer.declarations)?;
-    let handlers = handlers(alloc, &place, &layer.handlers)?;
-    Ok(TypedLayer {
-        name: layer.name.word,
-        cells,
-        headers,
-        handlers: Handlers::of(alloc, handlers)?,
-    })
+    layer_of(alloc, &place, layer)
 }

@@ -5,6 +5,7 @@
 mod cell;
 mod handler;
 mod layer;
+mod made;
 mod row;
 mod stack;
 mod statement;

@@ -13,6 +13,7 @@ ghost use Rattle.file_laws.specs.Bounds.{HoldsContent, HoldsSlot, IsByte};
 ghost use Rattle.file_numbers.specs.Scope.{names_of};
 ghost use Rattle.msg_core.specs.Headers.{most_fields};
 
+use crate::made::made;
 use file_numbers::{Names, argument_message, carries, few, fields, last, numbers, numbers_of};
 use file_scope::written;
 use layer_ast as ast;
@@ -27,7 +28,9 @@ fn last_message(
     has_message: bool,
     arguments: &Arguments,
 ) -> Result<Option<MessageExpression>, AllocError>
-    ensures { IfOk result (λ m. option_map message_tree m ≡ option_map (values.argument_message (names_of names.now)) (message_among has_message (arguments_in (Some (written.arguments_tree arguments.now))))) }
+    ensures { IfOk result (λ m. option_map message_tree m
+        ≡ option_map (values.argument_message (names_of names.now))
+        (message_among has_message (arguments_in (Some (written.arguments_tree arguments.now))))) }
 {
     if has_message {
         Ok(Some(argument_message(alloc, names, last(arguments))?))
@@ -62,7 +65,7 @@ fn content(
 {
     let fields = match pushed {
         None => Vec::new(alloc),
-        Some(pushed) => fields(alloc, names, &pushed.fields)?,
+        Some(pushed) => made!(fields(alloc, names, &pushed.fields), message),
     };
     Ok(Content {
         message,
@@ -80,9 +83,16 @@ pub fn emission(
     arguments: &Arguments,
     pushed: &Option<Pushed>,
 ) -> Result<Emission, AllocError>
-    requires numbers { length (spec.emission_of (names_of names.now) direction kind (arguments_in (Some (written.arguments_tree arguments.now))) (option_map written.pushed_tree pushed.now)).numbers ≤ most_fields }
-    requires content { HoldsContent (spec.emission_of (names_of names.now) direction kind (arguments_in (Some (written.arguments_tree arguments.now))) (option_map written.pushed_tree pushed.now)).content }
-    ensures { IfOk result (λ e. emission_tree e ≡ spec.emission_of (names_of names.now) direction kind (arguments_in (Some (written.arguments_tree arguments.now))) (option_map written.pushed_tree pushed.now)) }
+    requires numbers { length (spec.emission_of (names_of names.now) direction kind
+        (arguments_in (Some (written.arguments_tree arguments.now)))
+        (option_map written.pushed_tree pushed.now)).numbers ≤ most_fields }
+    requires content { HoldsContent
+        (spec.emission_of (names_of names.now) direction kind
+        (arguments_in (Some (written.arguments_tree arguments.now)))
+        (option_map written.pushed_tree pushed.now)).content }
+    ensures { IfOk result (λ e. emission_tree e
+        ≡ spec.emission_of (names_of names.now) direction kind
+        (arguments_in (Some (written.arguments_tree arguments.now))) (option_map written.pushed_tree pushed.now)) }
 {
     let has_message = carries(kind);
     let numbers = numbers(alloc, names, has_message, arguments)?;
@@ -112,8 +122,11 @@ pub fn pushed_row(
     queue: &Queue,
     items: &Arguments,
 ) -> Result<Row, AllocError>
-    requires { length (spec.pushed_row (names_of names.now) (written.queue_tree queue.now) (arguments_in (Some (written.arguments_tree items.now)))).numbers ≤ most_fields }
-    ensures { IfOk result (λ r. row_tree r ≡ spec.pushed_row (names_of names.now) (written.queue_tree queue.now) (arguments_in (Some (written.arguments_tree items.now)))) }
+    requires { length (spec.pushed_row (names_of names.now) (written.queue_tree queue.now)
+        (arguments_in (Some (written.arguments_tree items.now)))).numbers ≤ most_fields }
+    ensures { IfOk result (λ r. row_tree r
+        ≡ spec.pushed_row (names_of names.now) (written.queue_tree queue.now)
+        (arguments_in (Some (written.arguments_tree items.now)))) }
 {
     let has_message = has_message(names, queue);
     let numbers = numbers(alloc, names, has_message, items)?;
@@ -125,7 +138,6 @@ pub fn pushed_row(
 }
 
 /// So many slots, from one on.
-#[tactic(auto, using(crate::proofs::Rows::slots_more))]
 fn slots(alloc: Global, first: u16, count: usize) -> Result<Vec<u8>, AllocError>
     requires { first + count ≤ 256 }
     ensures { IfOk result (λ all. all.items ≡ range_with_len first count) }
@@ -147,7 +159,11 @@ fn taken_row(
 ) -> Result<Taken, AllocError>
     requires numbers { first + count ≤ 256 }
     requires message { HoldsSlot (option_map (λ c. (slot, c)) (option_map carried_tree carried)) }
-    ensures { IfOk result (λ t. taken_tree t ≡ record { numbers = range_with_len first count; message = option_map (λ c. (slot, c)) (option_map carried_tree carried) }) }
+    ensures { IfOk result (λ t. taken_tree t
+        ≡ record {
+          numbers = range_with_len first count;
+          message = option_map (λ c. (slot, c)) (option_map carried_tree carried);
+        }) }
 {
     let numbers = slots(alloc, first, count)?;
     let message = match carried {
@@ -165,7 +181,9 @@ fn taken_row(
 fn bring_row(names: &mut Names, has_message: bool, new: &[Name]) -> Result<(), AllocError>
     requires numbers { (names_of names.old).taken.numbers + length (numbers_among has_message new.now) ≤ 256 }
     requires message { (names_of names.old).taken.messages + length (option_to_list (message_among has_message new.now)) ≤ 256 }
-    ensures { OnOk result (names_of names.new ≡ with_messages (option_to_list (message_among has_message new.now)) (with_numbers (numbers_among has_message new.now) (names_of names.old))) }
+    ensures { OnOk result (names_of names.new
+        ≡ with_messages (option_to_list (message_among has_message new.now))
+        (with_numbers (numbers_among has_message new.now) (names_of names.old))) }
 {
     let count = numbers_of(has_message, new.len());
     let (numbers, message) = new.split_at(count);
@@ -181,10 +199,16 @@ pub fn take_row(
     queue: &Queue,
     new: &ast::Names,
 ) -> Result<Taken, AllocError>
-    requires numbers { AllByRecursion IsByte (spec.taken_row (names_of names.old) (written.queue_tree queue.now) (names_in (Some (written.names_tree new.now)))).numbers }
+    requires numbers { AllByRecursion IsByte
+        (spec.taken_row (names_of names.old) (written.queue_tree queue.now)
+        (names_in (Some (written.names_tree new.now)))).numbers }
     requires message { HoldsSlot (spec.taken_row (names_of names.old) (written.queue_tree queue.now) (names_in (Some (written.names_tree new.now)))).message }
-    ensures taken { IfOk result (λ t. taken_tree t ≡ spec.taken_row (names_of names.old) (written.queue_tree queue.now) (names_in (Some (written.names_tree new.now)))) }
-    ensures names { OnOk result (names_of names.new ≡ spec.with_taken (written.queue_tree queue.now) (names_in (Some (written.names_tree new.now))) (names_of names.old)) }
+    ensures taken { IfOk result (λ t. taken_tree t
+        ≡ spec.taken_row (names_of names.old) (written.queue_tree queue.now)
+        (names_in (Some (written.names_tree new.now)))) }
+    ensures names { OnOk result (names_of names.new
+        ≡ spec.with_taken (written.queue_tree queue.now) (names_in (Some (written.names_tree new.now)))
+        (names_of names.old)) }
 {
     let new = written(alloc, new)?;
     let has_message = has_message(names, queue);

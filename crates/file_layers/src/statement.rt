@@ -16,6 +16,7 @@ ghost use Rattle.file_layers.specs.Behind.{past};
 ghost use Rattle.file_numbers.specs.Scope.{names_of};
 ghost use Rattle.msg_core.specs.Headers.{most_fields};
 
+use crate::made::made;
 use crate::row::{emission, pushed_row, take_row};
 use file_numbers::{Names, number, queue_index};
 use layer_ast as ast;
@@ -32,12 +33,14 @@ fn bind(
     value: &ast::Expression,
 ) -> Result<Statement, AllocError>
     requires { IsByte (names_of names.old).taken.numbers }
-    ensures is { IfOk result (λ s. statement_tree s ≡ tree.bind (names_of names.old).taken.numbers (values.number_of (names_of names.old) (written.expression_tree value.now))) }
+    ensures is { IfOk result (λ s. statement_tree s
+        ≡ tree.bind (names_of names.old).taken.numbers
+        (values.number_of (names_of names.old) (written.expression_tree value.now))) }
     ensures names { OnOk result (names_of names.new ≡ named.with_numbers (name.now ∷ []) (names_of names.old)) }
 {
     let value = number(alloc, names, value)?;
     let slot = names.numbers.taken() as u8;
-    names.bring_numbers(&[*name])?;
+    made!(names.bring_numbers(&[*name]), value);
     Ok(Statement::Bind { slot, value })
 }
 
@@ -50,14 +53,17 @@ fn set(
     index: &Option<ast::Expression>,
     value: &ast::Expression,
 ) -> Result<Statement, AllocError>
-    ensures { IfOk result (λ s. statement_tree s ≡ tree.assign (named.cell_of (names_of names.now).place name.now) (spec.index_of (names_of names.now) (option_map written.expression_tree index.now)) (values.number_of (names_of names.now) (written.expression_tree value.now))) }
+    ensures { IfOk result (λ s. statement_tree s
+        ≡ tree.assign (named.cell_of (names_of names.now).place name.now)
+        (spec.index_of (names_of names.now) (option_map written.expression_tree index.now))
+        (values.number_of (names_of names.now) (written.expression_tree value.now))) }
 {
     let cell = names.place.cell(name);
     let value = number(alloc, names, value)?;
     match index {
         None => Ok(Statement::Set { cell, value }),
         Some(index) => {
-            let index = number(alloc, names, index)?;
+            let index = made!(number(alloc, names, index), value);
             Ok(Statement::SetElement { cell, index, value })
         }
     }
@@ -73,11 +79,15 @@ fn set_square(
     column: &ast::Expression,
     value: &ast::Expression,
 ) -> Result<Statement, AllocError>
-    ensures { IfOk result (λ s. statement_tree s ≡ tree.assign_square (named.cell_of (names_of names.now).place name.now) (values.number_of (names_of names.now) (written.expression_tree row.now)) (values.number_of (names_of names.now) (written.expression_tree column.now)) (values.number_of (names_of names.now) (written.expression_tree value.now))) }
+    ensures { IfOk result (λ s. statement_tree s
+        ≡ tree.assign_square (named.cell_of (names_of names.now).place name.now)
+        (values.number_of (names_of names.now) (written.expression_tree row.now))
+        (values.number_of (names_of names.now) (written.expression_tree column.now))
+        (values.number_of (names_of names.now) (written.expression_tree value.now))) }
 {
     let row = number(alloc, names, row)?;
-    let column = number(alloc, names, column)?;
-    let value = number(alloc, names, value)?;
+    let column = made!(number(alloc, names, column), row);
+    let value = made!(number(alloc, names, value), row, column);
     Ok(Statement::SetSquare {
         cell: names.place.cell(name),
         row,
@@ -96,9 +106,16 @@ fn emit(
     arguments: &Arguments,
     pushed: &Option<Pushed>,
 ) -> Result<Statement, AllocError>
-    requires numbers { length (spec.emission_of (names_of names.now) direction kind (arguments_in (Some (written.arguments_tree arguments.now))) (option_map written.pushed_tree pushed.now)).numbers ≤ most_fields }
-    requires content { HoldsContent (spec.emission_of (names_of names.now) direction kind (arguments_in (Some (written.arguments_tree arguments.now))) (option_map written.pushed_tree pushed.now)).content }
-    ensures { IfOk result (λ s. statement_tree s ≡ tree.emit (spec.emission_of (names_of names.now) direction kind (arguments_in (Some (written.arguments_tree arguments.now))) (option_map written.pushed_tree pushed.now))) }
+    requires numbers { length (spec.emission_of (names_of names.now) direction kind
+        (arguments_in (Some (written.arguments_tree arguments.now)))
+        (option_map written.pushed_tree pushed.now)).numbers ≤ most_fields }
+    requires content { HoldsContent
+        (spec.emission_of (names_of names.now) direction kind
+        (arguments_in (Some (written.arguments_tree arguments.now)))
+        (option_map written.pushed_tree pushed.now)).content }
+    ensures { IfOk result (λ s. statement_tree s
+        ≡ tree.emit (spec.emission_of (names_of names.now) direction kind
+        (arguments_in (Some (written.arguments_tree arguments.now))) (option_map written.pushed_tree pushed.now))) }
 {
     let emission = emission(alloc, names, direction, kind, arguments, pushed)?;
     Ok(Statement::Emit(emission))
@@ -117,7 +134,7 @@ pub fn block(alloc: Global, names: &mut Names, b: &ast::Block) -> Result<Block, 
     Ok(Block { statements })
 }
 
-/// Statements one behind the other.
+/// Statements one after the other.
 #[cycle(blocks)]
 fn statements(
     alloc: Global,
@@ -179,8 +196,8 @@ fn statement(alloc: Global, names: &mut Names, s: &ast::Statement) -> Result<Sta
         } => {
             let cell = names.place.cell(&queue.name);
             let index = queue_index(alloc, names, queue)?;
-            let (taken, first) = taken_block(alloc, names, first, queue, new)?;
-            let otherwise = block(alloc, names, otherwise)?;
+            let (taken, first) = made!(taken_block(alloc, names, first, queue, new), index);
+            let otherwise = made!(block(alloc, names, otherwise), index, taken, first);
             Ok(take(cell, index, taken, first, otherwise))
         }
         ast::Statement::When {
@@ -197,8 +214,8 @@ fn statement(alloc: Global, names: &mut Names, s: &ast::Statement) -> Result<Sta
             ..
         } => {
             let condition = number(alloc, names, condition)?;
-            let way = block(alloc, names, first)?;
-            let other_way = block(alloc, names, otherwise)?;
+            let way = made!(block(alloc, names, first), condition);
+            let other_way = made!(block(alloc, names, otherwise), condition, way);
             Ok(branch(*likely, condition, way, other_way))
         }
         ast::Statement::Each {
@@ -221,15 +238,23 @@ fn push(
     queue: &Queue,
     items: &Arguments,
 ) -> Result<Statement, AllocError>
-    requires { (length (spec.pushed_row (names_of names.old) (written.queue_tree queue.now) (arguments_in (Some (written.arguments_tree items.now)))).numbers ≤ most_fields) × HoldsBlock (spec.statements_of (names_of names.old) (written.block_tree otherwise.now)) }
-    ensures is { IfOk result (λ s. statement_tree s ≡ tree.push (values.queue_cell (names_of names.old) (written.queue_tree queue.now)) (values.queue_index (names_of names.old) (written.queue_tree queue.now)) (named.capacity_of (names_of names.old).place (queue_name (written.queue_tree queue.now))) (spec.pushed_row (names_of names.old) (written.queue_tree queue.now) (arguments_in (Some (written.arguments_tree items.now)))) (spec.statements_of (names_of names.old) (written.block_tree otherwise.now))) }
+    requires { (length (spec.pushed_row (names_of names.old) (written.queue_tree queue.now)
+        (arguments_in (Some (written.arguments_tree items.now)))).numbers ≤ most_fields)
+        × HoldsBlock (spec.statements_of (names_of names.old) (written.block_tree otherwise.now)) }
+    ensures is { IfOk result (λ s. statement_tree s
+        ≡ tree.push (values.queue_cell (names_of names.old) (written.queue_tree queue.now))
+        (values.queue_index (names_of names.old) (written.queue_tree queue.now))
+        (named.capacity_of (names_of names.old).place (queue_name (written.queue_tree queue.now)))
+        (spec.pushed_row (names_of names.old) (written.queue_tree queue.now)
+        (arguments_in (Some (written.arguments_tree items.now))))
+        (spec.statements_of (names_of names.old) (written.block_tree otherwise.now))) }
     ensures names { OnOk result (names_of names.new ≡ past (names_of names.old) (names_of names.old) (written.block_tree otherwise.now)) }
 {
     let cell = names.place.cell(&queue.name);
     let capacity = names.place.capacity(&queue.name);
     let index = queue_index(alloc, names, queue)?;
-    let row = pushed_row(alloc, names, queue, items)?;
-    let otherwise = block(alloc, names, otherwise)?;
+    let row = made!(pushed_row(alloc, names, queue, items), index);
+    let otherwise = made!(block(alloc, names, otherwise), index, row);
     Ok(Statement::Push {
         cell,
         index,
@@ -248,14 +273,27 @@ fn taken_block(
     queue: &Queue,
     new: &ast::Names,
 ) -> Result<(Taken, Block), AllocError>
-    requires { AllByRecursion IsByte (spec.taken_row (names_of names.old) (written.queue_tree queue.now) (names_in (Some (written.names_tree new.now)))).numbers × HoldsSlot (spec.taken_row (names_of names.old) (written.queue_tree queue.now) (names_in (Some (written.names_tree new.now)))).message × HoldsBlock (spec.statements_of (spec.with_taken (written.queue_tree queue.now) (names_in (Some (written.names_tree new.now))) (names_of names.old)) (written.block_tree first.now)) }
-    ensures taken { IfOk result (λ x. taken_tree x.0 ≡ spec.taken_row (names_of names.old) (written.queue_tree queue.now) (names_in (Some (written.names_tree new.now)))) }
-    ensures block { IfOk result (λ x. block_tree x.1 ≡ spec.statements_of (spec.with_taken (written.queue_tree queue.now) (names_in (Some (written.names_tree new.now))) (names_of names.old)) (written.block_tree first.now)) }
-    ensures names { OnOk result (names_of names.new ≡ (past (names_of names.old) (spec.with_taken (written.queue_tree queue.now) (names_in (Some (written.names_tree new.now))) (names_of names.old)) (written.block_tree first.now))) }
+    requires { AllByRecursion IsByte
+        (spec.taken_row (names_of names.old) (written.queue_tree queue.now)
+        (names_in (Some (written.names_tree new.now)))).numbers
+        × HoldsSlot (spec.taken_row (names_of names.old) (written.queue_tree queue.now)
+        (names_in (Some (written.names_tree new.now)))).message
+        × HoldsBlock (spec.statements_of
+        (spec.with_taken (written.queue_tree queue.now) (names_in (Some (written.names_tree new.now)))
+        (names_of names.old)) (written.block_tree first.now)) }
+    ensures taken { IfOk result (λ x. taken_tree x.0
+        ≡ spec.taken_row (names_of names.old) (written.queue_tree queue.now)
+        (names_in (Some (written.names_tree new.now)))) }
+    ensures block { IfOk result (λ x. block_tree x.1
+        ≡ spec.statements_of (spec.with_taken (written.queue_tree queue.now)
+        (names_in (Some (written.names_tree new.now))) (names_of names.old)) (written.block_tree first.now)) }
+    ensures names { OnOk result (names_of names.new
+        ≡ (past (names_of names.old) (spec.with_taken (written.queue_tree queue.now)
+        (names_in (Some (written.names_tree new.now))) (names_of names.old)) (written.block_tree first.now))) }
 {
     let outer = names.outer();
     let taken = take_row(alloc, names, queue, new)?;
-    let first = block(alloc, names, first)?;
+    let first = made!(block(alloc, names, first), taken);
     names.leave(outer);
     Ok((taken, first))
 }
@@ -306,11 +344,13 @@ fn when(
     condition: &ast::Expression,
 ) -> Result<Statement, AllocError>
     requires { HoldsBlock (spec.statements_of (names_of names.old) (written.block_tree first.now)) }
-    ensures is { IfOk result (λ s. statement_tree s ≡ tree.branch likely (values.number_of (names_of names.old) (written.expression_tree condition.now)) (spec.statements_of (names_of names.old) (written.block_tree first.now)) tree.none) }
+    ensures is { IfOk result (λ s. statement_tree s
+        ≡ tree.branch likely (values.number_of (names_of names.old) (written.expression_tree condition.now))
+        (spec.statements_of (names_of names.old) (written.block_tree first.now)) tree.none) }
     ensures names { OnOk result (names_of names.new ≡ past (names_of names.old) (names_of names.old) (written.block_tree first.now)) }
 {
     let condition = number(alloc, names, condition)?;
-    let first = block(alloc, names, first)?;
+    let first = made!(block(alloc, names, first), condition);
     Ok(branch(likely, condition, first, empty(alloc)))
 }
 
@@ -325,16 +365,26 @@ fn each(
     below: &ast::Expression,
     most: &Size,
 ) -> Result<Statement, AllocError>
-    requires { IsByte (names_of names.old).taken.numbers × IsByte (named.size_value (names_of names.old).place (written.size_tree most.now)) × HoldsBlock (spec.statements_of (named.with_numbers (name.now ∷ []) (names_of names.old)) (written.block_tree first.now)) }
-    ensures is { IfOk result (λ s. statement_tree s ≡ tree.each (names_of names.old).taken.numbers (values.number_of (names_of names.old) (written.expression_tree below.now)) (named.size_value (names_of names.old).place (written.size_tree most.now)) (spec.statements_of (named.with_numbers (name.now ∷ []) (names_of names.old)) (written.block_tree first.now))) }
-    ensures names { OnOk result (names_of names.new ≡ past (names_of names.old) (named.with_numbers (name.now ∷ []) (names_of names.old)) (written.block_tree first.now)) }
+    requires { IsByte (names_of names.old).taken.numbers
+        × IsByte (named.size_value (names_of names.old).place (written.size_tree most.now))
+        × HoldsBlock (spec.statements_of (named.with_numbers (name.now ∷ []) (names_of names.old))
+        (written.block_tree first.now)) }
+    ensures is { IfOk result (λ s. statement_tree s
+        ≡ tree.each (names_of names.old).taken.numbers
+        (values.number_of (names_of names.old) (written.expression_tree below.now))
+        (named.size_value (names_of names.old).place (written.size_tree most.now))
+        (spec.statements_of (named.with_numbers (name.now ∷ []) (names_of names.old))
+        (written.block_tree first.now))) }
+    ensures names { OnOk result (names_of names.new
+        ≡ past (names_of names.old) (named.with_numbers (name.now ∷ []) (names_of names.old))
+        (written.block_tree first.now)) }
 {
     let below = number(alloc, names, below)?;
     let most = names.place.size(most) as u8;
     let slot = names.numbers.taken() as u8;
     let outer = names.outer();
-    names.bring_numbers(&[*name])?;
-    let first = block(alloc, names, first)?;
+    made!(names.bring_numbers(&[*name]), below);
+    let first = made!(block(alloc, names, first), below);
     names.leave(outer);
     Ok(Statement::Each {
         slot,
