@@ -16,7 +16,7 @@ import time
 TOP = os.path.dirname(os.path.dirname(os.path.abspath(__file__)))
 STACKHUNT = os.environ["STACKHUNT"]
 STACKC = os.environ.get("STACKC", "")
-EVENTS, RUNS = 200, 1000000
+RUNS = 1000000
 
 
 def library():
@@ -39,22 +39,38 @@ def tutorial(name):
 LIBRARY = library()
 HOME = "layer home {\n  down Cast(p, m) { down Cast(p, m); up Cast(p, m); }\n}\n"
 
-# What is changed: the layer, which line of those with this text (from 0), the line as it is, as it becomes; the stack, the law and the members.
+# A layer that puts the next view among the casts, in the one order that `total` gives them: so all that install it have delivered the same before. (Nothing in
+# the library's layers holds a view back until casts have come, so each of their stacks that has both breaks the law `same`.)
+TURN = """layer turn {
+  state int over;
+  header view(ranks) ends;
+  down Leave(x) { down Cast(me, nothing) with view(((bit(n) - 1) ^ bit(me))); }
+  up Cast(o, m) { if (over == 0) { up Cast(o, m); } }
+  up Cast(o, m) with view(ranks) { if (over == 0) { set over = 1; up View(ranks); } }
+}
+"""
+OWN = {"turn": TURN}
+
+# What is changed: the layer, which line of those with this text (from 0), the line as it is, as it becomes; the stack, the law, the members and the
+# events of a run.
 CHANGED = [
-    ("early casts aren't put off", "mnak", 0, "if (seq == next[o]) {", "if (seq >= next[o]) {", "bottom; mnak; local;", "sender", 3),
-    ("an old cast isn't dropped", "mnak", 0, "if (seq == next[o]) {", "if (seq <= next[o]) {", "bottom; mnak; local;", "sender", 3),
-    ("a cast that is sent again isn't dropped where it is old", "mnak", 1, "if (seq == next[o]) {", "if (seq <= next[o]) {", "bottom; mnak; local;", "sender", 3),
+    ("early casts aren't put off", "mnak", 0, "if (seq == next[o]) {", "if (seq >= next[o]) {", "bottom; mnak; local;", "sender", 3, 200),
+    ("an old cast isn't dropped", "mnak", 0, "if (seq == next[o]) {", "if (seq <= next[o]) {", "bottom; mnak; local;", "sender", 3, 200),
+    ("a cast that is sent again isn't dropped where it is old", "mnak", 1, "if (seq == next[o]) {", "if (seq <= next[o]) {", "bottom; mnak; local;", "sender", 3, 200),
     ("an early cast is delivered whether it is due or not", "mnak", 0, "if ((len(early[o]) > 0) and (at(early[o], 0).seq == next[o])) {", "if (len(early[o]) > 0) {",
-     "bottom; mnak; local;", "sender", 3),
-    ("a cast that isn't kept any more isn't counted", "mnak", 0, "set base = (base + 1);", "", "bottom; mnak(keep = 1); local;", "sender", 3),
-    ("the sequence isn't looked at", "total", 0, "if (seq == next) {", "if (seq >= next) {", "bottom; local; total;", "total", 3),
-    ("an old cast isn't dropped", "total", 0, "if (seq == next) {", "if (seq <= next) {", "bottom; local; total;", "total", 3),
-    ("a cast that was asked for takes no number", "total", 1, "set out = (out + 1);", "", "bottom; local; total;", "total", 3),
-    ("pieces are joined in the wrong order", "frag", 0, "((len(parts[o]) - 1) - i)", "i", "bottom; mnak; frag(piece = 1); local;", "sender", 3),
-    ("pieces aren't let go", "frag", 0, "each i below 8 max 8 { take parts[o] (q) { } else { } }", "", "bottom; mnak; frag(piece = 1); local;", "sender", 3),
-    ("old casts aren't dropped", "fifo.layers", 0, "if (seq == e[o]) {", "if (seq <= e[o]) {", None, "sender", 3),
-    ("early casts are delivered", "fifo.layers", 0, "if (s == e[o]) {", "if (s >= e[o]) {", None, "sender", 3),
-    ("the number isn't looked at", "home.layers", 0, "if (seq == e[o]) {", "if (seq >= e[o]) {", None, "sender", 3),
+     "bottom; mnak; local;", "sender", 3, 200),
+    ("a cast that isn't kept any more isn't counted", "mnak", 0, "set base = (base + 1);", "", "bottom; mnak(keep = 1); local;", "sender", 3, 200),
+    ("the sequence isn't looked at", "total", 0, "if (seq == next) {", "if (seq >= next) {", "bottom; local; total;", "total", 3, 200),
+    ("an old cast isn't dropped", "total", 0, "if (seq == next) {", "if (seq <= next) {", "bottom; local; total;", "total", 3, 200),
+    ("a cast that was asked for takes no number", "total", 1, "set out = (out + 1);", "", "bottom; local; total;", "total", 3, 200),
+    ("pieces are joined in the wrong order", "frag", 0, "((len(parts[o]) - 1) - i)", "i", "bottom; mnak; frag(piece = 1); local;", "sender", 3, 200),
+    ("pieces aren't let go", "frag", 0, "each i below 8 max 8 { take parts[o] (q) { } else { } }", "", "bottom; mnak; frag(piece = 1); local;", "sender", 3, 200),
+    ("old casts aren't dropped", "fifo.layers", 0, "if (seq == e[o]) {", "if (seq <= e[o]) {", None, "sender", 3, 200),
+    ("early casts are delivered", "fifo.layers", 0, "if (s == e[o]) {", "if (s >= e[o]) {", None, "sender", 3, 200),
+    ("the number isn't looked at", "home.layers", 0, "if (seq == e[o]) {", "if (seq >= e[o]) {", None, "sender", 3, 200),
+    ("an acknowledgement counts twice", "mnak", 0, "take kept (old) { set base = (base + 1); }", "take kept (old) { set base = (base + 2); }",
+     "bottom; mnak; collect; stable; local;", "sender", 3, 1000),
+    ("the next view is installed before its casts", "total", 0, "if (seq == next) {", "if (seq >= next) {", "bottom; local; total; turn;", "same", 3, 200),
 ]
 
 
@@ -66,16 +82,22 @@ def one_changed(text, place, line, other):
     return line.join(parts[:place + 1]) + other + line.join(parts[place + 1:])
 
 
+def with_stack(texts, layer, stack):
+    """A file with these texts, the layers of our own that the stack names, but for the one layer, and the stack."""
+    own = [text for name, text in OWN.items() if name != layer and f" {name};" in f" {stack}"]
+    return "".join([*texts, *own]) + f"stack {{ {stack} }}\n"
+
+
 def changed_file(layer, place, line, other, stack):
     if stack is None:
         return one_changed(tutorial(layer), place, line, other).replace("stack { fifo; }", HOME + "stack { fifo; home; }")
-    return one_changed(LIBRARY[layer], place, line, other) + f"stack {{ {stack} }}\n"
+    return with_stack([one_changed({**LIBRARY, **OWN}[layer], place, line, other)], layer, stack)
 
 
 def plain_file(layer, stack):
     if stack is None:
         return tutorial(layer).replace("stack { fifo; }", HOME + "stack { fifo; home; }")
-    return f"stack {{ {stack} }}\n"
+    return with_stack([], None, stack)
 
 
 def put(folder, name, text):
@@ -85,7 +107,7 @@ def put(folder, name, text):
     return path
 
 
-def hunted(path, law, members, seed, runs, events=EVENTS, seconds=60):
+def hunted(path, law, members, events, seed, runs, seconds=60):
     words = [STACKHUNT, path, "--law", law, "--members", str(members), "--events", str(events), "--runs", str(runs), "--seed", str(seed), "--seconds", str(seconds)]
     began = time.time()
     ran = subprocess.run(words, stdin=subprocess.DEVNULL, stdout=subprocess.PIPE, stderr=subprocess.PIPE, text=True)
@@ -153,12 +175,12 @@ def main():
     with tempfile.TemporaryDirectory(prefix="hunts-") as folder:
         print("| Layer | What is changed | Law | Seed | Run | Events | Left | Seconds | Script | As it is |")
         print("|---|---|---|---|---|---|---|---|---|---|")
-        for what, layer, place, line, other, stack, law, members in CHANGED:
+        for what, layer, place, line, other, stack, law, members, events in CHANGED:
             if sys.argv[1:] and layer not in sys.argv[1:]:
                 continue
             path = put(folder, "changed.layers", changed_file(layer, place, line, other, stack))
-            status, script, said, seconds = hunted(path, law, members, 1, RUNS)
-            plain = hunted(put(folder, "plain.layers", plain_file(layer, stack)), law, members, 1, 2000)
+            status, script, said, seconds = hunted(path, law, members, events, 1, RUNS)
+            plain = hunted(put(folder, "plain.layers", plain_file(layer, stack)), law, members, events, 1, 2000)
             as_it_is = plain[1].splitlines()[0] if plain[1] else plain[2]
             if status == 8:
                 run = re.search(r"# run (\d+) of (\d+)", script)

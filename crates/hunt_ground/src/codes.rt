@@ -39,5 +39,7 @@ pub(crate) fn code_for(
     ensures { IfOk result (λ codes. AreCodesOf (stack_tree stack.now) (rc_value codes)) }
 {
     let bypasses = synth(alloc, stack, shapes)?;
-    code_of(alloc, &bypasses)
+    let code = code_of(alloc, &bypasses);
+    drop(bypasses);
+    code
 }

@@ -71,8 +71,17 @@ impl Ground {
         ensures { IfOk result (λ made. made ≡ stack_tree stack) }
     {
         let (maker, stack) = Maker::of(alloc, stack)?;
-        let shapes = StackShapes::of(alloc, &stack)?;
-        let code = code_for(alloc, &stack, &shapes)?;
+        let Ok(shapes) = StackShapes::of(alloc, &stack) else {
+            drop(maker);
+            drop(stack);
+            return Err(Memory);
+        };
+        let Ok(code) = code_for(alloc, &stack, &shapes) else {
+            drop(maker);
+            drop(stack);
+            drop(shapes);
+            return Err(Memory);
+        };
         let StackShapes {
             plans,
             starts,
@@ -113,7 +122,10 @@ impl Ground {
         };
         match World::begin(alloc, &mut self.maker, opening, members) {
             Ok(world) => Ok(Group::of(world, outputs, members)),
-            Err(error) => Err(error),
+            Err(error) => {
+                drop(outputs);
+                Err(error)
+            }
         }
     }
 }

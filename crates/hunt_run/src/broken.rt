@@ -8,10 +8,10 @@ use crate::words::Request;
 use file_judge::{FileError, judge};
 use group_mean::Mode;
 use outside::StillSink;
+use play_jobs::{PlayError, play};
 use run_audit::{AuditError, Finding, Law, audit};
 use script_mean::Script;
 use script_text::{ScriptError, read_script};
-use stack_play::{PlayError, play};
 use std::alloc::{AllocError, Global};
 
 /// The most events of a script.

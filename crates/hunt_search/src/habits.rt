@@ -5,8 +5,9 @@ use crate::random::Random;
 /// How often what happens, in a hundred times; and by how many milliseconds the clock goes on at most from tick to tick.
 #[derive(Clone, Copy)]
 pub(crate) struct Habits {
-    /// That a member casts, ticks, or leaves; else a packet is given.
+    /// That a member casts, sends, ticks, or leaves; else a packet is given.
     pub casts: u32,
+    pub sends: u32,
     pub ticks: u32,
     pub leaves: u32,
     /// That a body has more than one byte.
@@ -25,6 +26,7 @@ impl Habits {
     pub(crate) fn draw(random: &mut Random) -> Habits {
         Habits {
             casts: 8 + random.below(30),
+            sends: some(random, 40, 12),
             ticks: some(random, 70, 12),
             leaves: some(random, 25, 3),
             long: some(random, 40, 60),
@@ -40,6 +42,7 @@ impl Habits {
     pub(crate) fn quiet(self) -> Habits {
         Habits {
             casts: 0,
+            sends: 0,
             leaves: 0,
             loses: 0,
             repeats: 0,

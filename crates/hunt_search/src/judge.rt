@@ -33,10 +33,17 @@ pub(crate) fn is_broken(
         stays: Vec::new(alloc),
         contents: Vec::new(alloc),
     };
+    put_all(&mut all, members, notes)?;
+    let mut bodies = Vec::new(alloc);
+    any_differ(law, members, &all, &mut bodies)
+}
+
+/// Puts the stays of all members, one member behind the other.
+fn put_all(all: &mut Stays, members: u8, notes: &[Note]) -> Result<(), SearchError> {
     for member in 0..members {
-        put_stays(&mut all, member, notes)?;
+        put_stays(all, member, notes)?;
     }
-    any_differ(alloc, law, members, &all)
+    Ok(())
 }
 
 /// Puts the stays of a member behind those of others.
@@ -92,14 +99,18 @@ fn put_ended(all: &mut Stays, now: Option<Stay>, next: Option<Name>) -> Result<(
 }
 
 /// Whether two stays of different members, in one view, differ in what a law asks of them.
-fn any_differ(alloc: Global, law: Law, members: u8, all: &Stays) -> Result<bool, SearchError> {
-    let mut bodies = Vec::new(alloc);
+fn any_differ(
+    law: Law,
+    members: u8,
+    all: &Stays,
+    bodies: &mut Vec<u64>,
+) -> Result<bool, SearchError> {
     for second in 0..all.stays.len() {
         for first in 0..second {
             let (one, other) = (all.stays[first], all.stays[second]);
             if one.member != other.member
                 && one.name == other.name
-                && differ(law, members, all, one, other, &mut bodies)?
+                && differ(law, members, all, one, other, bodies)?
             {
                 return Ok(true);
             }

@@ -4,12 +4,10 @@ ghost use Rattle.std.specs.Prelude.{◌≡◌, length};
 
 use crate::error::SearchError;
 use crate::schedule::Source;
-use hunt_ground::Group;
-use msg_core::Dest;
+use msg_core::{Dest, View};
 use std::alloc::Global;
-use step_outputs::OutputView;
 
-/// The most packets that are on their way; those that are sent then are lost.
+/// The most packets that are on their way, and the most that wait for a view; where there are more, the first is lost.
 const MOST_DUES: usize = 128;
 
 /// A packet on its way from a member to another, and the logical time of the view in which it was sent.
@@ -21,12 +19,14 @@ pub(crate) struct Due {
     pub ltime: u32,
 }
 
-/// The packets that are on their way, in the order in which they were sent; the logical time of each member's view; the members on the one side where
-/// the network is parted; and those that neither hear nor are heard.
+/// The packets that are on their way, in the order in which they were sent; those of views in which the members aren't yet to whom they go; the logical
+/// time of each member's view; how many members there are; those on the one side where the network is parted; and those that neither hear nor are heard.
 #[derive(Drop)]
 pub(crate) struct Network {
     dues: Vec<Due>,
+    waiting: Vec<Due>,
     ltimes: Vec<u32>,
+    members: u8,
     pub side: u32,
     pub silent: u32,
 }
@@ -41,7 +41,9 @@ impl Network {
     pub(crate) fn of(alloc: Global, members: u8) -> Result<Network, SearchError> {
         Ok(Network {
             dues: Vec::with_capacity(alloc, MOST_DUES)?,
+            waiting: Vec::new(alloc),
             ltimes: vec![in alloc; 0; usize::from(members)]?,
+            members,
             side: 0,
             silent: 0,
         })
@@ -60,34 +62,52 @@ impl Network {
         self.silent = 0;
     }
 
-    /// Puts the packets of a step on their way, each to all to whom it goes.
-    pub(crate) fn send(&mut self, group: &Group, step: u32, from: u8) -> Result<(), SearchError> {
-        let outputs = group.outputs();
-        let view = outputs.here().view;
+    /// Puts the packets of a step on their way, in the view in which it was made, each to all to whom it goes.
+    pub(crate) fn send(
+        &mut self,
+        view: View,
+        dests: &[Dest],
+        step: u32,
+        from: u8,
+    ) -> Result<(), SearchError> {
         let mut place = 0u32;
-        for k in 0..outputs.len() {
-            if let OutputView::Packet(packet) = outputs.at(k) {
-                let due = Due {
-                    source: Source { step, place },
-                    from,
-                    to: from,
-                    ltime: view.ltime,
-                };
-                self.send_to(due, heard_by(view.mask, packet.dest) & !only(from))?;
-                place = place.saturating_add(1);
+        for dest in dests {
+            let due = Due {
+                source: Source { step, place },
+                from,
+                to: from,
+                ltime: view.ltime,
+            };
+            self.send_one(due, view.mask, *dest)?;
+            place = place.saturating_add(1);
+        }
+        Ok(())
+    }
+
+    /// Puts a packet on its way to each of a view's members to whom it goes, but the one that sent it.
+    fn send_one(&mut self, due: Due, mask: u32, dest: Dest) -> Result<(), SearchError> {
+        let mut rank = 0u8;
+        for to in 0..self.members {
+            if mask & only(to) != 0 {
+                if to != due.from && goes_to(dest, rank) {
+                    self.put(Due { to, ..due })?;
+                }
+                rank = rank.saturating_add(1);
             }
         }
         Ok(())
     }
 
-    /// Puts a packet on its way to each of these members.
-    fn send_to(&mut self, due: Due, members: u32) -> Result<(), SearchError> {
-        for to in 0..32u8 {
-            if members & only(to) != 0 && self.dues.len() < MOST_DUES {
-                self.dues.push(Due { to, ..due })?;
-            }
+    /// Puts a packet on its way, or where those wait whose view is to come. One of a view that the member left is lost.
+    fn put(&mut self, due: Due) -> Result<(), SearchError> {
+        let ltime = self.ltime_of(due.to);
+        if due.ltime == ltime {
+            put_last(&mut self.dues, due)
+        } else if due.ltime > ltime {
+            put_last(&mut self.waiting, due)
+        } else {
+            Ok(())
         }
-        Ok(())
     }
 
     /// The place of the first packet from a place on that can come.
@@ -100,12 +120,10 @@ impl Network {
         None
     }
 
-    /// Whether a packet can come: both members are on one side, neither is silent, and the one is in the view in which the other sent it.
+    /// Whether a packet can come: both members are on one side, and neither is silent.
     fn can_come(&self, due: Due) -> bool {
         let (from, to) = (only(due.from), only(due.to));
-        (self.side & from == 0) == (self.side & to == 0)
-            && self.silent & (from | to) == 0
-            && self.ltime_of(due.to) == due.ltime
+        (self.side & from == 0) == (self.side & to == 0) && self.silent & (from | to) == 0
     }
 
     fn ltime_of(&self, member: u8) -> u32 {
@@ -122,9 +140,7 @@ impl Network {
 
     /// Takes the packet at a place away.
     pub(crate) fn take(&mut self, place: usize) {
-        if place < self.dues.len() {
-            let _ = self.dues.remove(place);
-        }
+        take_at(&mut self.dues, place);
     }
 
     /// Puts the packet at a place behind all others.
@@ -136,38 +152,64 @@ impl Network {
         Ok(())
     }
 
-    /// A member is in the view of this logical time: what was sent to it in those before is lost.
-    pub(crate) fn enter(&mut self, member: u8, ltime: u32) {
+    /// A member is in the view of this logical time: what was sent to it in those before is lost, and what waited for this one is on its way.
+    pub(crate) fn enter(&mut self, member: u8, ltime: u32) -> Result<(), SearchError> {
         if let Some(now) = self.ltimes.get_mut(usize::from(member)) {
             *now = ltime;
         }
-        for place in (0..self.dues.len()).rev() {
-            match self.at(place) {
-                Some(due) if due.to == member && due.ltime < ltime => self.take(place),
-                _ => {}
-            }
+        lose(&mut self.dues, member, ltime);
+        lose(&mut self.waiting, member, ltime);
+        admit(&mut self.dues, &self.waiting, member, ltime)?;
+        lose(&mut self.waiting, member, ltime.saturating_add(1));
+        Ok(())
+    }
+
+    /// A member is in no view any more, and nothing comes to it.
+    pub(crate) fn leave(&mut self, member: u8) -> Result<(), SearchError> {
+        self.enter(member, u32::MAX)
+    }
+}
+
+/// Puts a packet behind others; where there are too many, the first is lost.
+fn put_last(dues: &mut Vec<Due>, due: Due) -> Result<(), SearchError> {
+    if dues.len() >= MOST_DUES {
+        let _ = dues.remove(0);
+    }
+    dues.push(due)?;
+    Ok(())
+}
+
+/// Puts those that waited for the view of this logical time at a member behind others.
+fn admit(dues: &mut Vec<Due>, waiting: &[Due], member: u8, ltime: u32) -> Result<(), SearchError> {
+    for due in waiting {
+        if due.to == member && due.ltime == ltime {
+            put_last(dues, *due)?;
+        }
+    }
+    Ok(())
+}
+
+/// Loses the packets to a member that were sent in views before a logical time.
+fn lose(dues: &mut Vec<Due>, member: u8, ltime: u32) {
+    for place in (0..dues.len()).rev() {
+        match dues.get(place).copied() {
+            Some(due) if due.to == member && due.ltime < ltime => take_at(dues, place),
+            _ => {}
         }
     }
 }
 
-/// Those of a view's members to whom a packet goes.
-fn heard_by(mask: u32, dest: Dest) -> u32 {
+/// Takes the packet at a place away.
+fn take_at(dues: &mut Vec<Due>, place: usize) {
+    if place < dues.len() {
+        let _ = dues.remove(place);
+    }
+}
+
+/// Whether a packet goes to a rank.
+fn goes_to(dest: Dest, rank: u8) -> bool {
     match dest {
-        Dest::All => mask,
-        Dest::Rank(rank) => of_rank(mask, rank),
+        Dest::All => true,
+        Dest::Rank(other) => other == rank,
     }
-}
-
-/// The member of a rank, as a set.
-fn of_rank(mask: u32, rank: u8) -> u32 {
-    let mut before = 0u8;
-    for member in 0..32u8 {
-        if mask & only(member) != 0 {
-            if before == rank {
-                return only(member);
-            }
-            before = before.saturating_add(1);
-        }
-    }
-    0
 }

@@ -3,27 +3,26 @@
 //! Steps are taken out by Zeller and Hildebrandt's delta debugging: halves, quarters, and so on down to single ones.
 
 use crate::error::SearchError;
-use crate::schedule::{Act, Body, Schedule, Step};
+use crate::schedule::{Act, Body, Schedule};
 use crate::search::Search;
 use std::alloc::Global;
 
 /// How often at most all that can be made smaller is gone through.
 const MOST_ROUNDS: u32 = 16;
 
-/// The body of the first cast, and those of the next ones follow.
+/// The body of the first cast or send, and those of the next ones follow.
 const FIRST_BODY: u8 = b'a';
 
-/// A small schedule that breaks the law, where one is given that does.
-pub(crate) fn reduce(search: &mut Search, schedule: Schedule) -> Result<Schedule, SearchError> {
-    let mut least = schedule;
-    cut_off(search, &mut least)?;
-    thin_out(search, &mut least)?;
+/// Makes a schedule small that breaks the law: it still does.
+pub(crate) fn reduce(search: &mut Search, least: &mut Schedule) -> Result<(), SearchError> {
+    cut_off(search, least)?;
+    thin_out(search, least)?;
     for _ in 0..MOST_ROUNDS {
-        if !make_smaller(search, &mut least)? {
+        if !make_smaller(search, least)? {
             break;
         }
     }
-    Ok(least)
+    Ok(())
 }
 
 /// Tries all ways to make a schedule smaller, and answers whether one did.
@@ -49,6 +48,35 @@ fn try_out(
     Ok(true)
 }
 
+/// Puts another act at a place, if the law stays broken.
+fn try_act(
+    search: &mut Search,
+    least: &mut Schedule,
+    place: usize,
+    act: Act,
+) -> Result<bool, SearchError> {
+    let Some(old) = replace_act(least, place, act) else {
+        return Ok(false);
+    };
+    if search.breaks(least)? {
+        return Ok(true);
+    }
+    replace_act(least, place, old);
+    Ok(false)
+}
+
+/// Puts another act at a place, and answers the one that was there.
+fn replace_act(schedule: &mut Schedule, place: usize, act: Act) -> Option<Act> {
+    match schedule.steps.get_mut(place) {
+        Some(step) => {
+            let old = step.act;
+            step.act = act;
+            Some(old)
+        }
+        None => None,
+    }
+}
+
 /// Cuts off what stands behind the breach.
 fn cut_off(search: &mut Search, least: &mut Schedule) -> Result<(), SearchError> {
     let mut low = 0;
@@ -58,15 +86,15 @@ fn cut_off(search: &mut Search, least: &mut Schedule) -> Result<(), SearchError>
             break;
         }
         let middle = low + (high - low) / 2;
-        let front = without(search.alloc(), least, middle, usize::MAX)?;
-        if search.breaks(&front)? {
+        if search.breaks_before(least, middle)? {
             high = middle;
         } else {
             low = middle + 1;
         }
     }
-    let front = without(search.alloc(), least, high, usize::MAX)?;
-    try_out(search, least, front)?;
+    if search.breaks_before(least, high)? {
+        least.steps.truncate(high);
+    }
     Ok(())
 }
 
@@ -106,12 +134,11 @@ fn without(
     start: usize,
     end: usize,
 ) -> Result<Schedule, SearchError> {
-    let mut steps = Vec::with_capacity(alloc, schedule.steps.len())?;
-    for (place, step) in schedule.steps.iter().enumerate() {
-        if place < start || place >= end {
-            steps.push(*step)?;
-        }
-    }
+    let all = schedule.steps.as_slice();
+    let (start, end) = (start.min(all.len()), end.min(all.len()));
+    let mut steps = Vec::with_capacity(alloc, all.len())?;
+    steps.extend_from_slice(&all[..start])?;
+    steps.extend_from_slice(&all[end..])?;
     Ok(Schedule {
         members: schedule.members,
         names: schedule.names,
@@ -135,39 +162,12 @@ fn leave_out_members(search: &mut Search, least: &mut Schedule) -> Result<bool, 
 fn without_member(alloc: Global, schedule: &Schedule, member: u8) -> Result<Schedule, SearchError> {
     let mut steps = Vec::with_capacity(alloc, schedule.steps.len())?;
     for step in schedule.steps.as_slice() {
-        if step.member < member {
-            steps.push(*step)?;
-        } else if step.member > member {
-            steps.push(Step {
-                member: step.member - 1,
-                ..*step
-            })?;
+        if let Some(left) = step.without(member) {
+            steps.push(left)?;
         }
     }
     Ok(Schedule {
         members: schedule.members.saturating_sub(1),
-        names: schedule.names,
-        steps,
-    })
-}
-
-/// A schedule in which something else happens at a place.
-fn with_act(
-    alloc: Global,
-    schedule: &Schedule,
-    place: usize,
-    act: Act,
-) -> Result<Schedule, SearchError> {
-    let mut steps = Vec::with_capacity(alloc, schedule.steps.len())?;
-    for (other, step) in schedule.steps.iter().enumerate() {
-        if other == place {
-            steps.push(Step { act, ..*step })?;
-        } else {
-            steps.push(*step)?;
-        }
-    }
-    Ok(Schedule {
-        members: schedule.members,
         names: schedule.names,
         steps,
     })
@@ -184,13 +184,15 @@ fn shorten_bodies(search: &mut Search, least: &mut Schedule) -> Result<bool, Sea
 
 /// Makes the body as short as it can be that is cast at a place.
 fn shorten(search: &mut Search, least: &mut Schedule, place: usize) -> Result<bool, SearchError> {
-    let Some(Act::Cast(body)) = act_at(least, place) else {
+    let Some(act) = act_at(least, place) else {
+        return Ok(false);
+    };
+    let Some(body) = act.body() else {
         return Ok(false);
     };
     for count in 1..body.count {
-        let shorter = Act::Cast(Body { count, ..body });
-        let other = with_act(search.alloc(), least, place, shorter)?;
-        if try_out(search, least, other)? {
+        let shorter = act.with_body(Body { count, ..body });
+        if try_act(search, least, place, shorter)? {
             return Ok(true);
         }
     }
@@ -199,24 +201,20 @@ fn shorten(search: &mut Search, least: &mut Schedule, place: usize) -> Result<bo
 
 /// Lets bodies begin with the letters from `a` on, if the law stays broken.
 fn name_bodies(search: &mut Search, least: &mut Schedule) -> Result<(), SearchError> {
-    let mut steps = Vec::with_capacity(search.alloc(), least.steps.len())?;
-    let mut first = FIRST_BODY;
-    for step in least.steps.as_slice() {
-        if let Act::Cast(body) = step.act {
-            let act = Act::Cast(Body { first, ..body });
-            steps.push(Step { act, ..*step })?;
-            first = first.wrapping_add(1);
-        } else {
-            steps.push(*step)?;
-        }
-    }
-    let other = Schedule {
-        members: least.members,
-        names: least.names,
-        steps,
-    };
+    let mut other = without(search.alloc(), least, 0, 0)?;
+    put_letters(&mut other);
     try_out(search, least, other)?;
     Ok(())
+}
+
+fn put_letters(schedule: &mut Schedule) {
+    let mut first = FIRST_BODY;
+    for step in schedule.steps.iter_mut() {
+        if let Some(body) = step.act.body() {
+            step.act = step.act.with_body(Body { first, ..body });
+            first = first.wrapping_add(1);
+        }
+    }
 }
 
 /// Makes moments less, and answers whether one could be made so.
@@ -240,8 +238,7 @@ fn lower(search: &mut Search, least: &mut Schedule, place: usize) -> Result<bool
             break;
         }
         let middle = low + (high - low) / 2;
-        let other = with_act(search.alloc(), least, place, Act::Tick(middle))?;
-        if try_out(search, least, other)? {
+        if try_act(search, least, place, Act::Tick(middle))? {
             high = middle;
         } else {
             low = middle + 1;

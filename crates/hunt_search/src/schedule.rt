@@ -19,6 +19,8 @@ pub(crate) struct Source {
 pub(crate) enum Act {
     /// Its application casts this body.
     Cast(Body),
+    /// Its application sends this body to the member of a rank.
+    Send(u8, Body),
     /// It asks to leave.
     Leave,
     /// Its clock shows this moment, in milliseconds.
@@ -33,6 +35,53 @@ pub(crate) struct Step {
     pub name: u32,
     pub member: u8,
     pub act: Act,
+}
+
+impl Act {
+    /// The body that it brings, if it brings one.
+    pub(crate) fn body(self) -> Option<Body> {
+        match self {
+            Act::Cast(body) => Some(body),
+            Act::Send(_, body) => Some(body),
+            _ => None,
+        }
+    }
+
+    /// The same with another body, where it brings one.
+    pub(crate) fn with_body(self, body: Body) -> Act {
+        match self {
+            Act::Cast(_) => Act::Cast(body),
+            Act::Send(rank, _) => Act::Send(rank, body),
+            act => act,
+        }
+    }
+}
+
+impl Step {
+    /// The same in a group without one member, where it isn't that member's, nor goes to it.
+    pub(crate) fn without(self, gone: u8) -> Option<Step> {
+        let member = number_without(self.member, gone)?;
+        let act = match self.act {
+            Act::Send(rank, body) => Act::Send(number_without(rank, gone)?, body),
+            act => act,
+        };
+        Some(Step {
+            member,
+            act,
+            ..self
+        })
+    }
+}
+
+/// The number of a member in a group without another one: those behind that one take its number and the next ones.
+fn number_without(member: u8, gone: u8) -> Option<u8> {
+    if member == gone {
+        None
+    } else if member > gone {
+        Some(member - 1)
+    } else {
+        Some(member)
+    }
 }
 
 /// A run: how many members its group has, below which number the names of its steps are, and the steps.

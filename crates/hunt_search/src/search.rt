@@ -50,12 +50,12 @@ impl Search {
 
     /// Makes the run of a number, and answers the script of it, made small, where it breaks the law.
     pub fn run(&mut self, number: u64) -> Result<Option<Vec<u8>>, SearchError> {
-        let schedule = self.wander(number)?;
+        let mut schedule = self.wander(number)?;
         if !self.is_broken(schedule.members)? {
             return Ok(None);
         }
-        let least = reduce(self, schedule)?;
-        let script = self.script_of(number, &least)?;
+        reduce(self, &mut schedule)?;
+        let script = self.script_of(number, &schedule)?;
         Ok(Some(script))
     }
 
@@ -70,7 +70,16 @@ impl Search {
 
     /// Whether a schedule breaks the law.
     pub(crate) fn breaks(&mut self, schedule: &Schedule) -> Result<bool, SearchError> {
-        self.perform(schedule)?;
+        self.breaks_before(schedule, schedule.steps.len())
+    }
+
+    /// Whether the steps of a schedule in front of a place break the law.
+    pub(crate) fn breaks_before(
+        &mut self,
+        schedule: &Schedule,
+        place: usize,
+    ) -> Result<bool, SearchError> {
+        self.perform(schedule, place)?;
         self.is_broken(schedule.members)
     }
 
@@ -108,15 +117,16 @@ impl Search {
         })
     }
 
-    /// Makes the run of a schedule.
-    fn perform(&mut self, schedule: &Schedule) -> Result<(), SearchError> {
+    /// Makes the run of the steps of a schedule in front of a place.
+    fn perform(&mut self, schedule: &Schedule, place: usize) -> Result<(), SearchError> {
+        let count = place.min(schedule.steps.len());
         self.stage.clear(schedule.names)?;
         let mut group = self.open(schedule.members)?;
         let played = play_all(
             self.alloc,
             &mut self.stage,
             &mut group,
-            schedule.steps.as_slice(),
+            &schedule.steps[..count],
         );
         group.close();
         played
@@ -157,7 +167,7 @@ fn wander_on(
         let step = wander.next(name)?;
         steps.push(step)?;
         if let Some(stepped) = stage.play(alloc, group, step)? {
-            wander.follow(group, step, stepped)?;
+            wander.follow(group, stage.dests(), step, stepped)?;
         }
     }
     Ok(())
@@ -186,7 +196,9 @@ fn write_all(
 ) -> Result<(), SearchError> {
     for step in steps {
         if let Some(event) = stage.event_of(alloc, *step)? {
-            text.put(&event)?;
+            let put = text.put(&event);
+            drop(event);
+            put?;
             stage.play(alloc, group, *step)?;
         }
     }

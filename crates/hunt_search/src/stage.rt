@@ -4,6 +4,7 @@ use crate::error::SearchError;
 use crate::notes::{Content, Deed, Name, Note, number_of};
 use crate::schedule::{Act, Body, Source, Step};
 use hunt_ground::Group;
+use msg_core::Dest;
 use script_mean::{Bytes, ScriptEvent};
 use std::alloc::Global;
 use step_outputs::OutputView;
@@ -16,10 +17,11 @@ pub(crate) struct Sent {
     pub count: u32,
 }
 
-/// The packets of each step by its name, and what was noted.
+/// The packets of each step by its name, to whom those of the last step go, and what was noted.
 #[derive(Drop)]
 pub(crate) struct Stage {
     sent: Vec<Sent>,
+    dests: Vec<Dest>,
     notes: Vec<Note>,
 }
 
@@ -27,6 +29,7 @@ impl Stage {
     pub(crate) fn new(alloc: Global) -> Stage {
         Stage {
             sent: Vec::new(alloc),
+            dests: Vec::new(alloc),
             notes: Vec::new(alloc),
         }
     }
@@ -35,9 +38,8 @@ impl Stage {
     pub(crate) fn clear(&mut self, steps: u32) -> Result<(), SearchError> {
         self.notes.clear();
         self.sent.clear();
-        for _ in 0..steps {
-            self.sent.push(Sent { first: 0, count: 0 })?;
-        }
+        self.sent
+            .resize(steps as usize, Sent { first: 0, count: 0 })?;
         Ok(())
     }
 
@@ -45,12 +47,9 @@ impl Stage {
         self.notes.as_slice()
     }
 
-    /// How many packets a step sent.
-    pub(crate) fn sent_by(&self, step: u32) -> u32 {
-        match self.sent.get(step as usize) {
-            Some(sent) => sent.count,
-            None => 0,
-        }
+    /// To whom the packets of the last step go that was taken.
+    pub(crate) fn dests(&self) -> &[Dest] {
+        self.dests.as_slice()
     }
 
     /// A step as an event of a script, if the packet was sent that it gives.
@@ -62,6 +61,11 @@ impl Stage {
         match step.act {
             Act::Cast(body) => Ok(Some(ScriptEvent::Cast(
                 step.member,
+                Bytes::of(bytes_of(alloc, body)?),
+            ))),
+            Act::Send(rank, body) => Ok(Some(ScriptEvent::Send(
+                step.member,
+                u32::from(rank),
                 Bytes::of(bytes_of(alloc, body)?),
             ))),
             Act::Leave => Ok(Some(ScriptEvent::Leave(step.member))),
@@ -92,7 +96,9 @@ impl Stage {
             return Ok(None);
         };
         let first = group.next_number();
-        match group.feed(&event)? {
+        let fed = group.feed(&event);
+        drop(event);
+        match fed? {
             Some(Did::Stepped(stepped)) => {
                 self.note(group, step, first, stepped)?;
                 Ok(Some(stepped))
@@ -112,7 +118,8 @@ impl Stage {
         let Stepped::Taken { common: _, change } = stepped else {
             return Ok(());
         };
-        let count = self.note_outputs(group, step.member)?;
+        self.note_outputs(group, step.member)?;
+        let count = u32::try_from(self.dests.len()).unwrap_or(u32::MAX);
         if let Some(sent) = self.sent.get_mut(step.name as usize) {
             *sent = Sent { first, count };
         }
@@ -129,21 +136,21 @@ impl Stage {
         }
     }
 
-    /// Notes the deliveries among the outputs, and answers how many packets there are.
-    fn note_outputs(&mut self, group: &Group, member: u8) -> Result<u32, SearchError> {
+    /// Notes the deliveries among the outputs, and to whom the packets go.
+    fn note_outputs(&mut self, group: &Group, member: u8) -> Result<(), SearchError> {
         let outputs = group.outputs();
-        let mut packets = 0u32;
+        self.dests.clear();
         for k in 0..outputs.len() {
             match outputs.at(k) {
                 OutputView::Cast(peer, body) => {
                     let body = number_of(body);
                     self.put(member, Deed::Delivered(Content { peer, body }))?;
                 }
-                OutputView::Packet(_) => packets = packets.saturating_add(1),
+                OutputView::Packet(packet) => self.dests.push(packet.dest)?,
                 _ => {}
             }
         }
-        Ok(packets)
+        Ok(())
     }
 
     fn put(&mut self, member: u8, deed: Deed) -> Result<(), SearchError> {
@@ -155,8 +162,13 @@ impl Stage {
 /// The bytes of a body.
 fn bytes_of(alloc: Global, body: Body) -> Result<Vec<u8>, SearchError> {
     let mut bytes = Vec::with_capacity(alloc, usize::from(body.count))?;
+    put_bytes(body, &mut bytes)?;
+    Ok(bytes)
+}
+
+fn put_bytes(body: Body, bytes: &mut Vec<u8>) -> Result<(), SearchError> {
     for k in 0..body.count {
         bytes.push(body.first.wrapping_add(k))?;
     }
-    Ok(bytes)
+    Ok(())
 }

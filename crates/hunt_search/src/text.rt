@@ -1,6 +1,7 @@
 //! Scripts as they are written.
 
 use crate::error::SearchError;
+use msg_core::Memory;
 use report_lines::{Line, journal_line};
 use script_mean::ScriptEvent;
 use std::alloc::Global;
@@ -21,13 +22,7 @@ impl Text {
         members: u8,
     ) -> Result<Text, SearchError> {
         let mut line = Line::new(alloc);
-        line.text(b"# run ")?;
-        line.number(run)?;
-        line.text(b" of ")?;
-        line.number(u64::from(events))?;
-        line.text(b" events\ngroup 1 stamp 1 members ")?;
-        line.number(u64::from(members))?;
-        line.text(b"\n")?;
+        begin(&mut line, run, events, members)?;
         let mut bytes = Vec::new(alloc);
         bytes.extend_from_slice(line.slice())?;
         Ok(Text { bytes, line })
@@ -47,4 +42,15 @@ impl Text {
         let Text { bytes, line: _ } = self;
         bytes
     }
+}
+
+/// Puts the comment that tells the run, and the line of the group.
+fn begin(line: &mut Line, run: u64, events: u32, members: u8) -> Result<(), Memory> {
+    line.text(b"# run ")?;
+    line.number(run)?;
+    line.text(b" of ")?;
+    line.number(u64::from(events))?;
+    line.text(b" events\ngroup 1 stamp 1 members ")?;
+    line.number(u64::from(members))?;
+    line.text(b"\n")
 }

@@ -6,6 +6,7 @@ use crate::network::{Due, Network, only};
 use crate::random::Random;
 use crate::schedule::{Act, Body, Step};
 use hunt_ground::Group;
+use msg_core::Dest;
 use std::alloc::Global;
 use view_core::{Change, Stepped};
 
@@ -18,7 +19,7 @@ const LOST_IN_ROW: u32 = 8;
 /// By how many milliseconds the clock goes on at most in a run that becomes quiet: so few that nobody is suspected.
 const QUIET_STRIDE: u32 = 60;
 
-/// A run as it goes on: what was drawn last, how the run behaves, what is on its way, the moment of all clocks, how many casts there were, whose clock
+/// A run as it goes on: what was drawn last, how the run behaves, what is on its way, the moment of all clocks, how many bodies there were, whose clock
 /// ticks next where it is quiet, and who is out.
 #[derive(Drop)]
 pub(crate) struct Wander {
@@ -27,7 +28,7 @@ pub(crate) struct Wander {
     network: Network,
     members: u8,
     moment: u32,
-    casts: u8,
+    bodies: u8,
     turn: u8,
     is_quiet: bool,
     gone: u32,
@@ -44,7 +45,7 @@ impl Wander {
             network: Network::of(alloc, members)?,
             members,
             moment: 0,
-            casts: 0,
+            bodies: 0,
             turn: 0,
             is_quiet: false,
             gone: 0,
@@ -76,10 +77,14 @@ impl Wander {
         }
         let often = self.random.below(100);
         let casts = self.habits.casts;
-        let ticks = casts.saturating_add(self.habits.ticks);
+        let sends = casts.saturating_add(self.habits.sends);
+        let ticks = sends.saturating_add(self.habits.ticks);
         let leaves = ticks.saturating_add(self.habits.leaves);
         if often < casts {
             return self.cast_or_give();
+        }
+        if often < sends {
+            return Ok(self.send());
         }
         if often < ticks {
             return Ok(self.tick());
@@ -131,17 +136,28 @@ impl Wander {
     }
 
     fn cast(&mut self) -> (u8, Act) {
-        self.casts = self.casts.wrapping_add(1);
+        let body = self.body();
+        (self.someone(), Act::Cast(body))
+    }
+
+    fn send(&mut self) -> (u8, Act) {
+        let body = self.body();
+        let rank = self.random.member(self.members);
+        (self.someone(), Act::Send(rank, body))
+    }
+
+    /// The body of the next cast or send.
+    fn body(&mut self) -> Body {
+        self.bodies = self.bodies.wrapping_add(1);
         let count = if self.random.percent(self.habits.long) {
             2 + self.random.below(11) as u8
         } else {
             1
         };
-        let body = Body {
-            first: self.casts,
+        Body {
+            first: self.bodies,
             count,
-        };
-        (self.someone(), Act::Cast(body))
+        }
     }
 
     fn tick(&mut self) -> (u8, Act) {
@@ -199,22 +215,26 @@ impl Wander {
         }
     }
 
-    /// What a step came to: what it sent is on its way, and who is in another view now hears that one alone.
+    /// What a step came to: the packets that it sent to these are on their way, and who is in another view now hears that one alone.
     pub(crate) fn follow(
         &mut self,
         group: &Group,
+        dests: &[Dest],
         step: Step,
         stepped: Stepped,
     ) -> Result<(), SearchError> {
         let Stepped::Taken { common: _, change } = stepped else {
             return Ok(());
         };
-        self.network.send(group, step.name, step.member)?;
+        let view = group.outputs().here().view;
+        self.network.send(view, dests, step.name, step.member)?;
         match change {
             Some(Change::Into(view)) => self.network.enter(step.member, view.ltime),
-            Some(Change::Out) => self.gone |= only(step.member),
-            None => {}
+            Some(Change::Out) => {
+                self.gone |= only(step.member);
+                self.network.leave(step.member)
+            }
+            None => Ok(()),
         }
-        Ok(())
     }
 }
